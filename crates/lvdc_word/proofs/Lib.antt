@@ -1,0 +1,2 @@
+pub mod Parity
+mod Rows
