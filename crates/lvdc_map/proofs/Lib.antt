@@ -1,0 +1,2 @@
+pub mod HopLaws
+mod MapRows

@@ -1,0 +1,5 @@
+pub mod Address
+pub mod Banks
+pub mod Hop
+pub mod Memory
+pub mod Place
