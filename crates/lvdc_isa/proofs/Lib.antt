@@ -1,0 +1,2 @@
+pub mod CodecLaws
+mod Rows

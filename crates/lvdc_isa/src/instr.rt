@@ -1,0 +1,8 @@
+use crate::Op;
+
+/// An instruction: an operation and the nine bits of its address, 000 to 777 octal.
+#[derive(Clone, Copy, Debug, PartialEq, Eq)]
+pub struct Instr {
+    pub op: Op,
+    pub address: u16,
+}
