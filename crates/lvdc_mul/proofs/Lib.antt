@@ -1,0 +1,6 @@
+pub mod ControlLaws
+pub mod Phases
+pub mod Words
+pub mod Products
+pub mod Quotients
+mod Rows

@@ -1,0 +1,4 @@
+pub mod Latches
+pub mod Control
+pub mod Unit
+pub mod Landing

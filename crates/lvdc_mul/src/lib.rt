@@ -1,0 +1,13 @@
+//! The arithmetic unit: a radix-4 multiplier of 12 phases and a bitwise divider of 24 phases on four working latches.
+#![tactic(auto)]
+
+mod control;
+mod divide;
+mod multiply;
+mod unit;
+
+pub use control::Kind;
+pub use unit::Unit;
+
+#[cfg(test)]
+mod tests;
