@@ -1,0 +1,5 @@
+pub mod Loading
+pub mod Mending
+pub mod Places
+mod TwinRows
+pub mod Writes

@@ -1,0 +1,15 @@
+//! The memory of two twins: cells with parity, damage, stuck bits and dead modules; a read that finds a bad cell mends it
+//! from the other twin.
+#![tactic(auto)]
+
+mod both_bad;
+mod read_out;
+mod stuck;
+mod twins;
+
+pub use both_bad::BothBad;
+pub use read_out::ReadOut;
+pub use twins::Twins;
+
+#[cfg(test)]
+mod tests;
