@@ -1,0 +1,7 @@
+pub mod Transfers
+pub mod Digits
+pub mod FirstParts
+pub mod Bounds
+pub mod Texts
+pub mod ReadBack
+mod Rows

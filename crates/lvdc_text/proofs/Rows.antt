@@ -1,0 +1,33 @@
+-- Worked values of the definitions.
+use Rattle.std.proofs.Common.{◌≡◌, [], ◌∷◌, Some, None, refl}
+use Rattle.std.specs.Prelude.{codes}
+use Rattle.lvdc_text.specs.Lines.{part_at, lines_from, lines_of, words_from, words_of}
+use Rattle.lvdc_text.specs.Numbers.{number_of, octal_text}
+
+cr_stays_at_the_end : lines_of (65 ∷ 13 ∷ 10 ∷ 66 ∷ 13 ∷ []) ≡ part_at 1 0 1 ∷ part_at 2 3 2 ∷ []
+unfolding lines_from
+cr_stays_at_the_end = refl
+
+nothing_after_the_last : lines_of (10 ∷ 13 ∷ 10 ∷ []) ≡ part_at 1 0 0 ∷ part_at 2 1 0 ∷ []
+unfolding lines_from
+nothing_after_the_last = refl
+
+blanks_part_words : words_of (32 ∷ 65 ∷ 66 ∷ 9 ∷ 32 ∷ 55 ∷ []) ≡ part_at 1 1 2 ∷ part_at 2 5 1 ∷ []
+unfolding words_from
+blanks_part_words = refl
+
+octal_with_zeros : number_of 8 3 (codes "017") ≡ Some 0o17
+octal_with_zeros = refl
+
+no_octal_eight : number_of 8 3 (codes "18") ≡ None
+no_octal_eight = refl
+
+no_digit : number_of 10 3 (codes "") ≡ None
+no_digit = refl
+
+one_digit_too_many : number_of 10 3 (codes "0001") ≡ None
+one_digit_too_many = refl
+
+zeros_in_front : octal_text 3 0o17 ≡ codes "017"
+unfolding octal_text
+zeros_in_front = refl

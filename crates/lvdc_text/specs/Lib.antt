@@ -1,0 +1,5 @@
+pub mod Causes
+pub mod Room
+pub mod Transfer
+pub mod Numbers
+pub mod Lines

@@ -1,0 +1,62 @@
+-- How bytes fall into lines and into words.
+use Rattle.std.specs.Prelude.{ℕ, ◌+◌, ◌≤◌, length, slice_range, Bool, ◌||◌, ◌==◌, not, List, [], ◌∷◌, if◌then◌else◌}
+use Rattle.std.specs.List.{slice_split, filter}
+use Rattle.std.specs.Str.Lines.{strip_carriage_return, lines_of_parts}
+use Rattle.lvdc_text.specs.declared.cutting.Line.{Line}
+
+-- the part with this number, from this place on, of this length
+abbrev pub part_at : ℕ → ℕ → ℕ → Line
+part_at number start count = record { number = number; start = start; end = start + count }
+
+-- LF, which ends a line
+abbrev pub is_line_feed : ℕ → Bool
+is_line_feed b = b == 10
+
+-- The lines in the pieces between line feeds, where the first has this number and begins here. A piece before a line
+-- feed loses a CR at its end; the last piece keeps it, and is a line only where it isn't empty.
+unfoldable pub lines_from : ℕ → ℕ → List (List ℕ) → List Line
+lines_from number start [] = []
+lines_from number start (piece ∷ []) = if length piece == 0 then [] else part_at number start (length piece) ∷ []
+lines_from number start (piece ∷ next ∷ pieces) =
+    part_at number start (length (strip_carriage_return piece)) ∷ lines_from (number + 1) (start + length piece + 1) (next ∷ pieces)
+
+-- the lines of the bytes, from 1
+abbrev pub lines_of : List ℕ → List Line
+lines_of bytes = lines_from 1 0 (slice_split is_line_feed bytes)
+
+-- the texts of the lines, as std's `lines` gives them for a `str`
+abbrev pub texts_of : List ℕ → List (List ℕ)
+texts_of bytes = lines_of_parts (slice_split is_line_feed bytes)
+
+-- space and tab
+abbrev pub is_blank : ℕ → Bool
+is_blank b = b == 32 || b == 9
+
+-- the words in the pieces between blanks, where the first has this number and the pieces begin here: those that aren't empty
+unfoldable pub words_from : ℕ → ℕ → List (List ℕ) → List Line
+words_from number start [] = []
+words_from number start (piece ∷ pieces) =
+    if length piece == 0 then words_from number (start + 1) pieces
+    else part_at number start (length piece) ∷ words_from (number + 1) (start + length piece + 1) pieces
+
+-- the words of the text, from 1
+abbrev pub words_of : List ℕ → List Line
+words_of text = words_from 1 0 (slice_split is_blank text)
+
+-- the piece isn't empty
+abbrev pub has_bytes : List ℕ → Bool
+has_bytes piece = not (length piece == 0)
+
+-- the texts of the words: the pieces between blanks that aren't empty
+abbrev pub word_texts_of : List ℕ → List (List ℕ)
+word_texts_of text = filter has_bytes (slice_split is_blank text)
+
+-- the part lies within the bytes, and its number is no more than their count
+pub record IsWithin (bytes : List ℕ) (line : Line) : Type 0 where
+  pub in_order : line.start ≤ line.end
+  pub in_range : line.end ≤ length bytes
+  pub counted : line.number ≤ length bytes
+
+-- the bytes of the part
+abbrev pub part_of : List ℕ → Line → List ℕ
+part_of bytes line = slice_range bytes line.start line.end

@@ -1,0 +1,114 @@
+ghost use Rattle.std.specs.Prelude.{◌≡◌, ◌<◌, ◌≤◌, ◌-◌, ◌^◌, length, map, IfOk, All};
+ghost use Rattle.std.specs.Str.Lines.{strip_carriage_return};
+ghost use Rattle.lvdc_text.specs.Lines.{lines_of, texts_of, is_blank, words_of, word_texts_of, IsWithin, part_of};
+
+use lvdc_word::NoMemory;
+use std::alloc::Global;
+
+/// A line of a text, or a token of one: where it stands in the bytes, counted from 0, and its number, counted from 1.
+#[derive(Clone, Copy, Debug, PartialEq, Eq)]
+pub struct Line {
+    /// Which line of the text, or which token of the line, it is.
+    pub number: u32,
+    /// The place of its first byte.
+    pub start: usize,
+    /// The place after its last byte.
+    pub end: usize,
+}
+
+/// The length of the text without a CR at its end.
+fn length_without_cr(text: &[u8]) -> usize
+    ensures kept { result ≡ length (strip_carriage_return text.now) }
+    ensures within { result ≤ length text.now }
+{
+    match text.split_last() {
+        Some((last, front)) if *last == b'\r' => front.len(),
+        _ => text.len(),
+    }
+}
+
+/// The lines of the bytes. LF ends a line, and a CR just before it is dropped; at the end of a last line without LF a CR
+/// stays. Where nothing follows the last LF, no line follows it.
+pub fn lines(alloc: Global, bytes: &[u8]) -> Result<Vec<Line>, NoMemory>
+    requires { length bytes.now < 2 ^ 32 - 1 }
+    ensures lines { IfOk result (λ v. v.items ≡ lines_of bytes.now) }
+    ensures texts { IfOk result (λ v. map (part_of bytes.now) v.items ≡ texts_of bytes.now) }
+    ensures within { IfOk result (λ v. All (IsWithin bytes.now) v.items) }
+    ensures few { IfOk result (λ v. length v.items ≤ length bytes.now) }
+{
+    cut_lines(alloc, bytes)
+}
+
+/// The tokens of the text: its runs without blanks, which are space and tab.
+pub fn tokens(alloc: Global, text: &[u8]) -> Result<Vec<Line>, NoMemory>
+    requires { length text.now < 2 ^ 32 - 1 }
+    ensures tokens { IfOk result (λ v. v.items ≡ words_of text.now) }
+    ensures texts { IfOk result (λ v. map (part_of text.now) v.items ≡ word_texts_of text.now) }
+    ensures within { IfOk result (λ v. All (IsWithin text.now) v.items) }
+    ensures few { IfOk result (λ v. length v.items ≤ length text.now) }
+{
+    cut_tokens(alloc, text)
+}
+
+/// The bytes of a line, or of a token.
+pub fn part<'a>(bytes: &'a [u8], line: &Line) -> &'a [u8]
+    requires { IsWithin bytes.now line.now }
+    ensures { result.now ≡ part_of bytes.now line.now }
+{
+    &bytes[line.start..line.end]
+}
+
+/// The lines of the bytes, each pushed at the LF that ends it.
+fn cut_lines(alloc: Global, bytes: &[u8]) -> Result<Vec<Line>, NoMemory>
+    requires { length bytes.now < 2 ^ 32 - 1 }
+    ensures { IfOk result (λ v. v.items ≡ lines_of bytes.now) }
+{
+    let mut lines = Vec::new(alloc);
+    let mut number = 1;
+    let mut start = 0;
+    for (at, byte) in bytes.iter().enumerate() {
+        if *byte == b'\n' {
+            let end = start + length_without_cr(&bytes[start..at]);
+            lines.push(Line { number, start, end })?;
+            number += 1;
+            start = at + 1;
+        }
+    }
+    if start < bytes.len() {
+        let end = bytes.len();
+        lines.push(Line { number, start, end })?;
+    }
+    Ok(lines)
+}
+
+/// Whether the byte is a space or a tab.
+fn is_blank(byte: u8) -> bool
+    ensures { result ≡ is_blank byte }
+{
+    byte == b' ' || byte == b'\t'
+}
+
+/// The tokens of the text, each pushed at the blank that ends it.
+fn cut_tokens(alloc: Global, text: &[u8]) -> Result<Vec<Line>, NoMemory>
+    requires { length text.now < 2 ^ 32 - 1 }
+    ensures { IfOk result (λ v. v.items ≡ words_of text.now) }
+{
+    let mut words = Vec::new(alloc);
+    let mut number = 1;
+    let mut start = 0;
+    for (at, byte) in text.iter().enumerate() {
+        if is_blank(*byte) {
+            if start < at {
+                let end = at;
+                words.push(Line { number, start, end })?;
+                number += 1;
+            }
+            start = at + 1;
+        }
+    }
+    if start < text.len() {
+        let end = text.len();
+        words.push(Line { number, start, end })?;
+    }
+    Ok(words)
+}

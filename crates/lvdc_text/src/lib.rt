@@ -1,0 +1,22 @@
+//! Texts at the edge: where bytes come from and where they go, the lines and tokens of a text, and the reading and
+//! printing of its numbers.
+#![tactic(auto)]
+
+mod cutting;
+mod faulty;
+mod memory;
+mod numbers;
+mod standard;
+mod streams;
+mod transfer;
+
+pub use cutting::{Line, lines, part, tokens};
+pub use faulty::{FaultySink, FaultySource};
+pub use memory::{MemorySink, MemorySource};
+pub use numbers::{decimal, octal, put_decimal, put_octal};
+pub use standard::{StdSink, StdSource};
+pub use streams::{Failed, Sink, Source};
+pub use transfer::{ReadEnd, WriteFault, read_all, write_all};
+
+#[cfg(test)]
+mod tests;

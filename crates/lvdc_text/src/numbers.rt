@@ -1,0 +1,73 @@
+ghost use Rattle.std.specs.Prelude.{◌≡◌, ◌≤◌, ◌<◌, ◌^◌, ◌++◌, ℕ, Some, OnOk, OnErr, decimal};
+ghost use Rattle.lvdc_text.specs.Numbers.{number_of, octal_text};
+
+use itoa::Buffer;
+use lvdc_word::NoMemory;
+
+/// The number that one to `digits` digits of the base stand for. Leading zeros are allowed.
+fn number(text: &[u8], base: u64, digits: u8) -> Option<u64>
+    requires base { base ≤ 10 }
+    requires digits { digits ≤ 18 }
+    ensures { result ≡ number_of base digits text.now }
+{
+    if text.is_empty() || text.len() > usize::from(digits) {
+        return None;
+    }
+    let mut value = 0;
+    for byte in text {
+        if *byte < b'0' || u64::from(*byte) >= u64::from(b'0') + base {
+            return None;
+        }
+        value = base * value + u64::from(*byte - b'0');
+    }
+    Some(value)
+}
+
+/// The number that one to `digits` octal digits stand for. Leading zeros are allowed.
+pub fn octal(text: &[u8], digits: u8) -> Option<u64>
+    requires { digits ≤ 18 }
+    ensures { result ≡ number_of 8 digits text.now }
+{
+    number(text, 8, digits)
+}
+
+/// The number that one to `digits` decimal digits stand for. Leading zeros are allowed.
+pub fn decimal(text: &[u8], digits: u8) -> Option<u64>
+    requires { digits ≤ 18 }
+    ensures { result ≡ number_of 10 digits text.now }
+{
+    number(text, 10, digits)
+}
+
+/// Appends the number in `width` octal digits, with zeros in front.
+pub fn put_octal(out: &mut Vec<u8>, value: u64, width: u8) -> Result<(), NoMemory>
+    requires { value < 8 ^ width }
+    ensures ok { OnOk result (out.new.items ≡ out.old.items ++ octal_text width value) }
+    ensures err { OnErr result (out.new.items ≡ out.old.items) }
+    // What it appends, read again, is the number.
+    ensures back { 0 < width → number_of 8 width (octal_text width value) ≡ Some value }
+{
+    let mut digits = [b'0'; 255];
+    let mut rest = value;
+    let mut at = 255;
+    for _done in 0..width {
+        at -= 1;
+        digits[at] = b'0' + (rest % 8) as u8;
+        rest /= 8;
+    }
+    out.extend_from_slice(&digits[at..])?;
+    Ok(())
+}
+
+/// Appends the number in decimal digits, without zeros in front.
+pub fn put_decimal(out: &mut Vec<u8>, value: u64) -> Result<(), NoMemory>
+    ensures ok { OnOk result (out.new.items ≡ out.old.items ++ decimal value) }
+    ensures err { OnErr result (out.new.items ≡ out.old.items) }
+    // What it appends, read again, is the number.
+    ensures back { (digits : ℕ) → 0 < digits → value < 10 ^ digits →
+        number_of 10 digits (decimal value) ≡ Some value }
+{
+    let mut buffer = Buffer::new();
+    out.extend_from_slice(buffer.format(value).as_bytes())?;
+    Ok(())
+}
