@@ -1,0 +1,28 @@
+use Rattle.std.proofs.Common.{◌≤◌, arith}
+use Rattle.lvdc_port.specs.Device.{Device, AreWords}
+use Rattle.lvdc_port.proofs.OneByOne.{all_more, all_done, all_mapped, kept_set}
+use Rattle.lvdc_port.proofs.requests.prepare_each.Goals as goal
+
+pub returns-in-Err-clause-devices : goal.returns-in-Err-clause-devices
+returns-in-Err-clause-devices g c =
+    kept_set c.loop-device.devices (λ b. (goal.PortDevice-dyn g (b.vtable, b.value)).device_of b.value) _ c.device-item.result _ _ c.prepare.ensures.device c.loop-device.invariant.devices
+
+pub returns-in-Err-clause-faults : goal.returns-in-Err-clause-faults
+returns-in-Err-clause-faults g c =
+    kept_set c.loop-device.devices (λ b. (goal.PortDevice-dyn g (b.vtable, b.value)).faults b.value) _ c.device-item.result _ _ c.prepare.ensures.faults c.loop-device.invariant.faults
+
+pub loop-device-preserved : goal.loop-device-preserved
+loop-device-preserved g c = record {
+  devices = kept_set c.loop-device.devices (λ b. (goal.PortDevice-dyn g (b.vtable, b.value)).device_of b.value) _ c.device-item.result _ _ c.prepare.ensures.device c.loop-device.invariant.devices;
+  faults = kept_set c.loop-device.devices (λ b. (goal.PortDevice-dyn g (b.vtable, b.value)).faults b.value) _ c.device-item.result _ _ c.prepare.ensures.faults c.loop-device.invariant.faults;
+  room = all_more (λ b. c.args.writes ≤ (goal.PortDevice-dyn g (b.vtable, b.value)).spare b.value) c.loop-device.devices _ _ (omega (arith, c.loop-device.auto.devices)) c.in-Ok.ensures.ok c.loop-device.invariant.room;
+  words = all_more (λ b. AreWords ((goal.PortDevice-dyn g (b.vtable, b.value)).device_of b.value).state) c.loop-device.devices _ _ (omega (arith, c.loop-device.auto.devices)) c.prepare.ensures.words c.loop-device.invariant.words;
+}
+
+pub returns-clause-ok : goal.returns-clause-ok
+returns-clause-ok g c =
+    all_done (λ b. c.args.writes ≤ (goal.PortDevice-dyn g (b.vtable, b.value)).spare b.value) c.loop-device.devices _ (omega (arith, c.loop-device.auto.devices)) c.loop-device.invariant.room
+
+pub returns-clause-words : goal.returns-clause-words
+returns-clause-words g c =
+    all_mapped (λ (d : Device). AreWords d.state) (λ b. (goal.PortDevice-dyn g (b.vtable, b.value)).device_of b.value) c.loop-device.devices _ (omega (arith, c.loop-device.auto.devices)) c.loop-device.invariant.words

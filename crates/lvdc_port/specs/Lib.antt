@@ -1,0 +1,5 @@
+pub mod Causes
+pub mod Device
+pub mod Devices
+pub mod Places
+pub mod Supplies

@@ -1,0 +1,86 @@
+ghost use Rattle.std.specs.Prelude.{◌≡◌, ℕ, ◌+◌, ◌≤◌, IfOk, OnOk, OnErr, slice_get};
+ghost use Rattle.lvdc_port.specs.Causes.{HasCause};
+ghost use Rattle.lvdc_port.specs.Device.{Device, read_word, after_read, after_write, after_supply, AreWords};
+
+use lvdc_word::{NoMemory, Word};
+use thiserror::Error;
+
+/// A device did not answer. What it holds and its room are as before the call.
+#[derive(Clone, Copy, Debug, PartialEq, Eq, Error)]
+#[error("the device failed")]
+pub struct Failed;
+
+/// What a device does at a read and at a write (this project's profile, as are all kinds).
+#[derive(Clone, Copy, Debug, PartialEq, Eq)]
+pub enum Kind {
+    /// Words that are read one by one; writes are ignored.
+    Tape,
+    /// One word, which is read and replaced by a write.
+    Latch,
+    /// The time, which is read; writes are ignored.
+    Ticker,
+    /// Every word that was written; a read answers 0.
+    Recorder,
+}
+
+/// A device at a port of the machine. Its port and its kind never change.
+pub trait PortDevice: Drop {
+    // The device as plain data: its port, its kind and the words that it holds.
+    ghost device_of: { Self → Device };
+
+    // For how many writes it has room.
+    ghost spare: { Self → ℕ };
+
+    // How often it has failed.
+    ghost faults: { Self → ℕ };
+
+    /// The port at which the device stands, 000 to 377 octal.
+    fn port(&self) -> u8
+        ensures { result ≡ (device_of self.now).port };
+
+    /// The row of the table of kinds by which it reads and writes.
+    fn kind(&self) -> Kind
+        ensures { result ≡ (device_of self.now).kind };
+
+    /// How often a read or a write has failed; the greatest count stays.
+    fn faults(&self) -> u64
+        ensures { result ≡ faults self.now };
+
+    /// Puts a word behind those that a tape still has. Every other device ignores it.
+    fn supply(&mut self, word: Word) -> Result<(), NoMemory>
+        ensures ok { OnOk result (device_of self.new ≡ after_supply (device_of self.old) word) }
+        ensures err { OnErr result (device_of self.new ≡ device_of self.old) }
+        ensures spare { spare self.new ≡ spare self.old }
+        ensures faults { faults self.new ≡ faults self.old };
+
+    /// Makes room for so many writes.
+    fn prepare(&mut self, writes: u64) -> Result<(), NoMemory>
+        ensures ok { OnOk result (writes ≤ spare self.new) }
+        ensures err { OnErr result (spare self.new ≡ spare self.old) }
+        ensures device { device_of self.new ≡ device_of self.old }
+        ensures faults { faults self.new ≡ faults self.old }
+
+        // What the device holds are words, numbers below 2^26.
+        ensures words { AreWords (device_of self.new).state };
+
+    /// Answers a word. The time is the number of the instruction, from 0, modulo 2^26.
+    fn read(&mut self, time: Word) -> Result<Word, Failed>
+        ensures word { IfOk result (λ word. word ≡ read_word (device_of self.old) time) }
+        ensures ok { OnOk result (device_of self.new ≡ after_read (device_of self.old)) }
+        ensures err { OnErr result (device_of self.new ≡ device_of self.old) }
+        ensures spare { spare self.new ≡ spare self.old }
+        ensures cause { HasCause (faults self.old) (faults self.new) result };
+
+    /// Takes a word. The time is the number of the instruction, from 0, modulo 2^26.
+    fn write(&mut self, time: Word, word: Word) -> Result<(), Failed>
+        requires { 1 ≤ spare self.old }
+        ensures ok { OnOk result (device_of self.new ≡ after_write (device_of self.old) word) }
+        ensures err { OnErr result (device_of self.new ≡ device_of self.old) }
+        ensures spare { spare self.old ≤ spare self.new + 1 }
+        ensures spare_err { OnErr result (spare self.new ≡ spare self.old) }
+        ensures cause { HasCause (faults self.old) (faults self.new) result };
+
+    /// The word at this index, from 0, of those that the device holds.
+    fn held(&self, index: usize) -> Option<Word>
+        ensures { result ≡ slice_get (device_of self.now).state index };
+}
