@@ -1,0 +1,39 @@
+ghost use Rattle.std.specs.Prelude.{◌≡◌};
+ghost use Rattle.lvdc_image.specs.declared.fault.ImageFault.TheVariants.{NoMemory as WantsMemory};
+
+use lvdc_word::NoMemory;
+use std::alloc::AllocFailed;
+use thiserror::Error;
+
+/// Why lines tell no image. Each cause but the want of memory names the line of the first refusal.
+#[derive(Clone, Copy, Debug, PartialEq, Eq, Error)]
+pub enum ImageFault {
+    /// There was no memory for the words.
+    #[error("no memory")]
+    NoMemory,
+    /// The line has not the form that its place asks for, names a bank that isn't there, or `END` is missing there.
+    #[error("line {0} has a wrong form")]
+    BadImageLine(u32),
+    /// The address doesn't come after the one before it.
+    #[error("the address on line {0} is out of order")]
+    AddressOrder(u32),
+    /// The value doesn't fit 26 bits, or it is a start constant with the spare bit.
+    #[error("the value on line {0} is no word")]
+    BadWord(u32),
+}
+
+impl From<NoMemory> for ImageFault {
+    ghost from_gives = { λ _ e. e ≡ WantsMemory };
+
+    fn from(_: NoMemory) -> ImageFault {
+        ImageFault::NoMemory
+    }
+}
+
+impl<T: Drop> From<AllocFailed<T>> for ImageFault {
+    ghost from_gives = { λ _ e. e ≡ WantsMemory };
+
+    fn from(_: AllocFailed<T>) -> ImageFault {
+        ImageFault::NoMemory
+    }
+}

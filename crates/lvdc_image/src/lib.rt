@@ -1,0 +1,18 @@
+//! Image texts, versions 1 and 2: what a memory is filled with before a run, read from lines and printed.
+#![tactic(auto)]
+
+mod entry;
+mod fault;
+mod image;
+mod print;
+mod read;
+mod simplex;
+mod start;
+
+pub use fault::ImageFault;
+pub use image::Image;
+pub use print::print_image;
+pub use read::read_image;
+
+#[cfg(test)]
+mod tests;
