@@ -1,0 +1,65 @@
+-- What an instruction time reads and stores in memory.
+use Rattle.std.specs.Prelude.{ℕ, zero, suc, if◌then◌else◌}
+use Rattle.std.specs.declared.option.Option.{Option}
+use Rattle.std.specs.declared.option.Option.TheVariants.{None, Some}
+use Rattle.lvdc_map.specs.Address.{Spot}
+use Rattle.lvdc_map.specs.Hop.{fetch_of}
+use Rattle.lvdc_map.specs.declared.place.Place.{Place}
+use Rattle.lvdc_map.specs.declared.place.Place.TheVariants.{Memory, Pq, Saver}
+use Rattle.lvdc_isa.specs.Instr.{takes_operand}
+use Rattle.lvdc_isa.specs.declared.instr.Instr.{Instr}
+use Rattle.lvdc_isa.specs.declared.op.Op.{Op}
+use Rattle.lvdc_isa.specs.declared.op.Op.TheVariants.{Sto}
+use Rattle.lvdc_plain.specs.declared.records.Stop.{Stop}
+use Rattle.lvdc_plain.specs.Plain.{PlainState}
+use Rattle.lvdc_plain.specs.Table.{fetched_instr, operand_place}
+
+-- the fetch address, where something is fetched: nothing is while a hold is left or after a stop
+abbrev pub fetched_by : Option Stop → ℕ → PlainState → Option Spot
+fetched_by None zero p = Some (fetch_of p.banks p.place)
+fetched_by None (suc hold) p = None
+fetched_by (Some s) hold p = None
+
+abbrev pub fetched : PlainState → Option Spot
+fetched p = fetched_by p.stop p.hold p
+
+-- the address in memory of a place
+abbrev pub spot_of : Place → Option Spot
+spot_of (Memory at) = Some at
+spot_of Pq = None
+spot_of (Saver at) = Some at
+
+abbrev pub operand_of : PlainState → Instr → Option Spot
+operand_of p i = if takes_operand i.op then spot_of (operand_place p i.address) else None
+
+-- the address of the operand in memory, where the instruction fetched takes one there
+abbrev pub operand_by : Option Stop → ℕ → PlainState → Option Spot
+operand_by None zero p = operand_of p (fetched_instr p)
+operand_by None (suc hold) p = None
+operand_by (Some s) hold p = None
+
+abbrev pub operand : PlainState → Option Spot
+operand p = operand_by p.stop p.hold p
+
+-- a store: its address and its word
+pub record Store : Type 0 where
+  pub at : Spot
+  pub word : ℕ
+
+abbrev pub store_to : PlainState → Place → Option Store
+store_to p (Memory at) = Some (record { at = at; word = p.a })
+store_to p (Saver at) = Some (record { at = at; word = p.saver })
+store_to p Pq = None
+
+abbrev pub store_of : PlainState → Op → ℕ → Option Store
+store_of p Sto address = store_to p (operand_place p address)
+store_of p _ address = None
+
+abbrev pub store_by : Option Stop → ℕ → PlainState → Option Store
+store_by None zero p = store_of p (fetched_instr p).op (fetched_instr p).address
+store_by None (suc hold) p = None
+store_by (Some s) hold p = None
+
+-- the store that a time makes, where it makes one
+abbrev pub store : PlainState → Option Store
+store p = store_by p.stop p.hold p

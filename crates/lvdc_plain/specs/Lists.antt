@@ -1,0 +1,16 @@
+-- What several times do to a list of devices.
+use Rattle.std.specs.Prelude.{◌≡◌, ℕ, true, List}
+use Rattle.lvdc_port.specs.Device.{Device}
+use Rattle.lvdc_port.specs.Devices.{has_port, count_at}
+use Rattle.lvdc_plain.specs.Run.{left_at}
+use Rattle.lvdc_plain.specs.declared.records.Unplug.{Unplug}
+
+-- the list has lost the members that lines of this time take away
+pub record Left {B : Type 0} (device_of : B → Device) (lines : List Unplug) (time : ℕ) (old new : List B) : Type 0 where
+  pub is : new ≡ left_at device_of lines time old
+
+-- since then members were only taken away, and no count has grown of one that is left
+pub record Since {B : Type 0} (device_of : B → Device) (count : B → ℕ) (old new : List B) : Type 0 where
+  pub left : (port : ℕ) → has_port device_of port new ≡ true → has_port device_of port old ≡ true
+  pub counts : (port : ℕ) → has_port device_of port new ≡ true →
+      count_at device_of count port new ≡ count_at device_of count port old

@@ -1,0 +1,53 @@
+-- The plain run: instruction times one after another, from an opening.
+use Rattle.std.specs.Prelude.{ℕ, zero, suc, ◌==◌, if◌then◌else◌, List, [], ◌∷◌}
+use Rattle.std.specs.declared.option.Option.{Option}
+use Rattle.std.specs.declared.option.Option.TheVariants.{None, Some}
+use Rattle.lvdc_map.specs.Hop.{HopConstant}
+use Rattle.lvdc_map.specs.Memory as memory
+use Rattle.lvdc_map.specs.declared.placed.Placed.{Placed}
+use Rattle.lvdc_port.specs.Device.{Device}
+use Rattle.lvdc_port.specs.Devices.{without}
+use Rattle.lvdc_plain.specs.declared.records.Stop.{Stop}
+use Rattle.lvdc_plain.specs.declared.records.Unplug.{Unplug}
+use Rattle.lvdc_plain.specs.Plain.{World, started}
+use Rattle.lvdc_plain.specs.Table.{step}
+
+-- what a run depends on, as plain data: the words of the image, the simplex pairs, the start constant, which devices are
+-- taken away when, and the devices as they are handed in
+pub record Opening : Type 0 where
+  pub image : List Placed
+  pub banks : ℕ
+  pub start : HopConstant
+  pub unplugs : List Unplug
+  pub devices : List Device
+
+-- the devices that are left when a time begins: each line of this time takes its device away
+abbrev pub left_at : {B : Type 0} → (B → Device) → List Unplug → ℕ → List B → List B
+left_at device_of [] time devices = devices
+left_at device_of (line ∷ lines) time devices =
+    left_at device_of lines time (if line.time == time then without device_of line.port devices else devices)
+
+-- the same of plain devices
+abbrev pub plugged : List Unplug → ℕ → List Device → List Device
+plugged unplugs time devices = left_at (λ device. device) unplugs time devices
+
+-- one time of a run: devices are taken away first; a stopped machine stays
+abbrev pub time_by : Option Stop → List Unplug → World → World
+time_by (Some s) unplugs w = w
+time_by None unplugs w = step w.plain (plugged unplugs w.plain.times w.devices)
+
+abbrev pub time : List Unplug → World → World
+time unplugs w = time_by w.plain.stop unplugs w
+
+-- that many times from here, or fewer where it stops
+abbrev pub run_from : List Unplug → ℕ → World → World
+run_from unplugs zero w = w
+run_from unplugs (suc n) w = time unplugs (run_from unplugs n w)
+
+-- the world at the start
+abbrev pub opened : Opening → World
+opened o = record { plain = started o.banks o.start (memory.memory_of o.image); devices = o.devices }
+
+-- the world after so many times of the plain run
+abbrev pub run : Opening → ℕ → World
+run o n = run_from o.unplugs n (opened o)

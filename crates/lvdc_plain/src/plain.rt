@@ -1,0 +1,414 @@
+//! The plain machine.
+
+ghost use Rattle.std.specs.Prelude.{◌≡◌, ◌≢◌, ℕ, ◌+◌, ◌-◌, ◌*◌, ◌%◌, ◌^◌, ◌≤◌, ◌<◌, length, map, true, IsSome, IsNone, slice_index, vec_len, vec_capacity, OnOk, OnErr, IfOk, IfErr, Option, Some, None};
+ghost use Rattle.lvdc_map.specs.Address.{number_of};
+ghost use Rattle.lvdc_map.specs.Banks.{is_there};
+ghost use Rattle.lvdc_map.specs.Memory.{Memory, word_at, are_rising, AllThere};
+ghost use Rattle.lvdc_port.specs.Causes.{Rose};
+ghost use Rattle.lvdc_port.specs.Devices.{has_port, count_at, HasSpare, HoldWords, AreDistinct};
+ghost use Rattle.lvdc_plain.specs.Lists.{Left};
+ghost use Rattle.lvdc_plain.specs.Plain.{PlainState};
+ghost use Rattle.lvdc_plain.specs.Processor.{end_of};
+ghost use Rattle.lvdc_plain.specs.Run.{Opening};
+ghost use Rattle.lvdc_plain.specs.Stands.{IsMemory, Shows, Names, Stands, Caused};
+ghost use Rattle.lvdc_plain.specs.Table.{answered, exchanged, logged, makes, waits};
+ghost use Rattle.lvdc_plain.specs.View.{visible_of, answer_of_end, ByInstruction, IsPlainEnd};
+ghost use Rattle.lvdc_plain.specs.declared.records.PlainEnd.TheVariants.{Device};
+
+use crate::processor::{Processor, is_a9};
+use crate::records::{Exchange, PlainEnd, Stop, Unplug, Visible};
+use crate::words::Words;
+use lvdc_isa::{Instr, Op};
+use lvdc_map::{Address, Banks, Hop, Placed};
+use lvdc_port::{DeviceFault, PortDevice, PortRequest, exchange, prepare_all, unplug};
+use lvdc_word::{NoMemory, Word};
+use std::alloc::Global;
+use std::marker::Model;
+
+/// The machine of one copy, without its devices. Steps are counted as the voted machine counts them: instruction time k
+/// has the steps 3k to 3k + 2, and an exchange or a stop falls into the last of them.
+#[derive(Drop)]
+pub struct Plain {
+    processor: Processor,
+    log: Vec<Exchange>,
+    times: u64,
+    limit: u64,
+    unplugs: Vec<Unplug>,
+    end: Option<PlainEnd>,
+}
+
+impl Model for Plain {
+    ghost use Rattle.std.specs.Prelude.{◌≤◌, vec_len, vec_capacity};
+    ghost use Rattle.lvdc_plain.specs.View.{View, answer_of_end, IsPlainEnd};
+
+    ghost Value = { View };
+
+    ghost view = { λ p. record {
+      banks = p.processor.banks;
+      place = p.processor.place;
+      a = p.processor.a;
+      pq = p.processor.pq;
+      saver = p.processor.saver;
+      pending = p.processor.pending;
+      hold = p.processor.hold;
+      words = p.processor.words;
+      log = p.log.items;
+      times = p.times;
+      limit = p.limit;
+      unplugs = p.unplugs.items;
+      end = p.end;
+    } };
+
+    // The log has an entry for each time at most, and room for one in each time that may be made.
+    ghost invariant = { λ p. (vec_len p.log ≤ p.times) × (p.times ≤ p.limit) × (p.limit ≤ vec_capacity p.log) × (p.limit ≤ 1000000) × IsPlainEnd (answer_of_end p.end) };
+}
+
+/// The time as a device is told it: modulo 2^26.
+fn device_time(times: u64) -> Word
+    ensures { result ≡ times % 2 ^ 26 }
+{
+    Word::within((times % u64::from(Word::LIMIT)) as u32)
+}
+
+/// Removes the devices that lines of this time take away.
+fn unplug_all(unplugs: &[Unplug], time: u64, devices: &mut Vec<Box<dyn PortDevice>>)
+    ensures { Left device_of unplugs.now time devices.old.items devices.new.items }
+{
+    for line in unplugs {
+        if line.time == time {
+            unplug(devices, line.port);
+        }
+    }
+}
+
+/// Makes the exchange that is asked for. Where none is, and after a write, the answer is 0.
+fn answer(
+    devices: &mut Vec<Box<dyn PortDevice>>,
+    times: u64,
+    request: Option<PortRequest>,
+) -> Result<Word, DeviceFault>
+    requires { HasSpare spare 1 devices.old.items }
+    ensures word { IfOk result (λ word. word ≡ answered request (times % 2 ^ 26) (map device_of devices.old.items)) }
+    ensures ok { OnOk result (map device_of devices.new.items ≡ exchanged request (map device_of devices.old.items)) }
+    ensures err { OnErr result (map device_of devices.new.items ≡ map device_of devices.old.items) }
+    ensures spare { (n : ℕ) → HasSpare spare (n + 1) devices.old.items → HasSpare spare n devices.new.items }
+    ensures spare_err { OnErr result (map spare devices.new.items ≡ map spare devices.old.items) }
+    ensures faults { OnOk result (map faults devices.new.items ≡ map faults devices.old.items) }
+    ensures fault { IfErr result (λ fault. Names request fault.port
+        × Rose (count_at device_of faults fault.port devices.old.items)
+        (count_at device_of faults fault.port devices.new.items)) }
+    ensures others { IfErr result (λ fault. (port : ℕ) → port ≢ fault.port
+        → count_at device_of faults port devices.new.items ≡ count_at device_of faults port devices.old.items) }
+{
+    match request {
+        None => Ok(Word::ZERO),
+        Some(request) => match exchange(devices, device_time(times), request) {
+            Ok(word) => Ok(word),
+            Err(fault) => Err(fault),
+        },
+    }
+}
+
+/// Logs the exchange that an instruction made, if it made one. A written word is the accumulator, a read one is taken.
+fn log_exchange(log: &mut Vec<Exchange>, instr: Instr, time: u64, a: Word, m: Word)
+    requires small { instr.address < 512 }
+    requires room { vec_len log.old < vec_capacity log.old }
+    ensures items { (p : PlainState) → p.log ≡ log.old.items → p.times ≡ time → p.a ≡ a
+        → log.new.items ≡ logged instr.op p instr.address m }
+    ensures len { vec_len log.new ≤ vec_len log.old + 1 }
+    ensures capacity { vec_capacity log.old ≤ vec_capacity log.new }
+{
+    if let Op::Pio = instr.op {
+        let reading = is_a9(instr.address);
+        let pushed = log.push(Exchange {
+            time,
+            port: (instr.address & 255) as u8,
+            reading,
+            word: if reading { m } else { a },
+        });
+        prove!(pushed.is_ok());
+    }
+}
+
+/// The end that a stop in this time is.
+fn end_of(time: u64, stop: Option<Stop>) -> Option<PlainEnd>
+    requires small { time ≤ 1000000 }
+    requires cause { ByInstruction stop }
+    ensures end { result ≡ end_of time stop }
+    ensures cause { IsPlainEnd (answer_of_end result) }
+{
+    match stop {
+        None => None,
+        Some(stop) => Some(PlainEnd::Stopped {
+            step: 3 * time + 2,
+            stop,
+        }),
+    }
+}
+
+impl Plain {
+    /// The most instruction times that a machine may be made for.
+    pub const LIMIT: u64 = 1_000_000;
+
+    /// A machine before its first time, with the words of the image, which rise by address. It makes room for the log and
+    /// the devices' words of all `limit` times. After a want of memory no device holds anything else than before.
+    pub fn new(
+        alloc: Global,
+        image: &[Placed],
+        banks: Banks,
+        start: Hop,
+        unplugs: Vec<Unplug>,
+        limit: u64,
+        devices: &mut Vec<Box<dyn PortDevice>>,
+    ) -> Result<Plain, NoMemory>
+        requires limit { limit ≤ Self.LIMIT }
+        requires rising { are_rising image.now ≡ true }
+        requires there { AllThere banks image.now }
+        requires distinct { AreDistinct (map device_of devices.old.items) }
+
+        // It stands at the start of the opening that these arguments are.
+        ensures stands { IfOk result (λ plain. Stands
+            (record { image = image.now; banks = banks; start = start; unplugs = unplugs.items; devices = map device_of devices.old.items })
+            0 plain (map device_of devices.new.items)) }
+        ensures banks { IfOk result (λ plain. plain.banks ≡ banks) }
+        ensures limit { IfOk result (λ plain. plain.limit ≡ limit) }
+        ensures times { IfOk result (λ plain. plain.times ≡ 0) }
+        ensures end { IfOk result (λ plain. plain.end ≡ None) }
+        ensures room { OnOk result (HasSpare spare limit devices.new.items) }
+        ensures words { OnOk result (HoldWords (map device_of devices.new.items)) }
+
+        // In every case.
+        ensures devices { map device_of devices.new.items ≡ map device_of devices.old.items }
+        ensures faults { map faults devices.new.items ≡ map faults devices.old.items }
+    {
+        let log = Vec::with_capacity(alloc, limit as usize)?;
+        let words = Words::of_image(alloc, image)?;
+        prepare_all(devices, limit)?;
+        Ok(Plain {
+            processor: Processor::started(banks, start, words),
+            log,
+            times: 0,
+            limit,
+            unplugs,
+            end: None,
+        })
+    }
+
+    /// Waits for one time of a hold.
+    fn wait(&mut self)
+        requires hold { 0 < self.old.hold }
+        requires left { self.old.times < self.old.limit }
+        ensures shows { (p : PlainState) → Shows self.old p → Shows self.new (waits (self.old.hold - 1) p) }
+        ensures times { self.new.times ≡ self.old.times + 1 }
+        ensures banks { self.new.banks ≡ self.old.banks }
+        ensures limit { self.new.limit ≡ self.old.limit }
+        ensures unplugs { self.new.unplugs ≡ self.old.unplugs }
+        ensures end { self.new.end ≡ self.old.end }
+    {
+        self.processor.wait();
+        self.times += 1;
+    }
+
+    /// Makes an instruction, which takes this word.
+    fn execute(&mut self, instr: Instr, m: Word) -> Option<PlainEnd>
+        requires small { instr.address < 512 }
+        requires left { self.old.times < self.old.limit }
+        ensures shows { (p : PlainState) → Shows self.old p → p.stop ≡ None → Shows self.new (makes instr p m) }
+        ensures end { (p : PlainState) → p.stop ≡ None → self.new.end ≡ end_of self.old.times (makes instr p m).stop }
+        ensures answer { result ≡ self.new.end }
+        ensures plain { IsPlainEnd (answer_of_end result) }
+        ensures times { self.new.times ≡ self.old.times + 1 }
+        ensures banks { self.new.banks ≡ self.old.banks }
+        ensures limit { self.new.limit ≡ self.old.limit }
+        ensures unplugs { self.new.unplugs ≡ self.old.unplugs }
+    {
+        log_exchange(&mut self.log, instr, self.times, self.processor.a, m);
+        let stop = self.processor.execute(instr, m);
+        self.end = end_of(self.times, stop);
+        self.times += 1;
+        self.end
+    }
+
+    /// Keeps the end that a failed device is. The state is that before the time.
+    fn fail(&mut self, port: u8) -> Option<PlainEnd>
+        requires { self.old.times < self.old.limit }
+        ensures new { self.new ≡ record self.old { end = Some (Device (3 * self.old.times + 2) port) } }
+        ensures answer { result ≡ self.new.end }
+        ensures plain { IsPlainEnd (answer_of_end result) }
+    {
+        self.end = Some(PlainEnd::Device {
+            step: 3 * self.times + 2,
+            port,
+        });
+        self.end
+    }
+
+    /// Makes the next time of a machine that runs.
+    fn advance(&mut self, devices: &mut Vec<Box<dyn PortDevice>>) -> Option<PlainEnd>
+        requires running { self.old.end ≡ None }
+        requires left { self.old.times < self.old.limit }
+        requires distinct { AreDistinct (map device_of devices.old.items) }
+        requires room { HasSpare spare (self.old.limit - self.old.times) devices.old.items }
+        ensures stands { (o : Opening) (t : ℕ) → Stands o t self.old (map device_of devices.old.items)
+            → Stands o (t + 1) self.new (map device_of devices.new.items) }
+        ensures answer { result ≡ self.new.end }
+        ensures plain { IsPlainEnd (answer_of_end result) }
+        ensures banks { self.new.banks ≡ self.old.banks }
+        ensures limit { self.new.limit ≡ self.old.limit }
+        ensures unplugs { self.new.unplugs ≡ self.old.unplugs }
+        ensures times { self.new.times ≤ self.old.times + 1 }
+        ensures distinct { AreDistinct (map device_of devices.new.items) }
+        ensures room { HasSpare spare (self.new.limit - self.new.times) devices.new.items }
+        ensures left { (port : ℕ) → has_port device_of port devices.new.items ≡ true
+            → has_port device_of port devices.old.items ≡ true }
+        ensures cause { Caused (answer_of_end self.new.end)
+            (λ port. count_at device_of faults port devices.old.items)
+            (λ port. count_at device_of faults port devices.new.items)
+            (λ port. has_port device_of port devices.new.items) }
+    {
+        unplug_all(&self.unplugs, self.times, devices);
+        if self.processor.hold > 0 {
+            self.wait();
+            return None;
+        }
+        let instr = self.processor.fetched();
+        let request = self.processor.request(instr);
+        match answer(devices, self.times, request) {
+            Ok(answer) => {
+                let m = self.processor.taken(instr, answer);
+                self.execute(instr, m)
+            }
+            Err(fault) => self.fail(fault.port),
+        }
+    }
+
+    /// Makes one instruction time, or answers the end that has come.
+    pub fn step(&mut self, devices: &mut Vec<Box<dyn PortDevice>>) -> PlainEnd
+        requires left { self.old.times < self.old.limit }
+        requires distinct { AreDistinct (map device_of devices.old.items) }
+        requires room { HasSpare spare (self.old.limit - self.old.times) devices.old.items }
+
+        // It goes on by one time of the plain run, for each opening for which it stood, and answers the end that it keeps.
+        ensures stands { (o : Opening) (t : ℕ) → Stands o t self.old (map device_of devices.old.items)
+            → Stands o (t + 1) self.new (map device_of devices.new.items) }
+        ensures answer { result ≡ answer_of_end self.new.end }
+        ensures plain { IsPlainEnd result }
+
+        // An end that has come is kept, and nothing is changed.
+        ensures kept { IsSome self.old.end → (self.new ≡ self.old) × (devices.new.items ≡ devices.old.items) }
+
+        // A failed device has failed in this call, and no other that is left has; every other end comes only where no device
+        // that is left has failed.
+        ensures cause { IsNone self.old.end → Caused result
+            (λ port. count_at device_of faults port devices.old.items)
+            (λ port. count_at device_of faults port devices.new.items)
+            (λ port. has_port device_of port devices.new.items) }
+
+        // What stays, and what the next call asks for.
+        ensures banks { self.new.banks ≡ self.old.banks }
+        ensures limit { self.new.limit ≡ self.old.limit }
+        ensures unplugs { self.new.unplugs ≡ self.old.unplugs }
+        ensures times { self.new.times ≤ self.old.times + 1 }
+        ensures distinct { AreDistinct (map device_of devices.new.items) }
+        ensures room { HasSpare spare (self.new.limit - self.new.times) devices.new.items }
+        ensures left { (port : ℕ) → has_port device_of port devices.new.items ≡ true
+            → has_port device_of port devices.old.items ≡ true }
+    {
+        if let Some(end) = self.end {
+            return end;
+        }
+        match self.advance(devices) {
+            Some(end) => end,
+            None => PlainEnd::Done,
+        }
+    }
+
+    /// Makes so many instruction times, or fewer where an end comes. It takes no memory.
+    pub fn run(&mut self, times: u64, devices: &mut Vec<Box<dyn PortDevice>>) -> PlainEnd
+        requires left { self.old.times + times ≤ self.old.limit }
+        requires distinct { AreDistinct (map device_of devices.old.items) }
+        requires room { HasSpare spare (self.old.limit - self.old.times) devices.old.items }
+
+        // It goes on by so many times of the plain run, for each opening for which it stood, and answers the end that it
+        // keeps.
+        ensures stands { (o : Opening) (t : ℕ) → Stands o t self.old (map device_of devices.old.items)
+            → Stands o (t + times) self.new (map device_of devices.new.items) }
+        ensures answer { result ≡ answer_of_end self.new.end }
+        ensures plain { IsPlainEnd result }
+
+        // An end that has come is kept, and nothing is changed.
+        ensures kept { IsSome self.old.end → (self.new ≡ self.old) × (devices.new.items ≡ devices.old.items) }
+
+        // A failed device has failed in this call, and no other that is left has; every other end comes only where no device
+        // that is left has failed.
+        ensures cause { IsNone self.old.end → Caused result
+            (λ port. count_at device_of faults port devices.old.items)
+            (λ port. count_at device_of faults port devices.new.items)
+            (λ port. has_port device_of port devices.new.items) }
+
+        // What stays, and what the next call asks for.
+        ensures banks { self.new.banks ≡ self.old.banks }
+        ensures limit { self.new.limit ≡ self.old.limit }
+        ensures unplugs { self.new.unplugs ≡ self.old.unplugs }
+        ensures times { self.new.times ≤ self.old.times + times }
+        ensures distinct { AreDistinct (map device_of devices.new.items) }
+        ensures room { HasSpare spare (self.new.limit - self.new.times) devices.new.items }
+        ensures left { (port : ℕ) → has_port device_of port devices.new.items ≡ true
+            → has_port device_of port devices.old.items ≡ true }
+    {
+        if let Some(end) = self.end {
+            return end;
+        }
+        for _made in 0..times {
+            if let Some(end) = self.advance(devices) {
+                return end;
+            }
+        }
+        PlainEnd::Done
+    }
+
+    /// The registers that a report shows, and the times made.
+    pub fn visible(&self) -> Visible
+        ensures { result ≡ visible_of self.now }
+    {
+        Visible {
+            place: self.processor.place,
+            a: self.processor.a,
+            pq: self.processor.pq,
+            saver: self.processor.saver,
+            times: self.times,
+        }
+    }
+
+    /// The word at an address whose bank is there.
+    pub fn word(&self, at: Address) -> Word
+        requires { is_there self.now.banks at ≡ true }
+        ensures value { result ≡ slice_index self.now.words (number_of at) }
+        ensures memory { (m : Memory) → IsMemory self.now.words m → result ≡ word_at m at }
+    {
+        self.processor.words.word(at)
+    }
+
+    /// The port exchanges that were made, the oldest first.
+    pub fn log(&self) -> &[Exchange]
+        ensures log { result.now ≡ self.now.log }
+        ensures few { length result.now ≤ Self.LIMIT }
+    {
+        &self.log
+    }
+
+    /// Which pairs of memory modules are simplex, as it was given.
+    pub fn banks(&self) -> Banks
+        ensures { result ≡ self.now.banks }
+    {
+        self.processor.banks
+    }
+
+    /// The end that has come; none where every call has answered `Done`.
+    pub fn end(&self) -> Option<PlainEnd>
+        ensures end { result ≡ self.now.end }
+        ensures plain { IsPlainEnd (answer_of_end result) }
+    {
+        self.end
+    }
+}
