@@ -1,0 +1,6 @@
+pub mod Tokens
+pub mod Left
+pub mod Ends
+pub mod Steps
+pub mod Banked
+mod Rows

@@ -1,0 +1,16 @@
+use Rattle.std.proofs.Common.{sym, ap, ◌∙◌, arith}
+use Rattle.lvdc_text.specs.Lines.{part_of}
+use Rattle.lvdc_text.specs.declared.cutting.Line.{Line}
+use Rattle.lvdc_deck.specs.Deck.{is_end}
+use Rattle.lvdc_deck.proofs.Tokens.{no_line}
+use Rattle.lvdc_deck.proofs.Ends.{place-here, place-none}
+use Rattle.lvdc_deck.proofs.layout.end_of.Goals as goal
+
+pub returns-then-branch : goal.returns-then-branch
+returns-then-branch c =
+    sym (place-here (λ (line : Line). is_end (part_of c.args.bytes.now line)) c.args.lines.now c.loop-at.at no_line c.loop-at-test.true c.loop-at.invariant.before
+    (ap is_end (sym c.part.ensures) ∙ sym c.in_ok-is_end.ensures ∙ c.if-branch.true))
+
+pub returns : goal.returns
+returns c =
+    sym (place-none (λ (line : Line). is_end (part_of c.args.bytes.now line)) c.args.lines.now c.loop-at.at no_line (omega arith) c.loop-at.invariant.before)

@@ -1,0 +1,265 @@
+-- The sections of a deck after its program, line by line.
+use Rattle.std.specs.Prelude.{◌≡◌, ◌≢◌, ℕ, ◌+◌, ◌^◌, ◌-◌, nat_lt, nat_le, Bool, true, false, not, ◌&&◌, ◌||◌, ◌==◌, List, [], ◌∷◌, ◌++◌, map, length, codes, if◌then◌else◌, Result, Ok, Err}
+use Rattle.std.specs.List.{list_all, list_any}
+use Rattle.std.specs.Str.{bytes_eq}
+use Rattle.std.specs.declared.option.Option.{Option}
+use Rattle.std.specs.declared.option.Option.TheVariants.{None, Some}
+use Rattle.lvdc_map.specs.Hop.{HopConstant, hop_of}
+use Rattle.lvdc_text.specs.Lines.{words_of, part_of, is_blank}
+use Rattle.lvdc_text.specs.Numbers.{number_of}
+use Rattle.lvdc_port.specs.Device.{Device}
+use Rattle.lvdc_port.specs.Supplies.{kind_at}
+use Rattle.lvdc_port.specs.declared.device.Kind.{Kind}
+use Rattle.lvdc_port.specs.declared.device.Kind.TheVariants.{Tape}
+use Rattle.lvdc_port.specs.declared.requests.Supply.{Supply}
+use Rattle.lvdc_plain.specs.declared.records.Unplug.{Unplug}
+use Rattle.lvdc_deck.specs.declared.fault.DeckFault.{DeckFault}
+use Rattle.lvdc_deck.specs.declared.fault.DeckFault.TheVariants.{NoMemory as WantsMemory, BadSection, BadLine, NoDevice, CountTooLarge, NotBuilt}
+use Rattle.lvdc_deck.specs.declared.section.Section.{Section}
+use Rattle.lvdc_deck.specs.declared.section.Section.TheVariants.{Program, Start, Simplex, Ports, Faults, Order, Run, Debug}
+
+-- what the sections have said so far: the section in force, START's constant, SIMPLEX's pairs as a bit each, the words
+-- for tapes and the unplug lines in their order, and RUN's count
+pub record Sections : Type 0 where
+  pub section : Section
+  pub start : Option HopConstant
+  pub simplex : ℕ
+  pub supplies : List Supply
+  pub unplugs : List Unplug
+  pub count : Option ℕ
+
+-- before any section
+abbrev pub nothing_said : Sections
+nothing_said = record { section = Program; start = None; simplex = 0; supplies = []; unplugs = []; count = None }
+
+-- ---- lines outside the program's text
+
+-- a line of above 120 bytes
+abbrev pub is_long : List ℕ → Bool
+is_long text = nat_lt 120 (length text)
+
+-- a blank line or a comment, which begins with `*`
+abbrev pub is_skipped : List ℕ → Bool
+is_skipped [] = true
+is_skipped (b ∷ bs) = b == 42 || list_all is_blank (b ∷ bs)
+
+-- the tokens of a line
+abbrev pub tokens_of : List ℕ → List (List ℕ)
+tokens_of text = map (part_of text) (words_of text)
+
+-- these tokens are one word, and it is this one
+abbrev pub is_word : List ℕ → List (List ℕ) → Bool
+is_word word (token ∷ []) = bytes_eq token word
+is_word word tokens = false
+
+-- ---- section words
+
+-- the sections in their order
+abbrev pub rank : Section → ℕ
+rank Program = 0
+rank Start = 1
+rank Simplex = 2
+rank Ports = 3
+rank Faults = 4
+rank Order = 5
+rank Run = 6
+rank Debug = 7
+
+-- the section that a first word opens
+abbrev pub section_of : List ℕ → Option Section
+section_of word =
+    if bytes_eq word (codes "START") then Some Start
+    else (if bytes_eq word (codes "SIMPLEX") then Some Simplex
+    else (if bytes_eq word (codes "PORTS") then Some Ports
+    else (if bytes_eq word (codes "FAULTS") then Some Faults
+    else (if bytes_eq word (codes "ORDER") then Some Order
+    else (if bytes_eq word (codes "RUN") then Some Run
+    else (if bytes_eq word (codes "DEBUG") then Some Debug else None))))))
+
+-- the sections that aren't built yet: their word alone on a line is refused as such
+abbrev pub is_unbuilt : Section → Bool
+is_unbuilt Faults = true
+is_unbuilt Order = true
+is_unbuilt Debug = true
+is_unbuilt section = false
+
+-- ---- numbers of lines
+
+-- the number, where it is below the limit
+abbrev pub below : ℕ → Option ℕ → Option ℕ
+below limit None = None
+below limit (Some n) = if nat_lt n limit then Some n else None
+
+-- a word: one to nine octal digits below 2 ^ 26
+abbrev pub word_in : List ℕ → Option ℕ
+word_in token = below (2 ^ 26) (number_of 8 9 token)
+
+-- a port: one to three octal digits up to 377
+abbrev pub port_in : List ℕ → Option ℕ
+port_in token = below (2 ^ 8) (number_of 8 3 token)
+
+-- a decimal number without a leading zero
+abbrev pub is_plain : List ℕ → Bool
+is_plain (d ∷ e ∷ ds) = not (d == 48)
+is_plain digits = true
+
+-- an instruction time: a decimal number up to 1,000,000
+abbrev pub time_in : List ℕ → Option ℕ
+time_in token = if is_plain token then below 1000001 (number_of 10 7 token) else None
+
+-- a word before others, where all were found
+abbrev pub words_with : Option ℕ → Option (List ℕ) → Option (List ℕ)
+words_with (Some w) (Some ws) = Some (w ∷ ws)
+words_with (Some w) None = None
+words_with None ws = None
+
+-- the words of the tokens, where each token is one
+abbrev pub words_in : List (List ℕ) → Option (List ℕ)
+words_in [] = Some []
+words_in (token ∷ tokens) = words_with (word_in token) (words_in tokens)
+
+-- ---- the forms of sections
+
+-- START's constant, where it has its form
+abbrev pub with_start : Sections → ℕ → Option ℕ → Result Sections DeckFault
+with_start s number None = Err (BadLine number)
+with_start s number (Some w) = Ok (record s { section = Start; start = Some (hop_of w) })
+
+-- START and a constant
+abbrev pub start_line : Sections → ℕ → List (List ℕ) → Result Sections DeckFault
+start_line s number (token ∷ []) = with_start s number (word_in token)
+start_line s number tokens = Err (BadLine number)
+
+-- a pair before later ones, where all were found
+abbrev pub pairs_with : ℕ → Option ℕ → Option ℕ
+pairs_with pair (Some pairs) = Some (2 ^ pair + pairs)
+pairs_with pair None = None
+
+-- pairs from this one on, one digit each and rising, as a bit each
+abbrev pub pairs_from : ℕ → List (List ℕ) → Option ℕ
+pairs_from least [] = Some 0
+pairs_from least ((digit ∷ []) ∷ tokens) =
+    if nat_le (48 + least) digit && nat_lt digit 52 then pairs_with (digit - 48) (pairs_from (digit - 47) tokens) else None
+pairs_from least (token ∷ tokens) = None
+
+-- SIMPLEX's pairs, where they have their form
+abbrev pub with_simplex : Sections → ℕ → Option ℕ → Result Sections DeckFault
+with_simplex s number None = Err (BadLine number)
+with_simplex s number (Some pairs) = Ok (record s { section = Simplex; simplex = pairs })
+
+-- SIMPLEX and one pair or more
+abbrev pub simplex_line : Sections → ℕ → List (List ℕ) → Result Sections DeckFault
+simplex_line s number [] = Err (BadLine number)
+simplex_line s number (token ∷ tokens) = with_simplex s number (pairs_from 0 (token ∷ tokens))
+
+-- PORTS alone
+abbrev pub ports_line : Sections → ℕ → List (List ℕ) → Result Sections DeckFault
+ports_line s number [] = Ok (record s { section = Ports })
+ports_line s number tokens = Err (BadLine number)
+
+-- RUN's count, where it has its form, up to 1,000,000
+abbrev pub with_count : Sections → ℕ → Option ℕ → Result Sections DeckFault
+with_count s number None = Err (BadLine number)
+with_count s number (Some n) =
+    if nat_lt 1000000 n then Err (CountTooLarge number) else Ok (record s { section = Run; count = Some n })
+
+-- RUN and a count of one to nine digits
+abbrev pub run_line : Sections → ℕ → List (List ℕ) → Result Sections DeckFault
+run_line s number (token ∷ []) = with_count s number (number_of 10 9 token)
+run_line s number tokens = Err (BadLine number)
+
+-- a section word in its place: an unbuilt section's has more on its line here
+abbrev pub opens : Section → Sections → ℕ → List (List ℕ) → Result Sections DeckFault
+opens Start s number tokens = start_line s number tokens
+opens Simplex s number tokens = simplex_line s number tokens
+opens Ports s number tokens = ports_line s number tokens
+opens Run s number tokens = run_line s number tokens
+opens section s number tokens = Err (BadLine number)
+
+-- ---- lines of PORTS
+
+-- an earlier line unplugs this port
+abbrev pub is_unplugged : Sections → ℕ → Bool
+is_unplugged s port = list_any (λ line. line.port == port) s.unplugs
+
+-- the kind of the device at this port, where there is one that no earlier line unplugs
+abbrev pub kind_left : List Device → Sections → ℕ → Option Kind
+kind_left devices s port = if is_unplugged s port then None else kind_at (λ device. device) port devices
+
+-- these words, each for the tape at this port
+abbrev pub supply_of : ℕ → List ℕ → List Supply
+supply_of port words = map (λ w. record { port = port; word = w }) words
+
+-- the words are kept where the device is a tape
+abbrev pub tape_at : Option Kind → Sections → ℕ → ℕ → List ℕ → Result Sections DeckFault
+tape_at (Some Tape) s number port words = Ok (record s { supplies = s.supplies ++ supply_of port words })
+tape_at kind s number port words = Err (NoDevice number)
+
+-- TAPE's port and words, where they have their form, which comes before the device
+abbrev pub with_tape : List Device → Sections → ℕ → Option ℕ → Option (List ℕ) → Result Sections DeckFault
+with_tape devices s number (Some port) (Some words) = tape_at (kind_left devices s port) s number port words
+with_tape devices s number port words = Err (BadLine number)
+
+-- TAPE, a port and one word or more
+abbrev pub tape_line : List Device → Sections → ℕ → List (List ℕ) → Result Sections DeckFault
+tape_line devices s number (port ∷ token ∷ tokens) = with_tape devices s number (port_in port) (words_in (token ∷ tokens))
+tape_line devices s number tokens = Err (BadLine number)
+
+-- the line is kept where there is a device
+abbrev pub unplug_at : Option Kind → Sections → ℕ → ℕ → ℕ → Result Sections DeckFault
+unplug_at (Some kind) s number port time = Ok (record s { unplugs = s.unplugs ++ record { port = port; time = time } ∷ [] })
+unplug_at None s number port time = Err (NoDevice number)
+
+-- UNPLUG's port and time, where they have their form
+abbrev pub with_unplug : List Device → Sections → ℕ → Option ℕ → Option ℕ → Result Sections DeckFault
+with_unplug devices s number (Some port) (Some time) = unplug_at (kind_left devices s port) s number port time
+with_unplug devices s number port time = Err (BadLine number)
+
+-- UNPLUG, a port and a time
+abbrev pub unplug_line : List Device → Sections → ℕ → List (List ℕ) → Result Sections DeckFault
+unplug_line devices s number (port ∷ time ∷ []) = with_unplug devices s number (port_in port) (time_in time)
+unplug_line devices s number tokens = Err (BadLine number)
+
+-- a line of PORTS
+abbrev pub port_line : List Device → Sections → ℕ → List ℕ → List (List ℕ) → Result Sections DeckFault
+port_line devices s number first tokens =
+    if bytes_eq first (codes "TAPE") then tape_line devices s number tokens
+    else (if bytes_eq first (codes "UNPLUG") then unplug_line devices s number tokens else Err (BadLine number))
+
+-- ---- one line
+
+-- a line whose first word is no section's belongs to PORTS, where that is in force
+abbrev pub belongs : List Device → Section → Sections → ℕ → List ℕ → List (List ℕ) → Result Sections DeckFault
+belongs devices Ports s number first tokens = port_line devices s number first tokens
+belongs devices section s number first tokens = Err (BadSection number)
+
+-- a section word stands in its place where it comes after the section in force
+abbrev pub in_order : Section → Sections → ℕ → List (List ℕ) → Result Sections DeckFault
+in_order section s number tokens = if nat_lt (rank s.section) (rank section) then opens section s number tokens else Err (BadSection number)
+
+-- nothing follows the first word
+abbrev pub is_alone : List (List ℕ) → Bool
+is_alone [] = true
+is_alone tokens = false
+
+-- a line by the section that its first word opens
+abbrev pub by_word : List Device → Option Section → Sections → ℕ → List ℕ → List (List ℕ) → Result Sections DeckFault
+by_word devices None s number first tokens = belongs devices s.section s number first tokens
+by_word devices (Some section) s number first tokens =
+    if is_unbuilt section && is_alone tokens then Err (NotBuilt number) else in_order section s number tokens
+
+-- a line by its tokens
+abbrev pub by_tokens : List Device → Sections → ℕ → List (List ℕ) → Result Sections DeckFault
+by_tokens devices s number [] = Ok s
+by_tokens devices s number (first ∷ tokens) = by_word devices (section_of first) s number first tokens
+
+-- what a line with this number makes of the sections before it
+abbrev pub after_line : List Device → Sections → ℕ → List ℕ → Result Sections DeckFault
+after_line devices s number text =
+    if is_long text then Err (BadLine number)
+    else (if is_skipped text then Ok s else by_tokens devices s number (tokens_of text))
+
+-- a call made these sections, or was refused by this fault, unless memory ran out
+abbrev pub Makes : {T : Type 0} → Result T DeckFault → Sections → Result Sections DeckFault → Type 0
+Makes (Ok done) new due = due ≡ Ok new
+Makes (Err fault) new due = fault ≢ WantsMemory → due ≡ Err fault

@@ -1,0 +1,21 @@
+use lvdc_image::Image;
+use lvdc_map::{Banks, Hop};
+use lvdc_plain::Unplug;
+use lvdc_port::Supply;
+use lvdc_word::Seq;
+
+/// What a deck asks for.
+#[derive(Debug, Drop)]
+pub struct Deck {
+    pub image: Image,
+    /// Where the run starts: START's constant, else the image's, else `000000016`.
+    pub start: Hop,
+    /// The simplex pairs of the image and of the SIMPLEX line.
+    pub banks: Banks,
+    /// The words of the TAPE lines, in their order.
+    pub supplies: Seq<Supply>,
+    /// The UNPLUG lines, in their order.
+    pub unplugs: Seq<Unplug>,
+    /// The instruction times asked for, at most 1,000,000.
+    pub count: u64,
+}

@@ -1,0 +1,60 @@
+ghost use Rattle.std.specs.Prelude.{◌≡◌};
+ghost use Rattle.lvdc_deck.specs.declared.fault.DeckFault.TheVariants.{NoMemory as WantsMemory};
+
+use lvdc_image::ImageFault;
+use lvdc_word::NoMemory;
+use std::alloc::{AllocError, AllocFailed};
+use thiserror::Error;
+
+/// Why bytes are no deck: the first refusal, and its line.
+#[derive(Clone, Copy, Debug, PartialEq, Eq, Error)]
+pub enum DeckFault {
+    /// There was no memory for what the deck says.
+    #[error("no memory")]
+    NoMemory,
+    /// A section is missing, out of order or not closed.
+    #[error("line {0} is out of its section")]
+    BadSection(u32),
+    /// The line has not the form that its section asks for, or has above 120 bytes.
+    #[error("line {0} has a wrong form")]
+    BadLine(u32),
+    /// The first line is neither IMAGE nor SOURCE.
+    #[error("line {0} begins no program")]
+    NoProgram(u32),
+    /// No device of the kind that is asked for is at that port, or an earlier line unplugs it.
+    #[error("line {0} names no device")]
+    NoDevice(u32),
+    /// More than 1,000,000 instruction times are asked for.
+    #[error("the count on line {0} is too large")]
+    CountTooLarge(u32),
+    /// The section that the line opens isn't built yet.
+    #[error("the section on line {0} is not built")]
+    NotBuilt(u32),
+    /// The program is no image.
+    #[error(transparent)]
+    Image(ImageFault),
+}
+
+impl From<NoMemory> for DeckFault {
+    ghost from_gives = { λ _ e. e ≡ WantsMemory };
+
+    fn from(_: NoMemory) -> DeckFault {
+        DeckFault::NoMemory
+    }
+}
+
+impl From<AllocError> for DeckFault {
+    ghost from_gives = { λ _ e. e ≡ WantsMemory };
+
+    fn from(_: AllocError) -> DeckFault {
+        DeckFault::NoMemory
+    }
+}
+
+impl<T: Drop> From<AllocFailed<T>> for DeckFault {
+    ghost from_gives = { λ _ e. e ≡ WantsMemory };
+
+    fn from(_: AllocFailed<T>) -> DeckFault {
+        DeckFault::NoMemory
+    }
+}

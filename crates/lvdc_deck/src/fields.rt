@@ -1,0 +1,107 @@
+ghost use Rattle.std.specs.Prelude.{◌≡◌, ℕ, ◌+◌, ◌<◌, ◌≤◌, List, [], ◌∷◌, map, None, option_map, IfSome, IfNone, IfOk, All};
+ghost use Rattle.lvdc_text.specs.Lines.{IsWithin, part_of};
+ghost use Rattle.lvdc_deck.specs.Sections.{word_in, port_in, is_plain, time_in, words_in, supply_of, pairs_from};
+
+use lvdc_map::Banks;
+use lvdc_port::Supply;
+use lvdc_text::{Line, decimal, octal, part};
+use lvdc_word::{NoMemory, Word};
+use std::alloc::Global;
+
+/// The greatest count of instruction times (this project's profile).
+pub(crate) const MOST_TIMES: u64 = 1_000_000;
+
+/// A word: one to nine octal digits below 2^26.
+pub(crate) fn word_in(token: &[u8]) -> Option<Word>
+    ensures { result ≡ word_in token.now }
+{
+    match octal(token, 9) {
+        Some(value) if value < 1 << 26 => Some(Word::within(value as u32)),
+        _ => None,
+    }
+}
+
+/// A port: one to three octal digits up to 377.
+pub(crate) fn port_in(token: &[u8]) -> Option<u8>
+    ensures { result ≡ port_in token.now }
+{
+    match octal(token, 3) {
+        Some(port) if port < 1 << 8 => Some(port as u8),
+        _ => None,
+    }
+}
+
+/// Does the number begin without a needless zero?
+fn is_plain(token: &[u8]) -> bool
+    ensures { result ≡ is_plain token.now }
+{
+    match token {
+        [first, _, ..] => *first != b'0',
+        _ => true,
+    }
+}
+
+/// An instruction time: a decimal number up to 1,000,000.
+pub(crate) fn time_in(token: &[u8]) -> Option<u64>
+    ensures { result ≡ time_in token.now }
+{
+    if !is_plain(token) {
+        return None;
+    }
+    match decimal(token, 7) {
+        Some(time) if time <= MOST_TIMES => Some(time),
+        _ => None,
+    }
+}
+
+/// The words of these tokens for the tape at a port, where each token is a word.
+pub(crate) fn supplies_in(
+    alloc: Global,
+    port: u8,
+    text: &[u8],
+    tokens: &[Line],
+) -> Result<Option<Vec<Supply>>, NoMemory>
+    requires { All (IsWithin text.now) tokens.now }
+    ensures { IfOk result (λ found. option_map (λ supplies. supplies.items) found
+        ≡ option_map (supply_of port) (words_in (map (part_of text.now) tokens.now))) }
+{
+    let mut supplies = Vec::new(alloc);
+    for token in tokens {
+        match word_in(part(text, token)) {
+            Some(word) => supplies.push(Supply { port, word })?,
+            None => return Ok(None),
+        }
+    }
+    Ok(Some(supplies))
+}
+
+/// The pair that the token names, from 0 to 3, where it is `least` or a later one.
+fn pair_in(least: u8, token: &[u8]) -> Option<u8>
+    requires { least ≤ 4 }
+    ensures some { IfSome result (λ pair. (token.now ≡ (48 + pair) ∷ []) × (least ≤ pair) × (pair < 4)) }
+    ensures none { IfNone result ((tokens : List (List ℕ)) → pairs_from least (token.now ∷ tokens) ≡ None) }
+{
+    match token {
+        [digit] if *digit >= b'0' + least && *digit <= b'3' => Some(*digit - b'0'),
+        _ => None,
+    }
+}
+
+/// The pairs that these tokens name, each by a digit of its own, rising.
+pub(crate) fn pairs_in(text: &[u8], tokens: &[Line]) -> Option<Banks>
+    requires { All (IsWithin text.now) tokens.now }
+    ensures { result ≡ pairs_from 0 (map (part_of text.now) tokens.now) }
+{
+    let mut least = 0;
+    let mut pairs = 0;
+    for token in tokens {
+        match pair_in(least, part(text, token)) {
+            Some(pair) => {
+                pairs += 1 << pair;
+                least = pair + 1;
+            }
+            None => return None,
+        }
+    }
+    Banks::new(pairs)
+}

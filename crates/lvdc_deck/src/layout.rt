@@ -1,0 +1,123 @@
+ghost use Rattle.std.specs.Prelude.{◌≡◌, ◌<◌, ◌-◌, ◌^◌, length, map, IfOk, All};
+ghost use Rattle.std.specs.List.{list_all};
+ghost use Rattle.lvdc_text.specs.Lines.{IsWithin, part_of, is_blank};
+ghost use Rattle.lvdc_deck.specs.Sections.{is_long, is_skipped, is_word, section_of, rank, is_unbuilt};
+ghost use Rattle.lvdc_deck.specs.Deck.{opened_by, opening_of, is_end, end_of};
+
+use crate::section::{Opening, Section};
+use lvdc_text::{Line, part, tokens};
+use lvdc_word::NoMemory;
+use std::alloc::Global;
+
+/// The most bytes of a line outside the program's text (this project's profile).
+const LONGEST: usize = 120;
+
+/// Does the line have too many bytes to stand outside the program's text?
+pub(crate) fn is_long(text: &[u8]) -> bool
+    ensures { result ≡ is_long text.now }
+{
+    text.len() > LONGEST
+}
+
+/// Are all bytes spaces and tabs?
+fn is_blank(text: &[u8]) -> bool
+    ensures { result ≡ list_all is_blank text.now }
+{
+    text.iter().all(|byte| *byte == b' ' || *byte == b'\t')
+}
+
+/// Is the line blank, or a comment?
+pub(crate) fn is_skipped(text: &[u8]) -> bool
+    ensures { result ≡ is_skipped text.now }
+{
+    match text {
+        [] => true,
+        [first, ..] => *first == b'*' || is_blank(text),
+    }
+}
+
+/// Are the tokens this word alone?
+fn is_word(word: &[u8], text: &[u8], tokens: &[Line]) -> bool
+    requires { All (IsWithin text.now) tokens.now }
+    ensures { result ≡ is_word word.now (map (part_of text.now) tokens.now) }
+{
+    match tokens {
+        [token] => part(text, token) == word,
+        _ => false,
+    }
+}
+
+/// The section that a first word opens.
+pub(crate) fn section_of(word: &[u8]) -> Option<Section>
+    ensures { result ≡ section_of word.now }
+{
+    if word == b"START".as_slice() {
+        Some(Section::Start)
+    } else if word == b"SIMPLEX".as_slice() {
+        Some(Section::Simplex)
+    } else if word == b"PORTS".as_slice() {
+        Some(Section::Ports)
+    } else if word == b"FAULTS".as_slice() {
+        Some(Section::Faults)
+    } else if word == b"ORDER".as_slice() {
+        Some(Section::Order)
+    } else if word == b"RUN".as_slice() {
+        Some(Section::Run)
+    } else if word == b"DEBUG".as_slice() {
+        Some(Section::Debug)
+    } else {
+        None
+    }
+}
+
+/// What the tokens of a line open that isn't skipped.
+fn opened_by(text: &[u8], tokens: &[Line]) -> Opening
+    requires { All (IsWithin text.now) tokens.now }
+    ensures { result ≡ opened_by (map (part_of text.now) tokens.now) }
+{
+    if is_word(b"IMAGE", text, tokens) {
+        Opening::Image
+    } else if is_word(b"SOURCE", text, tokens) {
+        Opening::Source
+    } else {
+        Opening::Other
+    }
+}
+
+/// What a line opens that may be the deck's first.
+pub(crate) fn opening_of(alloc: Global, text: &[u8]) -> Result<Opening, NoMemory>
+    requires { length text.now < 2 ^ 32 - 1 }
+    ensures { IfOk result (λ opening. opening ≡ opening_of text.now) }
+{
+    if is_long(text) {
+        return Ok(Opening::Long);
+    }
+    if is_skipped(text) {
+        return Ok(Opening::Skipped);
+    }
+    let tokens = tokens(alloc, text)?;
+    Ok(opened_by(text, tokens.as_slice()))
+}
+
+/// Is the line the program's last?
+fn is_end(alloc: Global, text: &[u8]) -> Result<bool, NoMemory>
+    requires { length text.now < 2 ^ 32 - 1 }
+    ensures { IfOk result (λ ends. ends ≡ is_end text.now) }
+{
+    let tokens = tokens(alloc, text)?;
+    Ok(is_word(b"END", text, tokens.as_slice()))
+}
+
+/// The place of the program's last line among these.
+pub(crate) fn end_of(alloc: Global, bytes: &[u8], lines: &[Line]) -> Result<Option<usize>, NoMemory>
+    requires size { length bytes.now < 2 ^ 32 - 1 }
+    requires within { All (IsWithin bytes.now) lines.now }
+    ensures { IfOk result (λ at. at ≡ end_of bytes.now lines.now) }
+{
+    for (at, line) in lines.iter().enumerate() {
+        if is_end(alloc, part(bytes, line))? {
+            return Ok(Some(at));
+        }
+    }
+    Ok(None)
+}

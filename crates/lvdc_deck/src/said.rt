@@ -1,0 +1,343 @@
+ghost use Rattle.std.specs.Prelude.{◌≡◌, ◌≢◌, ◌+◌, ◌-◌, ◌^◌, ◌<◌, ◌≤◌, ◌∷◌, length, map, true, IfOk, IfErr, All, Ok, Err};
+ghost use Rattle.lvdc_map.specs.Memory.{are_rising, AllThere};
+ghost use Rattle.lvdc_text.specs.Lines.{IsWithin, part_of};
+ghost use Rattle.lvdc_deck.specs.Sections.{nothing_said, start_line, simplex_line, ports_line, run_line, opens, in_order, is_unplugged, kind_left, tape_line, unplug_line, port_line, belongs, by_word, by_tokens, after_line, Makes};
+ghost use Rattle.lvdc_deck.specs.Deck.{sections_from, with_program};
+ghost use Rattle.lvdc_deck.specs.declared.fault.DeckFault.TheVariants.{NoMemory as WantsMemory};
+
+use crate::banks::in_either;
+use crate::fields::{MOST_TIMES, pairs_in, port_in, supplies_in, time_in, word_in};
+use crate::layout::{is_long, is_skipped, section_of};
+use crate::section::Section;
+use crate::{Deck, DeckFault};
+use lvdc_image::{ImageFault, read_image};
+use lvdc_map::{Banks, Hop};
+use lvdc_plain::Unplug;
+use lvdc_port::{Kind, PortDevice, Supply, kind_at};
+use lvdc_text::{Line, decimal, part, tokens};
+use lvdc_word::{Seq, Word};
+use std::alloc::Global;
+use std::marker::Model;
+
+/// What the sections have said so far.
+#[derive(Debug, Drop)]
+pub(crate) struct Said {
+    section: Section,
+    start: Option<Hop>,
+    simplex: Banks,
+    supplies: Vec<Supply>,
+    unplugs: Vec<Unplug>,
+    count: Option<u64>,
+}
+
+impl Model for Said {
+    ghost use Rattle.std.specs.Prelude.{◌≤◌, IfSome};
+    ghost use Rattle.lvdc_deck.specs.Sections.{Sections};
+
+    ghost Value = { Sections };
+
+    ghost view = { λ s. record { section = s.section; start = s.start; simplex = s.simplex; supplies = s.supplies.items; unplugs = s.unplugs.items; count = s.count } };
+
+    ghost invariant = { λ s. IfSome s.count (λ count. count ≤ 1000000) };
+}
+
+impl Said {
+    /// Before any section.
+    pub(crate) fn new(alloc: Global) -> Said
+        ensures { result ≡ nothing_said }
+    {
+        Said {
+            section: Section::Program,
+            start: None,
+            simplex: Banks::DUPLEX,
+            supplies: Vec::new(alloc),
+            unplugs: Vec::new(alloc),
+            count: None,
+        }
+    }
+
+    fn start_line(&mut self, number: u32, text: &[u8], tokens: &[Line]) -> Result<(), DeckFault>
+        requires { All (IsWithin text.now) tokens.now }
+        ensures { Makes result self.new (start_line self.old number (map (part_of text.now) tokens.now)) }
+    {
+        let [token] = tokens else {
+            return Err(DeckFault::BadLine(number));
+        };
+        let Some(word) = word_in(part(text, token)) else {
+            return Err(DeckFault::BadLine(number));
+        };
+        self.section = Section::Start;
+        self.start = Some(Hop::of(word));
+        Ok(())
+    }
+
+    fn simplex_line(&mut self, number: u32, text: &[u8], tokens: &[Line]) -> Result<(), DeckFault>
+        requires { All (IsWithin text.now) tokens.now }
+        ensures { Makes result self.new (simplex_line self.old number (map (part_of text.now) tokens.now)) }
+    {
+        if tokens.is_empty() {
+            return Err(DeckFault::BadLine(number));
+        }
+        let Some(pairs) = pairs_in(text, tokens) else {
+            return Err(DeckFault::BadLine(number));
+        };
+        self.section = Section::Simplex;
+        self.simplex = pairs;
+        Ok(())
+    }
+
+    fn ports_line(&mut self, number: u32, text: &[u8], tokens: &[Line]) -> Result<(), DeckFault>
+        ensures { Makes result self.new (ports_line self.old number (map (part_of text.now) tokens.now)) }
+    {
+        if !tokens.is_empty() {
+            return Err(DeckFault::BadLine(number));
+        }
+        self.section = Section::Ports;
+        Ok(())
+    }
+
+    fn run_line(&mut self, number: u32, text: &[u8], tokens: &[Line]) -> Result<(), DeckFault>
+        requires { All (IsWithin text.now) tokens.now }
+        ensures { Makes result self.new (run_line self.old number (map (part_of text.now) tokens.now)) }
+    {
+        let [token] = tokens else {
+            return Err(DeckFault::BadLine(number));
+        };
+        let Some(count) = decimal(part(text, token), 9) else {
+            return Err(DeckFault::BadLine(number));
+        };
+        if count > MOST_TIMES {
+            return Err(DeckFault::CountTooLarge(number));
+        }
+        self.section = Section::Run;
+        self.count = Some(count);
+        Ok(())
+    }
+
+    /// Takes a line with the word of a section, in its order.
+    fn open(
+        &mut self,
+        section: Section,
+        number: u32,
+        text: &[u8],
+        tokens: &[Line],
+    ) -> Result<(), DeckFault>
+        requires { All (IsWithin text.now) tokens.now }
+        ensures { Makes result self.new (in_order section self.old number (map (part_of text.now) tokens.now)) }
+    {
+        if section.rank() <= self.section.rank() {
+            return Err(DeckFault::BadSection(number));
+        }
+        match section {
+            Section::Start => self.start_line(number, text, tokens),
+            Section::Simplex => self.simplex_line(number, text, tokens),
+            Section::Ports => self.ports_line(number, text, tokens),
+            Section::Run => self.run_line(number, text, tokens),
+            _ => Err(DeckFault::BadLine(number)),
+        }
+    }
+
+    /// Has an earlier line unplugged this port?
+    fn is_unplugged(&self, port: u8) -> bool
+        ensures { result ≡ is_unplugged self.now port }
+    {
+        self.unplugs.iter().any(|line| line.port == port)
+    }
+
+    /// The kind of the device that is left at this port.
+    fn kind_left(&self, devices: &Vec<Box<dyn PortDevice>>, port: u8) -> Option<Kind>
+        ensures { result ≡ kind_left (map device_of devices.now.items) self.now port }
+    {
+        if self.is_unplugged(port) {
+            None
+        } else {
+            kind_at(devices, port)
+        }
+    }
+
+    fn tape_line(
+        &mut self,
+        alloc: Global,
+        devices: &Vec<Box<dyn PortDevice>>,
+        number: u32,
+        text: &[u8],
+        tokens: &[Line],
+    ) -> Result<(), DeckFault>
+        requires { All (IsWithin text.now) tokens.now }
+        ensures { Makes result self.new (tape_line (map device_of devices.now.items) self.old number (map (part_of text.now) tokens.now)) }
+    {
+        let [first, words @ ..] = tokens else {
+            return Err(DeckFault::BadLine(number));
+        };
+        if words.is_empty() {
+            return Err(DeckFault::BadLine(number));
+        }
+        let Some(port) = port_in(part(text, first)) else {
+            return Err(DeckFault::BadLine(number));
+        };
+        let Some(supplies) = supplies_in(alloc, port, text, words)? else {
+            return Err(DeckFault::BadLine(number));
+        };
+        if self.kind_left(devices, port) != Some(Kind::Tape) {
+            return Err(DeckFault::NoDevice(number));
+        }
+        self.supplies.extend_from_slice(supplies.as_slice())?;
+        Ok(())
+    }
+
+    fn unplug_line(
+        &mut self,
+        devices: &Vec<Box<dyn PortDevice>>,
+        number: u32,
+        text: &[u8],
+        tokens: &[Line],
+    ) -> Result<(), DeckFault>
+        requires { All (IsWithin text.now) tokens.now }
+        ensures { Makes result self.new (unplug_line (map device_of devices.now.items) self.old number (map (part_of text.now) tokens.now)) }
+    {
+        let [first, second] = tokens else {
+            return Err(DeckFault::BadLine(number));
+        };
+        let Some(port) = port_in(part(text, first)) else {
+            return Err(DeckFault::BadLine(number));
+        };
+        let Some(time) = time_in(part(text, second)) else {
+            return Err(DeckFault::BadLine(number));
+        };
+        if self.kind_left(devices, port).is_none() {
+            return Err(DeckFault::NoDevice(number));
+        }
+        self.unplugs.push(Unplug { port, time })?;
+        Ok(())
+    }
+
+    /// Takes a line of PORTS, with this first word.
+    fn port_line(
+        &mut self,
+        alloc: Global,
+        devices: &Vec<Box<dyn PortDevice>>,
+        number: u32,
+        first: &[u8],
+        text: &[u8],
+        tokens: &[Line],
+    ) -> Result<(), DeckFault>
+        requires { All (IsWithin text.now) tokens.now }
+        ensures { Makes result self.new (port_line (map device_of devices.now.items) self.old number first.now (map (part_of text.now) tokens.now)) }
+    {
+        if first == b"TAPE".as_slice() {
+            self.tape_line(alloc, devices, number, text, tokens)
+        } else if first == b"UNPLUG".as_slice() {
+            self.unplug_line(devices, number, text, tokens)
+        } else {
+            Err(DeckFault::BadLine(number))
+        }
+    }
+
+    fn take_tokens(
+        &mut self,
+        alloc: Global,
+        devices: &Vec<Box<dyn PortDevice>>,
+        number: u32,
+        text: &[u8],
+        tokens: &[Line],
+    ) -> Result<(), DeckFault>
+        requires { All (IsWithin text.now) tokens.now }
+        ensures { Makes result self.new (by_tokens (map device_of devices.now.items) self.old number (map (part_of text.now) tokens.now)) }
+    {
+        let [first, rest @ ..] = tokens else {
+            return Ok(());
+        };
+        let word = part(text, first);
+        match section_of(word) {
+            Some(section) if section.is_unbuilt() && rest.is_empty() => Err(DeckFault::NotBuilt(
+                number,
+            )),
+            Some(section) => self.open(section, number, text, rest),
+            None if self.section == Section::Ports => self.port_line(
+                alloc, devices, number, word, text, rest,
+            ),
+            None => Err(DeckFault::BadSection(number)),
+        }
+    }
+
+    /// Takes a line after the program.
+    fn take_line(
+        &mut self,
+        alloc: Global,
+        devices: &Vec<Box<dyn PortDevice>>,
+        number: u32,
+        text: &[u8],
+    ) -> Result<(), DeckFault>
+        requires { length text.now < 2 ^ 32 - 1 }
+        ensures { Makes result self.new (after_line (map device_of devices.now.items) self.old number text.now) }
+    {
+        if is_long(text) {
+            return Err(DeckFault::BadLine(number));
+        }
+        if is_skipped(text) {
+            return Ok(());
+        }
+        let tokens = tokens(alloc, text)?;
+        self.take_tokens(alloc, devices, number, text, tokens.as_slice())
+    }
+
+    /// Takes the lines after the program, in order.
+    pub(crate) fn take_lines(
+        &mut self,
+        alloc: Global,
+        devices: &Vec<Box<dyn PortDevice>>,
+        bytes: &[u8],
+        lines: &[Line],
+    ) -> Result<(), DeckFault>
+        requires size { length bytes.now < 2 ^ 32 - 1 }
+        requires within { All (IsWithin bytes.now) lines.now }
+        ensures { Makes result self.new (sections_from (map device_of devices.now.items) bytes.now self.old lines.now) }
+    {
+        for line in lines {
+            match self.take_line(alloc, devices, line.number, part(bytes, line)) {
+                Ok(()) => {}
+                Err(fault) => return Err(fault),
+            }
+        }
+        Ok(())
+    }
+
+    /// The deck of these sections and of the program in these lines of the bytes. A missing RUN is named at `next`.
+    pub(crate) fn with_program(
+        self,
+        alloc: Global,
+        bytes: &[u8],
+        text: &[Line],
+        next: u32,
+    ) -> Result<Deck, DeckFault>
+        requires size { length bytes.now < 2 ^ 32 - 1 }
+        requires within { All (IsWithin bytes.now) text.now }
+        ensures deck { IfOk result (λ deck. with_program bytes.now text.now next self self.count ≡ Ok deck) }
+        ensures refusal { IfErr result (λ fault. fault ≢ WantsMemory → with_program bytes.now text.now next self self.count ≡ Err fault) }
+        ensures count { IfOk result (λ deck. deck.count ≤ 1000000) }
+        ensures rising { IfOk result (λ deck. are_rising deck.image.words ≡ true) }
+        ensures there { IfOk result (λ deck. AllThere deck.banks deck.image.words) }
+    {
+        let Some(count) = self.count else {
+            return Err(DeckFault::BadSection(next));
+        };
+        let image = match read_image(alloc, bytes, text) {
+            Ok(image) => image,
+            Err(ImageFault::NoMemory) => return Err(DeckFault::NoMemory),
+            Err(fault) => return Err(DeckFault::Image(fault)),
+        };
+        let start = match self.start {
+            Some(start) => start,
+            None => image.start().unwrap_or(Hop::of(Word::within(0o16))),
+        };
+        let banks = in_either(image.banks(), self.simplex);
+        Ok(Deck {
+            image,
+            start,
+            banks,
+            supplies: Seq::from_vec(self.supplies),
+            unplugs: Seq::from_vec(self.unplugs),
+            count,
+        })
+    }
+}

@@ -1,0 +1,86 @@
+use crate::{Deck, DeckFault, read_deck};
+use lvdc_image::ImageFault;
+use lvdc_map::{Banks, Hop};
+use lvdc_plain::Unplug;
+use lvdc_port::{Latch, PortDevice, Supply, Tape};
+use lvdc_word::Word;
+use std::alloc::Global;
+use std::test::Fail;
+
+/// The deck of the text over a tape at port 000 and a latch at port 014.
+fn deck(alloc: Global, text: &[u8]) -> Result<Result<Deck, DeckFault>, Fail> {
+    if text.len() > 1000 {
+        return Err("a short text".into());
+    }
+    let mut devices: Vec<Box<dyn PortDevice>> = Vec::new(alloc);
+    devices.push(Box::new(alloc, Tape::new(alloc, 0))?)?;
+    devices.push(Box::new(alloc, Latch::new(0o14))?)?;
+    Ok(read_deck(alloc, text, &devices))
+}
+
+#[test]
+fn refusals_name_their_lines(rt: HostRuntime) -> Result<(), Fail> {
+    for (text, fault) in [
+        (b"".as_slice(), DeckFault::NoProgram(1)),
+        (b"IMAGE\r\nLVDC 1\r\n", DeckFault::BadSection(1)),
+        (
+            b"IMAGE\nLVDC 1\nEND\nRUN 1000001\n",
+            DeckFault::CountTooLarge(4),
+        ),
+        (
+            b"IMAGE\r\nLVDC 1\r\nEND\r\nRUN 1x\r\n",
+            DeckFault::BadLine(4),
+        ),
+        (b"IMAGE\nLVDC 1\nEND\nRUN 1\xff\n", DeckFault::BadLine(4)),
+        (
+            b"IMAGE\nLVDC 1\nEND\nPORTS\nTAPE 016 1\n",
+            DeckFault::NoDevice(5),
+        ),
+        (b"IMAGE\nLVDC 1\nEND\nORDER\n", DeckFault::NotBuilt(4)),
+        (
+            b"IMAGE\nLVDC 3\nEND\nRUN 3",
+            DeckFault::Image(ImageFault::BadImageLine(2)),
+        ),
+    ] {
+        assert_eq!(rt; deck(rt.alloc(), text)?.err(), Some(fault));
+    }
+    Ok(())
+}
+
+#[test]
+fn sections_are_kept_in_a_deck(rt: HostRuntime) -> Result<(), Fail> {
+    let text =
+        b"IMAGE\r\nLVDC 1\r\n0 00 000 000017000\r\nEND\r\nSTART 216\r\nSIMPLEX 0 3\r\nPORTS\r\nTAPE 0 5\r\nUNPLUG 014 3\r\nRUN 0004\r\n";
+    let deck = deck(rt.alloc(), text)??;
+    let supply = Supply {
+        port: 0,
+        word: Word::within(5),
+    };
+    assert_eq!(rt; deck.image.words().len(), 1);
+    assert_eq!(rt; deck.start, Hop::of(Word::within(0o216)));
+    assert_eq!(rt; Some(deck.banks), Banks::new(9));
+    assert_eq!(rt; deck.supplies.items(), [supply].as_slice());
+    assert_eq!(rt;
+        deck.unplugs.items(),
+        [Unplug {
+            port: 0o14,
+            time: 3
+        }]
+        .as_slice()
+    );
+    assert_eq!(rt; deck.count, 4);
+    Ok(())
+}
+
+#[test]
+fn without_start_the_image_says_where_to_start(rt: HostRuntime) -> Result<(), Fail> {
+    let one = deck(rt.alloc(), b"IMAGE\nLVDC 1\nEND\nRUN 0\n")??;
+    assert_eq!(rt; one.start, Hop::of(Word::within(0o16)));
+    let two = deck(
+        rt.alloc(),
+        b"IMAGE\nLVDC 2\nSTART 000000216\nSIMPLEX 1\nEND\nSIMPLEX 0\nRUN 0\n",
+    )??;
+    assert_eq!(rt; two.start, Hop::of(Word::within(0o216)));
+    assert_eq!(rt; Some(two.banks), Banks::new(3));
+    Ok(())
+}
