@@ -1,0 +1,70 @@
+ghost use Rattle.std.specs.Prelude.{◌≡◌, ◌+◌, ◌≤◌, ◌++◌, length, OnOk};
+ghost use Rattle.lvdc_report.specs.Report.{spot_text, stop_text, end_text};
+
+use lvdc_map::Address;
+use lvdc_plain::{PlainEnd, Stop};
+use lvdc_text::{put_decimal, put_octal};
+use lvdc_word::NoMemory;
+
+/// Adds an address: bank, sector and location, as `p ss lll`.
+pub(crate) fn put_address(out: &mut Vec<u8>, at: Address) -> Result<(), NoMemory>
+    ensures { OnOk result (out.new.items ≡ out.old.items ++ spot_text at) }
+{
+    put_octal(out, u64::from(at.pair), 1)?;
+    out.extend_from_slice(b" ")?;
+    put_octal(out, u64::from(at.sector), 2)?;
+    out.extend_from_slice(b" ")?;
+    put_octal(out, u64::from(at.loc), 3)?;
+    Ok(())
+}
+
+fn put_stop(out: &mut Vec<u8>, stop: Stop) -> Result<(), NoMemory>
+    ensures { OnOk result (out.new.items ≡ out.old.items ++ stop_text stop) }
+{
+    match stop {
+        Stop::Shift => out.extend_from_slice(b"SHIFT")?,
+        Stop::Exm => out.extend_from_slice(b"EXM")?,
+        Stop::Memory(at) => {
+            out.extend_from_slice(b"MEMORY ")?;
+            put_address(out, at)?;
+        }
+    }
+    Ok(())
+}
+
+fn put_stopped(out: &mut Vec<u8>, step: u64, stop: Stop) -> Result<(), NoMemory>
+    ensures text { OnOk result (out.new.items ≡ out.old.items ++ end_text (PlainEnd.Stopped step stop)) }
+    ensures short { OnOk result (length out.new.items ≤ length out.old.items + 50) }
+{
+    out.extend_from_slice(b"END STOPPED ")?;
+    put_decimal(out, step)?;
+    out.extend_from_slice(b" ")?;
+    put_stop(out, stop)?;
+    out.extend_from_slice(b"\n")?;
+    Ok(())
+}
+
+fn put_device(out: &mut Vec<u8>, step: u64, port: u8) -> Result<(), NoMemory>
+    ensures text { OnOk result (out.new.items ≡ out.old.items ++ end_text (PlainEnd.Device step port)) }
+    ensures short { OnOk result (length out.new.items ≤ length out.old.items + 50) }
+{
+    out.extend_from_slice(b"END DEVICE ")?;
+    put_decimal(out, step)?;
+    out.extend_from_slice(b" ")?;
+    put_octal(out, u64::from(port), 3)?;
+    out.extend_from_slice(b"\n")?;
+    Ok(())
+}
+
+/// Adds the END line. Steps are decimal, ports octal. After a want of memory `out` may have grown by a part of the line.
+pub fn put_end(out: &mut Vec<u8>, end: PlainEnd) -> Result<(), NoMemory>
+    ensures text { OnOk result (out.new.items ≡ out.old.items ++ end_text end) }
+    ensures short { OnOk result (length out.new.items ≤ length out.old.items + 50) }
+{
+    match end {
+        PlainEnd::Done => out.extend_from_slice(b"END DONE\n")?,
+        PlainEnd::Stopped { step, stop } => put_stopped(out, step, stop)?,
+        PlainEnd::Device { step, port } => put_device(out, step, port)?,
+    }
+    Ok(())
+}
