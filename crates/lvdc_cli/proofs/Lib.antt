@@ -1,0 +1,4 @@
+pub mod Due
+pub mod Ends
+pub mod Runs
+pub mod Refusals
