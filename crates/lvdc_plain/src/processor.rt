@@ -47,25 +47,6 @@ fn is_negative(word: Word) -> bool
     (word.value() >> 25) & 1 == 1
 }
 
-/// Does the operation take an operand word?
-fn takes_operand(op: Op) -> bool
-    ensures { result ≡ takes_operand op }
-{
-    matches!(
-        op,
-        Op::Hop
-            | Op::Mpy
-            | Op::Sub
-            | Op::Div
-            | Op::Mph
-            | Op::And
-            | Op::Add
-            | Op::Xor
-            | Op::Rsu
-            | Op::Cla
-    )
-}
-
 /// The accumulator shifted by a pattern; pattern 000 leaves nothing.
 fn shifted(a: Word, pattern: u16) -> Word
     ensures { result ≡ shifted a pattern }
@@ -142,7 +123,7 @@ impl Processor {
         ensures { (p : PlainState) → Holds self.now p → result ≡
             (if takes_operand instr.op then word_of_place p (operand_place p instr.address) else answer) }
     {
-        if takes_operand(instr.op) {
+        if instr.op.takes_operand() {
             self.operand(instr.address)
         } else {
             answer
