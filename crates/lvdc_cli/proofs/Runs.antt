@@ -1,5 +1,5 @@
 -- The reply to a run, from where the machine and its devices stand after it.
-use Rattle.std.proofs.Common.{◌≡◌, ℕ, ◌+◌, ◌-◌, ◌*◌, ◌<◌, ◌==◌, true, if◌then◌else◌, take, length, List, [], ◌∷◌, map, Result, Ok, Err, OnErr, None, Some, refl, sym, ap, subst, ◌∙◌, arith, zero-add}
+use Rattle.std.proofs.Common.{◌≡◌, ℕ, ◌+◌, ◌-◌, ◌*◌, ◌==◌, if◌then◌else◌, take, length, List, [], ◌∷◌, map, Result, Ok, Err, OnErr, None, Some, refl, sym, ap, subst, ◌∙◌, arith, zero-add}
 use Rattle.std.proofs.lemmas.List.{take_all}
 use Rattle.std.specs.declared.option.Option.{Option}
 use Rattle.lvdc_text.specs.Causes.{Rose}
@@ -12,14 +12,14 @@ use Rattle.lvdc_plain.specs.declared.records.Unplug.{Unplug}
 use Rattle.lvdc_deck.specs.declared.deck.Deck.{Deck}
 use Rattle.lvdc_plain.specs.Plain.{PlainState, World}
 use Rattle.lvdc_plain.specs.Run.{Opening, plugged, run}
-use Rattle.lvdc_plain.specs.Stands.{Shows, IsRunning, HasStopped, HasFailed, EndsAs, Stands, Caused}
+use Rattle.lvdc_plain.specs.Stands.{Shows, HasFailed, EndsAs, Stands, Caused}
 use Rattle.lvdc_plain.specs.View.{View, answer_of_end}
 use Rattle.lvdc_plain.specs.declared.records.PlainEnd.{PlainEnd}
 use Rattle.lvdc_plain.specs.declared.records.PlainEnd.TheVariants.{Done, Stopped, Device}
 use Rattle.lvdc_plain.specs.declared.records.Stop.{Stop}
 use Rattle.lvdc_report.specs.Report.{report_text}
 use Rattle.lvdc_cli.specs.declared.command.Command.{Command}
-use Rattle.lvdc_cli.specs.Answer.{Answer, answer_with, answer_of_run, end_by, end_status, title_of, opening_of, run_answer, failed_answer, Exchanges}
+use Rattle.lvdc_cli.specs.Answer.{Answer, answer_with, answer_of_run, end_by, end_status, title_of, opening_of, run_answer, failed_answer}
 use Rattle.lvdc_cli.specs.Top.{Quiet, RoseAt, OthersQuiet, IsRun, made, failed, IsUnreported, supplying, reporting}
 
 -- devices with the same ports and the same counts, one by one, have the same count at each port

@@ -4,7 +4,7 @@ use Rattle.std.specs.declared.option.Option.{Option}
 use Rattle.std.specs.declared.option.Option.TheVariants.{None, Some}
 use Rattle.lvdc_port.specs.Device as device
 use Rattle.lvdc_port.specs.Supplies.{supplied}
-use Rattle.lvdc_plain.specs.Plain.{PlainState, World}
+use Rattle.lvdc_plain.specs.Plain.{World}
 use Rattle.lvdc_plain.specs.Run.{Opening, plugged, run}
 use Rattle.lvdc_plain.specs.Stands.{Names, request_at}
 use Rattle.lvdc_plain.specs.declared.records.PlainEnd.{PlainEnd}

@@ -3,7 +3,7 @@ ghost use Rattle.std.specs.Prelude.{map};
 ghost use Rattle.lvdc_port.specs.Devices.{AreDistinct};
 
 use crate::{ROOM, answer_in_memory, lvdc};
-use lvdc_port::{Failing, PortDevice, Recorder, Tape};
+use lvdc_port::{Failing, PortDevice, Recorder, Tape, Ticker};
 use lvdc_text::{FaultySink, FaultySource, MemorySink, MemorySource, read_all};
 use lvdc_word::Word;
 use std::alloc::Global;
@@ -380,6 +380,16 @@ fn decks_are_refused_or_read_with_lf_and_with_cr_lf(rt: HostRuntime) -> Result<(
             "REFUSED AddressOrder 5\n",
         ),
         (
+            b"IMAGE\nLVDC 3\nEND\nRUN 3\n",
+            4,
+            "REFUSED BadImageLine 2\n",
+        ),
+        (
+            b"IMAGE\nLVDC 1\n0 20 000 000017000\nEND\nRUN 3\n",
+            4,
+            "REFUSED BadImageLine 3\n",
+        ),
+        (
             b"IMAGE\nLVDC 1\n0 00 000 400000000\nEND\nRUN 3\n",
             4,
             "REFUSED BadWord 3\n",
@@ -507,5 +517,77 @@ fn failed_reads_and_writes_are_told(rt: HostRuntime) -> Result<(), Fail> {
     let (status, text) = answer_alone(alloc, "run", blanks)?;
     assert_eq!(rt; status, 11);
     assert_eq!(rt; text.as_str(), "REFUSED TooLong\n");
+    Ok(())
+}
+
+#[test]
+fn a_program_halves_a_tape_into_a_recorder(rt: HostRuntime) -> Result<(), Fail> {
+    let alloc = rt.alloc();
+    let mut devices: Vec<Box<dyn PortDevice>> = Vec::new(alloc);
+    devices.push(Box::new(alloc, Tape::new(alloc, 0))?)?;
+    devices.push(Box::new(alloc, Recorder::new(alloc, 0o17))?)?;
+    let deck =
+        b"IMAGE\nLVDC 1\n0 00 000 000012400\n0 00 001 000013000\n0 00 002 000004004\n0 00 003 000010003\n0 00 004 000000002\n0 00 005 000017001\n0 00 006 000012017\n0 00 007 000010000\n0 00 010 000013776\n0 00 011 000017000\n0 00 012 000001400\n0 00 013 000017001\n0 00 014 000017001\n0 00 015 000017001\n0 00 016 000017001\n0 00 017 000007775\n0 00 020 000013001\n0 00 021 000000776\n0 01 001 000000000\n0 01 002 000020016\n0 17 000 100000000\nEND\nPORTS\nTAPE 000 000000010 000000020\nRUN 40\n";
+    let deck = Vec::from_slice(alloc, deck)?;
+    let (status, text) = answer(alloc, "run", deck, &mut devices)?;
+    assert_eq!(rt; status, 0);
+    let front =
+        "LVDC RUN\nEND DONE\nTIMES 40\nPLACE 0 00 0 003\nDATA 0 01\nDUP 1 1\nA 000000000\nPQ 000000010\nSAVER 000010016\nIN 0 000 000000010\nOUT 15 017 000000004\nIN 17 000 000000020\nOUT 32 017 000000014\nIN 34 000 000000000\nMEM 0 00 000 ";
+    assert!(rt; text.as_str().starts_with(front), "{text}");
+    assert!(rt; text.as_str().find("MEM 0 01 001 000000014\n").is_some());
+    assert!(rt; text.as_str().find("MEM 0 17 376 000012016\n").is_some());
+    let recorder = devices.last().ok_or("no recorder")?;
+    assert_eq!(rt; recorder.held(0), Some(Word::within(0o4)));
+    assert_eq!(rt; recorder.held(1), Some(Word::within(0o14)));
+    assert_eq!(rt; recorder.held(2), None);
+    Ok(())
+}
+
+/// A deck whose sum wraps at the sign: 137 bytes.
+const WRAPPING: &[u8] =
+    b"IMAGE\nLVDC 1\n0 00 000 000017000\n0 00 001 000007001\n0 00 002 000013002\n0 00 003 000010003\n0 01 000 177777777\n0 01 001 000000001\nEND\nRUN 3\n";
+
+#[test]
+fn each_front_of_a_deck_is_answered(rt: HostRuntime) -> Result<(), Fail> {
+    for kept in 0..138 {
+        let (status, lines) = match kept {
+            0..=4 => (2, "REFUSED NoProgram 1\n"),
+            5..=129 => (2, "REFUSED BadSection 1\n"),
+            130..=133 => (2, "REFUSED BadSection 10\n"),
+            134..=135 => (2, "REFUSED BadLine 10\n"),
+            _ => (0, "A 200000000\n"),
+        };
+        let mut front = Vec::new(rt.alloc());
+        for byte in WRAPPING.iter().take(kept) {
+            front.push(*byte)?;
+        }
+        comes_to(&rt, rt.alloc(), "run", front, status, lines)?;
+    }
+    Ok(())
+}
+
+#[test]
+fn lines_where_run_is_due_are_refused(rt: HostRuntime) -> Result<(), Fail> {
+    let alloc = rt.alloc();
+    for (lines, refusal) in [
+        ("RUN 3 4\n", "REFUSED BadLine 4\n"),
+        ("GO\nRUN 3\n", "REFUSED BadSection 4\n"),
+        ("RUN 3\nSTART 16\n", "REFUSED BadSection 5\n"),
+        ("PORTS\nTAPE 000\nRUN 3\n", "REFUSED BadLine 5\n"),
+        ("PORTS\nTAPE 016 1\nRUN 3\n", "REFUSED NoDevice 5\n"),
+        (
+            "PORTS\nUNPLUG 000 5\nTAPE 000 1\nRUN 3\n",
+            "REFUSED NoDevice 6\n",
+        ),
+        ("FAULTS\nRUN 3\n", "REFUSED NotBuilt 4\n"),
+    ] {
+        let mut devices: Vec<Box<dyn PortDevice>> = Vec::new(alloc);
+        devices.push(Box::new(alloc, Tape::new(alloc, 0))?)?;
+        devices.push(Box::new(alloc, Ticker::new(0o16))?)?;
+        let deck = format!(in alloc; "IMAGE\nLVDC 1\nEND\n{lines}")?;
+        let (status, text) = answer(alloc, "run", deck.into_bytes(), &mut devices)?;
+        assert_eq!(rt; status, 2, "{lines}");
+        assert_eq!(rt; text.as_str(), refusal, "{lines}");
+    }
     Ok(())
 }

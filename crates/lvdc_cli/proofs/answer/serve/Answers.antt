@@ -1,4 +1,4 @@
-use Rattle.std.proofs.Common.{Err, length, refl, ap, ◌∙◌, sym, arith}
+use Rattle.std.proofs.Common.{Err, length, refl, ap, arith}
 use Rattle.lvdc_cli.proofs.Ends.{served, refused_input, failed_input, not_asked, abandoned, keeps_same}
 use Rattle.lvdc_cli.proofs.answer.serve.Goals as goal
 

@@ -1,4 +1,4 @@
-use Rattle.std.proofs.Common.{refl, sym, ◌∙◌}
+use Rattle.std.proofs.Common.{refl}
 use Rattle.lvdc_cli.proofs.Runs.{ran_deck, supplied_some, supplied_all, unreported, on_err}
 use Rattle.lvdc_cli.proofs.reply.run_deck.Goals as goal
 
