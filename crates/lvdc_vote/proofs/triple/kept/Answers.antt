@@ -1,0 +1,8 @@
+use Rattle.lvdc_vote.proofs.Differences.{kept_by}
+use Rattle.lvdc_vote.proofs.triple.kept.Goals as goal
+
+pub returns-then-same : goal.returns-then-same
+returns-then-same g c = rw (kept_by c.same.result _ _ c.same.ensures, c.if-same.true)
+
+pub returns-else-same : goal.returns-else-same
+returns-else-same g c = rw (kept_by c.same.result _ _ c.same.ensures, c.if-same.false)

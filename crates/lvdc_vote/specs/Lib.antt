@@ -1,0 +1,5 @@
+pub mod Bits
+pub mod Latches
+pub mod Copies
+pub mod Differences
+pub mod Calls

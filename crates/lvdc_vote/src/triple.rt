@@ -1,0 +1,243 @@
+ghost use Rattle.std.specs.Prelude.{◌≡◌, ℕ, ◌<◌, List, slice_get, Some, None, true, IsSome, All, is_some, unwrap_or};
+ghost use Rattle.std.specs.Option.{option_map};
+ghost use Rattle.lvdc_vote.specs.Bits.{TwoAre};
+ghost use Rattle.lvdc_vote.specs.Latches.{latched_by, FitsLatches, IsMajority};
+ghost use Rattle.lvdc_vote.specs.Copies.{settled, copy_of, shadow_of, after_latch, after_commit, vote_of, differs_of, IsSized};
+ghost use Rattle.lvdc_vote.specs.Differences.{kept_of};
+
+use crate::{Hurt, LogicModule, Vote, latched_state};
+use lvdc_word::Word;
+use std::marker::Model;
+
+/// Three copies of the state of a module, and the shadow of each: what it has latched since the last commit. Of a copy
+/// only what differs from the vote is kept, and of a shadow only what differs from the shadow that was latched first;
+/// contracts see the three whole copies and shadows that are meant.
+pub struct Triple<M: LogicModule> {
+    voted: M::State,
+    one: Option<M::State>,
+    two: Option<M::State>,
+    three: Option<M::State>,
+    first: Option<M::State>,
+    shadow_one: Option<M::State>,
+    shadow_two: Option<M::State>,
+    shadow_three: Option<M::State>,
+    latched_one: bool,
+    latched_two: bool,
+    latched_three: bool,
+}
+
+impl<M: LogicModule> Model for Triple<M> {
+    ghost use Rattle.std.specs.Option.{option_map};
+    ghost use Rattle.lvdc_vote.specs.Copies.{Copies};
+    ghost use Rattle.lvdc_vote.specs.Differences.{copies_by, IsSound};
+
+    ghost Value = { Copies };
+
+    ghost view = { λ t. copies_by (record {
+      voted = M.State.latches t.voted;
+      one = option_map M.State.latches t.one;
+      two = option_map M.State.latches t.two;
+      three = option_map M.State.latches t.three;
+      first = option_map M.State.latches t.first;
+      shadow_one = option_map M.State.latches t.shadow_one;
+      shadow_two = option_map M.State.latches t.shadow_two;
+      shadow_three = option_map M.State.latches t.shadow_three;
+      latched_one = t.latched_one;
+      latched_two = t.latched_two;
+      latched_three = t.latched_three;
+    }) };
+
+    ghost invariant = { λ t. IsSound (record {
+      voted = M.State.latches t.voted;
+      one = option_map M.State.latches t.one;
+      two = option_map M.State.latches t.two;
+      three = option_map M.State.latches t.three;
+      first = option_map M.State.latches t.first;
+      shadow_one = option_map M.State.latches t.shadow_one;
+      shadow_two = option_map M.State.latches t.shadow_two;
+      shadow_three = option_map M.State.latches t.shadow_three;
+      latched_one = t.latched_one;
+      latched_two = t.latched_two;
+      latched_three = t.latched_three;
+    }) };
+}
+
+impl<M: LogicModule> Drop for Triple<M> {
+    fn drop(self) {
+        let Triple {
+            voted: _,
+            one: _,
+            two: _,
+            three: _,
+            first: _,
+            shadow_one: _,
+            shadow_two: _,
+            shadow_three: _,
+            latched_one: _,
+            latched_two: _,
+            latched_three: _,
+        } = self;
+    }
+}
+
+impl<M: LogicModule> Triple<M> {
+    /// Three copies of one state, of which none has latched.
+    pub fn new(state: M::State) -> Triple<M>
+        ensures value { result ≡ settled (M.State.latches state) (M.State.latches state) (M.State.latches state) }
+        ensures sized { IsSized M.State.LATCHES result }
+    {
+        Triple::from_copies(state.copied(), state.copied(), state)
+    }
+
+    /// These copies, of which none has latched.
+    pub fn from_copies(one: M::State, two: M::State, three: M::State) -> Triple<M>
+        ensures value { result ≡ settled (M.State.latches one) (M.State.latches two) (M.State.latches three) }
+        ensures sized { IsSized M.State.LATCHES result }
+    {
+        let voted = M::State::vote(&one, &two, &three);
+        let kept_one = kept(one, &voted);
+        let kept_two = kept(two, &voted);
+        let kept_three = kept(three, &voted);
+        Triple {
+            voted,
+            one: kept_one,
+            two: kept_two,
+            three: kept_three,
+            first: None,
+            shadow_one: None,
+            shadow_two: None,
+            shadow_three: None,
+            latched_one: false,
+            latched_two: false,
+            latched_three: false,
+        }
+    }
+
+    /// The copy latches what follows from the bus, or under a lag what it has; then the flips and forces act on that, in
+    /// order. The copies themselves stay until `commit`.
+    pub fn latch(&mut self, copy: u8, bus: &M::Bus, hurts: &[Hurt])
+        requires copy { copy < 3 }
+        requires fresh { shadow_of self.old copy ≡ None }
+        requires within { All (FitsLatches M.State.LATCHES) hurts.now }
+        ensures { self.new ≡ after_latch self.old copy (latched_by (copy_of self.old copy) (M.next_of bus.now) hurts.now) }
+    {
+        let shadow = latched_state::<M>(self.copy(copy), bus, hurts);
+        let first = &mut self.first;
+        match copy {
+            0 => note(first, &mut self.shadow_one, &mut self.latched_one, shadow),
+            1 => note(first, &mut self.shadow_two, &mut self.latched_two, shadow),
+            _ => note(
+                first,
+                &mut self.shadow_three,
+                &mut self.latched_three,
+                shadow,
+            ),
+        }
+    }
+
+    /// Has the copy latched since the last commit?
+    pub fn latched(&self, copy: u8) -> bool
+        requires { copy < 3 }
+        ensures { result ≡ is_some (shadow_of self.now copy) }
+    {
+        match copy {
+            0 => self.latched_one,
+            1 => self.latched_two,
+            _ => self.latched_three,
+        }
+    }
+
+    /// The shadows take the place of the copies.
+    pub fn commit(&mut self)
+        requires one { IsSome self.old.shadow_one }
+        requires two { IsSome self.old.shadow_two }
+        requires three { IsSome self.old.shadow_three }
+        ensures value { self.new ≡ after_commit self.old }
+        ensures sized { IsSized M.State.LATCHES self.new }
+    {
+        let committed = {
+            let Some(first) = &self.first else {
+                unreachable!()
+            };
+            let one = meant(&self.shadow_one, first).copied();
+            let two = meant(&self.shadow_two, first).copied();
+            let three = meant(&self.shadow_three, first).copied();
+            Triple::from_copies(one, two, three)
+        };
+        *self = committed;
+    }
+
+    /// The vote over the three copies.
+    pub fn voted(&self) -> M::State
+        ensures value { M.State.latches result ≡ vote_of self.now }
+        ensures two { (state : M.State) → TwoAre self.now.one self.now.two self.now.three (M.State.latches state) → result ≡ state }
+        ensures bits { IsMajority self.now.one self.now.two self.now.three (M.State.latches result) }
+    {
+        self.voted.copied()
+    }
+
+    /// Does the copy differ from the vote?
+    pub fn differs(&self, copy: u8) -> bool
+        requires { copy < 3 }
+        ensures { result ≡ differs_of self.now copy }
+    {
+        match copy {
+            0 => self.one.is_some(),
+            1 => self.two.is_some(),
+            _ => self.three.is_some(),
+        }
+    }
+
+    /// The word of one latch of a copy.
+    pub fn word(&self, copy: u8, index: u8) -> Word
+        requires copy { copy < 3 }
+        requires index { index < M.State.LATCHES }
+        ensures { slice_get (copy_of self.now copy) index ≡ Some result }
+    {
+        self.copy(copy).latch(index)
+    }
+
+    /// The copy of this number.
+    fn copy(&self, copy: u8) -> &M::State
+        requires { copy < 3 }
+        ensures { M.State.latches result.now ≡ copy_of self.now copy }
+    {
+        match copy {
+            0 => meant(&self.one, &self.voted),
+            1 => meant(&self.two, &self.voted),
+            _ => meant(&self.three, &self.voted),
+        }
+    }
+}
+
+/// One copy latches: the shadow that comes first is kept whole, and of another what differs from it.
+fn note<S: Vote>(first: &mut Option<S>, own: &mut Option<S>, latched: &mut bool, shadow: S)
+    ensures first { option_map S.latches first.new ≡ Some (unwrap_or (option_map S.latches first.old) (S.latches shadow)) }
+    ensures own { option_map S.latches own.new ≡ kept_of (S.latches shadow) (unwrap_or (option_map S.latches first.old) (S.latches shadow)) }
+    ensures latched { latched.new ≡ true }
+{
+    *latched = true;
+    if let Some(base) = first {
+        *own = kept(shadow, base);
+    } else {
+        *first = Some(shadow);
+        *own = None;
+    }
+}
+
+/// What is kept of a state beside a base: nothing where they are the same.
+fn kept<S: Vote>(state: S, base: &S) -> Option<S>
+    ensures { option_map S.latches result ≡ kept_of (S.latches state) (S.latches base.now) }
+{
+    if state.same(base) { None } else { Some(state) }
+}
+
+/// The state of which this is kept beside a base.
+fn meant<'a, S: Vote>(own: &'a Option<S>, base: &'a S) -> &'a S
+    ensures { S.latches result.now ≡ unwrap_or (option_map S.latches own.now) (S.latches base.now) }
+{
+    match own {
+        Some(state) => state,
+        None => base,
+    }
+}
