@@ -1,0 +1,12 @@
+pub mod Seen
+pub mod States
+pub mod Timer
+pub mod Locator
+pub mod Decoder
+pub mod Selector
+pub mod Request
+pub mod Multiplier
+pub mod Accumulator
+pub mod Exchange
+pub mod Wish
+pub mod Rows

@@ -1,0 +1,85 @@
+ghost use Rattle.std.specs.Prelude.{◌≡◌, refl};
+ghost use Rattle.std.proofs.Common.{ap};
+ghost use Rattle.lvdc_modules.specs.States.{decoder_latches, decoder_of};
+ghost use Rattle.lvdc_modules.specs.Decoder.{decoder_row};
+
+use crate::Bus;
+use crate::seen::{Doing, doing_of};
+use lvdc_map::Hop;
+use lvdc_vote::{LogicModule, Vote, flipped, forced, majority};
+use lvdc_word::Word;
+
+/// The latch of the decoder.
+#[derive(Clone, Copy, Debug, PartialEq, Eq)]
+pub struct DecoderState {
+    /// INSTR, the syllable of the instruction.
+    pub instr: Word,
+}
+
+impl Vote for DecoderState {
+    ghost LATCHES = { 1 };
+
+    ghost latches = { decoder_latches };
+
+    const LATCHES: u8 = 1;
+
+    fn latch(&self, _index: u8) -> Word {
+        self.instr
+    }
+
+    fn vote(a: &Self, b: &Self, c: &Self) -> Self {
+        DecoderState {
+            instr: majority(a.instr, b.instr, c.instr),
+        }
+    }
+
+    fn with_flip(&self, _index: u8, mask: Word) -> Self {
+        DecoderState {
+            instr: flipped(self.instr, mask),
+        }
+    }
+
+    fn with_force(&self, _index: u8, mask: Word, value: Word) -> Self {
+        DecoderState {
+            instr: forced(self.instr, mask, value),
+        }
+    }
+
+    fn same(&self, other: &Self) -> bool {
+        self == other
+    }
+
+    fn copied(&self) -> Self {
+        *self
+    }
+
+    ghost counted = { λ s. refl };
+
+    ghost exact = { λ s t e. ap decoder_of e };
+}
+
+/// The decoder, module 3: it keeps the instruction that was fetched.
+pub struct Decoder;
+
+impl LogicModule for Decoder {
+    type State = DecoderState;
+
+    type Bus = Bus;
+
+    ghost next_of = { decoder_row };
+
+    const NUMBER: u8 = 3;
+
+    fn next(bus: &Bus) -> DecoderState {
+        if doing_of(bus) == Doing::Fetching {
+            let syllable = Hop::of(bus.locator.place).syllable(bus.memory);
+            DecoderState {
+                instr: Word::within(u32::from(syllable.value())),
+            }
+        } else {
+            bus.decoder
+        }
+    }
+
+    ghost fits = { λ bus. refl };
+}

@@ -1,0 +1,178 @@
+ghost use Rattle.std.specs.Prelude.{◌≡◌, refl, ◌<◌, ◌^◌};
+ghost use Rattle.std.proofs.Common.{ap};
+ghost use Rattle.lvdc_modules.specs.States.{locator_latches, locator_of};
+ghost use Rattle.lvdc_modules.specs.Locator.{place_fields, moves_on, moves_to, jumps, located, locator_row};
+
+use crate::Bus;
+use crate::seen::{Doing, doing_of, here_of, instruction_of};
+use lvdc_isa::Op;
+use lvdc_map::Hop;
+use lvdc_vote::{LogicModule, Vote, flipped, forced, majority};
+use lvdc_word::Word;
+
+/// The latches of the locator.
+#[derive(Clone, Copy, Debug, PartialEq, Eq)]
+pub struct LocatorState {
+    /// PLACE, the instruction fields of a HOP constant: where the next instruction is fetched.
+    pub place: Word,
+    /// SAVER, the HOP constant of the place after the last transfer.
+    pub saver: Word,
+}
+
+impl Vote for LocatorState {
+    ghost LATCHES = { 2 };
+
+    ghost latches = { locator_latches };
+
+    const LATCHES: u8 = 2;
+
+    fn latch(&self, index: u8) -> Word {
+        match index {
+            0 => self.place,
+            _ => self.saver,
+        }
+    }
+
+    fn vote(a: &Self, b: &Self, c: &Self) -> Self {
+        LocatorState {
+            place: majority(a.place, b.place, c.place),
+            saver: majority(a.saver, b.saver, c.saver),
+        }
+    }
+
+    fn with_flip(&self, index: u8, mask: Word) -> Self {
+        match index {
+            0 => LocatorState {
+                place: flipped(self.place, mask),
+                ..*self
+            },
+            _ => LocatorState {
+                saver: flipped(self.saver, mask),
+                ..*self
+            },
+        }
+    }
+
+    fn with_force(&self, index: u8, mask: Word, value: Word) -> Self {
+        match index {
+            0 => LocatorState {
+                place: forced(self.place, mask, value),
+                ..*self
+            },
+            _ => LocatorState {
+                saver: forced(self.saver, mask, value),
+                ..*self
+            },
+        }
+    }
+
+    fn same(&self, other: &Self) -> bool {
+        self == other
+    }
+
+    fn copied(&self) -> Self {
+        *self
+    }
+
+    ghost counted = { λ s. refl };
+
+    ghost exact = { λ s t e. ap locator_of e };
+}
+
+/// The word of the fields that PLACE keeps.
+fn place_word(place: Hop) -> Word
+    ensures { result ≡ place_fields place }
+{
+    Hop {
+        dmod: 0,
+        dsec: 0,
+        dupdn: false,
+        ..place
+    }
+    .to_word()
+}
+
+/// On to the next location.
+fn moves_on(bus: &Bus, place: Hop) -> LocatorState
+    ensures { result ≡ moves_on bus.now place }
+{
+    LocatorState {
+        place: place_word(place.after()),
+        saver: bus.locator.saver,
+    }
+}
+
+/// To another place; the way back is saved.
+fn moves_to(place: Hop, to: Hop) -> LocatorState
+    ensures { result ≡ moves_to place to }
+{
+    LocatorState {
+        place: place_word(to),
+        saver: place.after().to_word(),
+    }
+}
+
+/// To the syllable and location of an address in the same sector.
+fn jumps(place: Hop, address: u16) -> LocatorState
+    requires { address < 2 ^ 9 }
+    ensures { result ≡ jumps place address }
+{
+    let to = Hop {
+        syl: (address >> 8) as u8,
+        loc: (address & 0xff) as u8,
+        ..place
+    };
+    moves_to(place, to)
+}
+
+/// Where the operation goes on.
+fn located(op: Op, bus: &Bus, place: Hop, address: u16) -> LocatorState
+    requires { address < 2 ^ 9 }
+    ensures { result ≡ located op bus.now place address }
+{
+    let a = bus.accumulator.a.value();
+    match op {
+        Op::Hop => moves_to(place, Hop::of(bus.accumulator.operand)),
+        Op::Tra => jumps(place, address),
+        Op::Tnz => {
+            if a == 0 {
+                moves_on(bus, place)
+            } else {
+                jumps(place, address)
+            }
+        }
+        Op::Tmi => {
+            if (a >> 25) & 1 == 1 {
+                jumps(place, address)
+            } else {
+                moves_on(bus, place)
+            }
+        }
+        Op::WrongShift | Op::Exm => bus.locator,
+        _ => moves_on(bus, place),
+    }
+}
+
+/// The locator, module 2: it keeps where the next instruction stands, and the saver.
+pub struct Locator;
+
+impl LogicModule for Locator {
+    type State = LocatorState;
+
+    type Bus = Bus;
+
+    ghost next_of = { locator_row };
+
+    const NUMBER: u8 = 2;
+
+    fn next(bus: &Bus) -> LocatorState {
+        if doing_of(bus) == Doing::Executing {
+            let instruction = instruction_of(bus);
+            located(instruction.op, bus, here_of(bus), instruction.address)
+        } else {
+            bus.locator
+        }
+    }
+
+    ghost fits = { λ bus. refl };
+}

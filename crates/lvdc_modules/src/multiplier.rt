@@ -1,0 +1,219 @@
+ghost use Rattle.std.specs.Prelude.{◌≡◌, refl};
+ghost use Rattle.std.proofs.Common.{ap};
+ghost use Rattle.lvdc_modules.specs.States.{multiplier_latches, multiplier_of};
+ghost use Rattle.lvdc_modules.specs.Multiplier.{working, unit_pq, unit_working, pq_after, working_after, multiplier_with, multiplier_row};
+
+use crate::request::operand_kind;
+use crate::seen::{Doing, doing_of, instruction_of};
+use crate::{Bus, OperandKind};
+use lvdc_isa::Op;
+use lvdc_mul::Unit;
+use lvdc_vote::{LogicModule, Vote, flipped, forced, majority};
+use lvdc_word::Word;
+
+/// The latches of the multiplier.
+#[derive(Clone, Copy, Debug, PartialEq, Eq)]
+pub struct MultiplierState {
+    /// PQ, the product-quotient register.
+    pub pq: Word,
+    /// CONTROL, the work of the arithmetic unit and the phases that it has left.
+    pub control: Word,
+    /// M, the multiplicand or the divisor.
+    pub m: Word,
+    /// H, the upper part of the product, or the remainder.
+    pub h: Word,
+    /// Q, the multiplier and the lower part of the product, or the quotient.
+    pub q: Word,
+}
+
+impl Vote for MultiplierState {
+    ghost LATCHES = { 5 };
+
+    ghost latches = { multiplier_latches };
+
+    const LATCHES: u8 = 5;
+
+    fn latch(&self, index: u8) -> Word {
+        match index {
+            0 => self.pq,
+            1 => self.control,
+            2 => self.m,
+            3 => self.h,
+            _ => self.q,
+        }
+    }
+
+    fn vote(a: &Self, b: &Self, c: &Self) -> Self {
+        MultiplierState {
+            pq: majority(a.pq, b.pq, c.pq),
+            control: majority(a.control, b.control, c.control),
+            m: majority(a.m, b.m, c.m),
+            h: majority(a.h, b.h, c.h),
+            q: majority(a.q, b.q, c.q),
+        }
+    }
+
+    fn with_flip(&self, index: u8, mask: Word) -> Self {
+        match index {
+            0 => MultiplierState {
+                pq: flipped(self.pq, mask),
+                ..*self
+            },
+            1 => MultiplierState {
+                control: flipped(self.control, mask),
+                ..*self
+            },
+            2 => MultiplierState {
+                m: flipped(self.m, mask),
+                ..*self
+            },
+            3 => MultiplierState {
+                h: flipped(self.h, mask),
+                ..*self
+            },
+            _ => MultiplierState {
+                q: flipped(self.q, mask),
+                ..*self
+            },
+        }
+    }
+
+    fn with_force(&self, index: u8, mask: Word, value: Word) -> Self {
+        match index {
+            0 => MultiplierState {
+                pq: forced(self.pq, mask, value),
+                ..*self
+            },
+            1 => MultiplierState {
+                control: forced(self.control, mask, value),
+                ..*self
+            },
+            2 => MultiplierState {
+                m: forced(self.m, mask, value),
+                ..*self
+            },
+            3 => MultiplierState {
+                h: forced(self.h, mask, value),
+                ..*self
+            },
+            _ => MultiplierState {
+                q: forced(self.q, mask, value),
+                ..*self
+            },
+        }
+    }
+
+    fn same(&self, other: &Self) -> bool {
+        self == other
+    }
+
+    fn copied(&self) -> Self {
+        *self
+    }
+
+    ghost counted = { λ s. refl };
+
+    ghost exact = { λ s t e. ap multiplier_of e };
+}
+
+/// The arithmetic unit with its working latches.
+pub(crate) fn working(bus: &Bus) -> Unit
+    ensures { result ≡ working bus.now }
+{
+    let MultiplierState {
+        control,
+        m,
+        h,
+        q,
+        ..
+    } = bus.multiplier;
+    Unit { control, m, h, q }
+}
+
+/// PQ after the unit's phase.
+fn unit_pq(bus: &Bus) -> Word
+    ensures { result ≡ unit_pq bus.now }
+{
+    working(bus).lands().unwrap_or(bus.multiplier.pq)
+}
+
+/// The unit after its phase; it is idle where it lands.
+fn unit_working(bus: &Bus) -> Unit
+    ensures { result ≡ unit_working bus.now }
+{
+    let unit = working(bus);
+    if unit.lands().is_some() {
+        unit.phase().cancel()
+    } else {
+        unit.phase()
+    }
+}
+
+/// What the operation makes of PQ.
+fn pq_after(op: Op, bus: &Bus, address: u16) -> Word
+    ensures { result ≡ pq_after op bus.now address }
+{
+    if op == Op::Sto && operand_kind(address) == OperandKind::Pq {
+        bus.accumulator.a
+    } else {
+        unit_pq(bus)
+    }
+}
+
+/// What the operation makes of the unit.
+fn working_after(op: Op, bus: &Bus, address: u16) -> Unit
+    ensures { result ≡ working_after op bus.now address }
+{
+    let a = bus.accumulator.a;
+    let m = bus.accumulator.operand;
+    match op {
+        Op::Mpy => Unit::issue_multiply(a, m, false),
+        Op::Mph => Unit::issue_multiply(a, m, true),
+        Op::Div => Unit::issue_divide(a, m),
+        Op::Sto => match operand_kind(address) {
+            OperandKind::Pq => unit_working(bus).cancel(),
+            OperandKind::Memory | OperandKind::Saver => unit_working(bus),
+        },
+        _ => unit_working(bus),
+    }
+}
+
+/// The latches of PQ and the unit.
+fn latched(pq: Word, unit: Unit) -> MultiplierState
+    ensures { result ≡ multiplier_with pq unit }
+{
+    let Unit { control, m, h, q } = unit;
+    MultiplierState {
+        pq,
+        control,
+        m,
+        h,
+        q,
+    }
+}
+
+/// The multiplier, module 6: it keeps PQ, and runs the arithmetic unit.
+pub struct Multiplier;
+
+impl LogicModule for Multiplier {
+    type State = MultiplierState;
+
+    type Bus = Bus;
+
+    ghost next_of = { multiplier_row };
+
+    const NUMBER: u8 = 6;
+
+    fn next(bus: &Bus) -> MultiplierState {
+        if doing_of(bus) == Doing::Executing {
+            let instruction = instruction_of(bus);
+            let pq = pq_after(instruction.op, bus, instruction.address);
+            let unit = working_after(instruction.op, bus, instruction.address);
+            latched(pq, unit)
+        } else {
+            latched(unit_pq(bus), unit_working(bus))
+        }
+    }
+
+    ghost fits = { λ bus. refl };
+}

@@ -1,0 +1,140 @@
+ghost use Rattle.std.specs.Prelude.{◌≡◌, ◌<◌, ◌^◌, ◌-◌, true};
+ghost use Rattle.lvdc_map.specs.Banks.{is_there};
+ghost use Rattle.lvdc_modules.specs.Request.{operand_kind, target, spot_of, target_bits, word_of_request, target_in, request_of, IsTarget, IsRequest};
+
+use lvdc_map::{Address, Banks, Hop};
+use lvdc_word::Word;
+
+/// What an operand address names, whatever the data place is.
+#[derive(Clone, Copy, Debug, PartialEq, Eq)]
+pub enum OperandKind {
+    /// A word of memory.
+    Memory,
+    /// The product-quotient register.
+    Pq,
+    /// A word of memory that STO fills with the saver.
+    Saver,
+}
+
+/// A word of memory by the number of its module, before the banks are known.
+#[derive(Clone, Copy, Debug, PartialEq, Eq)]
+pub struct Target {
+    /// The data module, 0 to 7.
+    pub dmod: u8,
+    /// 00 to 17 octal.
+    pub sector: u8,
+    /// 000 to 377 octal.
+    pub loc: u8,
+}
+
+/// What an instruction asks of memory or a port. Its word in the latch REQUEST is this project's profile.
+#[derive(Clone, Copy, Debug, PartialEq, Eq)]
+pub enum Request {
+    /// No exchange.
+    Nothing,
+    /// The accumulator goes to memory.
+    StoreA(Target),
+    /// The saver goes to memory.
+    StoreSaver(Target),
+    /// The accumulator goes to the port.
+    PortWrite(u8),
+    /// A word comes from the port.
+    PortRead(u8),
+}
+
+/// What the address names.
+pub(crate) fn operand_kind(address: u16) -> OperandKind
+    ensures { result ≡ operand_kind address }
+{
+    match address {
+        0o775 => OperandKind::Pq,
+        0o776 | 0o777 => OperandKind::Saver,
+        _ => OperandKind::Memory,
+    }
+}
+
+impl Target {
+    /// The word that an address means at a place.
+    pub(crate) fn at(place: Hop, address: u16) -> Target
+        requires { address < 2 ^ 9 }
+        ensures value { result ≡ target place address }
+        ensures ranges { IsTarget result }
+    {
+        Target {
+            dmod: place.dmod,
+            sector: if address >> 8 == 1 { 15 } else { place.dsec },
+            loc: (address & 0xff) as u8,
+        }
+    }
+
+    /// The address of the word, of which the bank is there.
+    pub(crate) fn address(self, banks: Banks) -> Address
+        requires { IsTarget self }
+        ensures value { result ≡ spot_of banks self }
+        ensures there { is_there banks result ≡ true }
+    {
+        Address {
+            pair: banks.of(self.dmod),
+            sector: self.sector,
+            loc: self.loc,
+        }
+    }
+
+    /// The target in the bits of a word.
+    fn of(word: Word) -> Target
+        ensures value { result ≡ target_in word }
+        ensures ranges { IsTarget result }
+    {
+        let w = word.value();
+        Target {
+            dmod: (((w >> 15) & 3) * 2 + ((w >> 17) & 1)) as u8,
+            sector: ((w >> 11) & 15) as u8,
+            loc: ((w >> 3) & 255) as u8,
+        }
+    }
+
+    /// The bits of the target.
+    fn bits(self) -> u32
+        requires { IsTarget self }
+        ensures value { result ≡ target_bits self }
+        ensures small { result < 2 ^ 18 - 7 }
+    {
+        u32::from(self.dmod % 2) * (1 << 17)
+            + u32::from(self.dmod / 2) * (1 << 15)
+            + u32::from(self.sector) * (1 << 11)
+            + u32::from(self.loc) * (1 << 3)
+    }
+}
+
+impl Request {
+    /// What a word requests.
+    pub fn of(word: Word) -> Request
+        ensures value { result ≡ request_of word }
+        ensures ranges { IsRequest result }
+    {
+        let port = ((word.value() >> 3) & 255) as u8;
+        match word.value() & 7 {
+            1 => Request::StoreA(Target::of(word)),
+            2 => Request::StoreSaver(Target::of(word)),
+            3 => Request::PortWrite(port),
+            4 => Request::PortRead(port),
+            _ => Request::Nothing,
+        }
+    }
+
+    /// The word that requests this, from which it is read back.
+    pub fn to_word(self) -> Word
+        requires { IsRequest self }
+        ensures value { result ≡ word_of_request self }
+        ensures read_back { request_of result ≡ self }
+    {
+        let bits = match self {
+            Request::Nothing => 0,
+            Request::StoreA(target) => target.bits() + 1,
+            Request::StoreSaver(target) => target.bits() + 2,
+            Request::PortWrite(port) => u32::from(port) * 8 + 3,
+            Request::PortRead(port) => u32::from(port) * 8 + 4,
+        };
+        Word::within(bits)
+    }
+}

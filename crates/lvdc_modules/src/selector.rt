@@ -1,0 +1,128 @@
+ghost use Rattle.std.specs.Prelude.{◌≡◌, refl, ◌<◌, ◌^◌};
+ghost use Rattle.std.proofs.Common.{ap};
+ghost use Rattle.lvdc_modules.specs.States.{selector_latches, selector_of};
+ghost use Rattle.lvdc_modules.specs.Selector.{data_fields, with_data, selected, selector_row};
+
+use crate::Bus;
+use crate::seen::{Doing, doing_of, here_of, instruction_of};
+use lvdc_isa::Op;
+use lvdc_map::Hop;
+use lvdc_vote::{LogicModule, Vote, flipped, forced, majority};
+use lvdc_word::Word;
+
+/// The latch of the selector.
+#[derive(Clone, Copy, Debug, PartialEq, Eq)]
+pub struct SelectorState {
+    /// DATA, the data fields of a HOP constant: where operands stand.
+    pub hold_place: Word,
+}
+
+impl Vote for SelectorState {
+    ghost LATCHES = { 1 };
+
+    ghost latches = { selector_latches };
+
+    const LATCHES: u8 = 1;
+
+    fn latch(&self, _index: u8) -> Word {
+        self.hold_place
+    }
+
+    fn vote(a: &Self, b: &Self, c: &Self) -> Self {
+        SelectorState {
+            hold_place: majority(a.hold_place, b.hold_place, c.hold_place),
+        }
+    }
+
+    fn with_flip(&self, _index: u8, mask: Word) -> Self {
+        SelectorState {
+            hold_place: flipped(self.hold_place, mask),
+        }
+    }
+
+    fn with_force(&self, _index: u8, mask: Word, value: Word) -> Self {
+        SelectorState {
+            hold_place: forced(self.hold_place, mask, value),
+        }
+    }
+
+    fn same(&self, other: &Self) -> bool {
+        self == other
+    }
+
+    fn copied(&self) -> Self {
+        *self
+    }
+
+    ghost counted = { λ s. refl };
+
+    ghost exact = { λ s t e. ap selector_of e };
+}
+
+/// The word of the fields that DATA keeps.
+fn data_word(place: Hop) -> Word
+    ensures { result ≡ data_fields place }
+{
+    Hop {
+        imod: 0,
+        isec: 0,
+        syl: 0,
+        loc: 0,
+        dupin: false,
+        ..place
+    }
+    .to_word()
+}
+
+/// The place with the data fields of an address.
+fn with_data(place: Hop, address: u16) -> Hop
+    requires { address < 2 ^ 9 }
+    ensures { result ≡ with_data place address }
+{
+    Hop {
+        dmod: ((address >> 4) & 7) as u8,
+        dsec: (address & 15) as u8,
+        dupdn: address >> 8 == 1,
+        ..place
+    }
+}
+
+/// Where operands stand after the operation.
+fn selected(op: Op, bus: &Bus, place: Hop, address: u16) -> SelectorState
+    requires { address < 2 ^ 9 }
+    ensures { result ≡ selected op bus.now place address }
+{
+    match op {
+        Op::Hop => SelectorState {
+            hold_place: data_word(Hop::of(bus.accumulator.operand)),
+        },
+        Op::Cds => SelectorState {
+            hold_place: data_word(with_data(place, address)),
+        },
+        _ => bus.selector,
+    }
+}
+
+/// The selector, module 4: it keeps where operands stand.
+pub struct Selector;
+
+impl LogicModule for Selector {
+    type State = SelectorState;
+
+    type Bus = Bus;
+
+    ghost next_of = { selector_row };
+
+    const NUMBER: u8 = 4;
+
+    fn next(bus: &Bus) -> SelectorState {
+        if doing_of(bus) == Doing::Executing {
+            let instruction = instruction_of(bus);
+            selected(instruction.op, bus, here_of(bus), instruction.address)
+        } else {
+            bus.selector
+        }
+    }
+
+    ghost fits = { λ bus. refl };
+}
