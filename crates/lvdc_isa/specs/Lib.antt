@@ -1,2 +1,3 @@
 pub mod Instr
 pub mod Mnemonics
+pub mod Shift

@@ -1,2 +1,3 @@
 pub mod HopLaws
 mod MapRows
+pub mod Images

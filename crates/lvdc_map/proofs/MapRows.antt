@@ -1,7 +1,7 @@
 -- Worked values of the definitions.
 use Rattle.std.proofs.Common.{◌≡◌, refl, true, false}
 use Rattle.lvdc_map.specs.Banks.{bank_of, is_there}
-use Rattle.lvdc_map.specs.Hop.{hop_of, word_of_hop, after, fetch_of}
+use Rattle.lvdc_map.specs.Hop.{hop_of, word_of_hop, after}
 
 -- the constant of place 0/0/0/0 with data module 0 and sector 1 is 000000016, and after location 003 it is 000010016
 after_three : word_of_hop (after (record (hop_of 0o16) { loc = 3 })) ≡ 0o10016

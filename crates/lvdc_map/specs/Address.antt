@@ -1,5 +1,5 @@
 -- Addresses of memory: a bank, a sector and a location.
-use Rattle.std.specs.Prelude.{◌≡◌, ℕ, ◌+◌, ◌*◌, ◌/◌, ◌%◌, ◌<◌, Bool, ◌==◌, ◌&&◌}
+use Rattle.std.specs.Prelude.{ℕ, ◌+◌, ◌*◌, ◌/◌, ◌%◌, ◌<◌, Bool, ◌==◌, ◌&&◌}
 
 -- where a word of memory stands; the field `pair` is the bank
 pub record Spot : Type 0 where

@@ -1,6 +1,6 @@
 -- Memories: what word each address holds.
-use Rattle.std.specs.Prelude.{◌≡◌, ℕ, Bool, true, ◌&&◌, nat_lt, if◌then◌else◌, List, [], ◌∷◌, All}
-use Rattle.lvdc_map.specs.Address.{Spot, is_same, number_of}
+use Rattle.std.specs.Prelude.{◌≡◌, ℕ, Bool, true, ◌&&◌, nat_lt, if◌then◌else◌, List, [], ◌∷◌, All, length, slice_index}
+use Rattle.lvdc_map.specs.Address.{Spot, IsAddress, is_same, number_of}
 use Rattle.lvdc_map.specs.Banks.{is_there}
 use Rattle.lvdc_map.specs.declared.placed.Placed.{Placed}
 
@@ -28,6 +28,11 @@ loaded (p ∷ ps) memory = loaded ps (stored memory p.at p.word)
 -- the memory that an image makes: its words, and 0 elsewhere
 abbrev pub memory_of : List Placed → Memory
 memory_of image = loaded image (filled_with 0)
+
+-- the list holds the memory's word at the number of each address
+pub record IsMemory (words : List ℕ) (m : Memory) : Type 0 where
+  pub size : length words ≡ 32768
+  pub same : (at : Spot) → IsAddress at → slice_index words (number_of at) ≡ word_at m at
 
 -- the addresses rise strictly
 abbrev pub are_rising : List Placed → Bool

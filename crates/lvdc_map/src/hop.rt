@@ -1,6 +1,6 @@
 ghost use Rattle.std.specs.Prelude.{◌≡◌, ◌<◌};
 
-use crate::{Address, Banks};
+use crate::{Address, Banks, is_a9};
 use lvdc_word::{Syllable, Word};
 use std::marker::Model;
 
@@ -43,6 +43,7 @@ impl Hop {
     ghost use Rattle.std.specs.Prelude.{true};
     ghost use Rattle.lvdc_map.specs.Banks.{is_there};
     ghost use Rattle.lvdc_map.specs.Hop.{hop_of, word_of_hop, after, fetch_of, syllable_at};
+    ghost use Rattle.lvdc_map.specs.Place.{data_sector, jumped, with_data};
 
     /// The fields of a word. The spare bit is dropped.
     pub fn of(word: Word) -> Hop
@@ -104,5 +105,36 @@ impl Hop {
     {
         let (one, zero) = word.split();
         if self.syl == 1 { one } else { zero }
+    }
+
+    /// The sector in which an operand address stands: the residual one, or the data sector.
+    pub fn data_sector(self, address: u16) -> u8
+        ensures value { result ≡ data_sector self address }
+        ensures small { result < 16 }
+    {
+        if is_a9(address) { 15 } else { self.dsec }
+    }
+
+    /// The constant after a transfer to the syllable and location of an address, in the same sector.
+    pub fn jumped(self, address: u16) -> Hop
+        ensures { result ≡ jumped self address }
+    {
+        Hop {
+            syl: if is_a9(address) { 1 } else { 0 },
+            loc: (address & 255) as u8,
+            ..self
+        }
+    }
+
+    /// The constant with the data module, the data sector and DUPDN of an address.
+    pub fn with_data(self, address: u16) -> Hop
+        ensures { result ≡ with_data self address }
+    {
+        Hop {
+            dmod: ((address >> 4) & 7) as u8,
+            dsec: (address & 15) as u8,
+            dupdn: is_a9(address),
+            ..self
+        }
     }
 }

@@ -1,4 +1,4 @@
-//! Where words stand: addresses, the banks of the memory, HOP constants and operand places.
+//! Where words stand: addresses, the banks of the memory, HOP constants, operand places, and the words of all addresses.
 #![tactic(auto)]
 
 mod address;
@@ -7,13 +7,15 @@ mod hop;
 mod operand;
 mod place;
 mod placed;
+mod words;
 
 pub use address::Address;
 pub use banks::Banks;
 pub use hop::Hop;
-pub use operand::operand_place;
+pub use operand::{OperandKind, is_a9, operand_place};
 pub use place::Place;
 pub use placed::Placed;
+pub use words::Words;
 
 #[cfg(test)]
 mod tests;

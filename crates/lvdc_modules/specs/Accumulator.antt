@@ -1,10 +1,13 @@
 -- ACCUMULATOR, module 5: A, and the operand word of the instruction.
-use Rattle.std.specs.Prelude.{ℕ, ◌%◌, ◌^◌, List, ◌==◌, if◌then◌else◌, bit_and, bit_xor}
+use Rattle.std.specs.Prelude.{ℕ, ◌%◌, ◌^◌, List, if◌then◌else◌, bit_and, bit_xor}
 use Rattle.std.specs.declared.option.Option.{Option}
 use Rattle.std.specs.declared.option.Option.TheVariants.{Some}
-use Rattle.lvdc_word.specs.Word.{sum, difference, shifted_right, shifted_left}
-use Rattle.lvdc_map.specs.Place.{a9}
+use Rattle.lvdc_word.specs.Word.{sum, difference}
+use Rattle.lvdc_map.specs.Place.{a9, operand_kind}
+use Rattle.lvdc_map.specs.declared.operand.OperandKind.{OperandKind}
+use Rattle.lvdc_map.specs.declared.operand.OperandKind.TheVariants.{Pq}
 use Rattle.lvdc_isa.specs.Instr.{takes_operand}
+use Rattle.lvdc_isa.specs.Shift.{shifted}
 use Rattle.lvdc_isa.specs.declared.instr.Instr.{Instr}
 use Rattle.lvdc_isa.specs.declared.op.Op.{Op}
 use Rattle.lvdc_isa.specs.declared.op.Op.TheVariants.{Sub, And, Add, Xor, Pio, Rsu, Shf, Cla}
@@ -13,20 +16,11 @@ use Rattle.lvdc_mul.specs.declared.control.Kind.TheVariants.{MultiplyHigh}
 use Rattle.lvdc_mul.specs.Unit.{kind}
 use Rattle.lvdc_modules.specs.declared.bus.Bus.{Bus}
 use Rattle.lvdc_modules.specs.declared.accumulator.AccumulatorState.{AccumulatorState}
-use Rattle.lvdc_modules.specs.declared.request.OperandKind.{OperandKind}
-use Rattle.lvdc_modules.specs.declared.request.OperandKind.TheVariants.{Pq}
 use Rattle.lvdc_modules.specs.declared.seen.Doing.{Doing}
 use Rattle.lvdc_modules.specs.declared.seen.Doing.TheVariants.{Taking, Executing}
 use Rattle.lvdc_modules.specs.Seen.{doing, instruction}
-use Rattle.lvdc_modules.specs.Request.{operand_kind}
 use Rattle.lvdc_modules.specs.Multiplier.{working, landing}
 use Rattle.lvdc_modules.specs.States.{accumulator_latches}
-
--- A shifted by the pattern of an address: 1 and 2 places right, 1 and 2 places left; every other pattern clears A
-abbrev pub shifted : ℕ → ℕ → ℕ
-shifted a pattern =
-    if pattern == 0o1 then shifted_right a 1 else (if pattern == 0o2 then shifted_right a 2
-    else (if pattern == 0o20 then shifted_left a 1 else (if pattern == 0o40 then shifted_left a 2 else 0)))
 
 -- what each operation makes of A
 abbrev pub accumulated : Op → Bus → ℕ → ℕ

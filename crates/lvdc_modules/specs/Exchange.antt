@@ -1,20 +1,20 @@
 -- EXCHANGE, module 7: the stop, and what phase C exchanges.
 use Rattle.std.specs.Prelude.{ℕ, ◌%◌, ◌^◌, List, if◌then◌else◌}
 use Rattle.lvdc_map.specs.Hop.{HopConstant}
-use Rattle.lvdc_map.specs.Place.{a9}
+use Rattle.lvdc_map.specs.Place.{a9, operand_kind}
+use Rattle.lvdc_map.specs.declared.operand.OperandKind.{OperandKind}
+use Rattle.lvdc_map.specs.declared.operand.OperandKind.TheVariants.{Memory, Pq, Saver}
 use Rattle.lvdc_isa.specs.declared.instr.Instr.{Instr}
 use Rattle.lvdc_isa.specs.declared.op.Op.{Op}
 use Rattle.lvdc_isa.specs.declared.op.Op.TheVariants.{Pio, Sto, WrongShift, Exm}
 use Rattle.lvdc_modules.specs.declared.bus.Bus.{Bus}
 use Rattle.lvdc_modules.specs.declared.exchange.ExchangeState.{ExchangeState}
-use Rattle.lvdc_modules.specs.declared.request.OperandKind.{OperandKind}
-use Rattle.lvdc_modules.specs.declared.request.OperandKind.TheVariants.{Memory, Pq, Saver}
 use Rattle.lvdc_modules.specs.declared.request.Request.{Request}
 use Rattle.lvdc_modules.specs.declared.request.Request.TheVariants.{Nothing, StoreA, StoreSaver, PortWrite, PortRead}
 use Rattle.lvdc_modules.specs.declared.seen.Doing.{Doing}
 use Rattle.lvdc_modules.specs.declared.seen.Doing.TheVariants.{Taking, Executing}
 use Rattle.lvdc_modules.specs.Seen.{doing, instruction, here}
-use Rattle.lvdc_modules.specs.Request.{operand_kind, target, word_of_request}
+use Rattle.lvdc_modules.specs.Request.{target, word_of_request}
 use Rattle.lvdc_modules.specs.States.{exchange_latches}
 
 -- what a store asks for at the place h: A into memory, the saver into one of its words, nothing for PQ

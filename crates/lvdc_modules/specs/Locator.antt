@@ -1,7 +1,7 @@
 -- LOCATOR, module 2: where the next instruction is fetched, and the saver.
-use Rattle.std.specs.Prelude.{ℕ, ◌%◌, ◌^◌, false, List, ◌==◌, if◌then◌else◌}
+use Rattle.std.specs.Prelude.{ℕ, false, List, ◌==◌, if◌then◌else◌}
 use Rattle.lvdc_map.specs.Hop.{HopConstant, hop_of, word_of_hop, after, bit}
-use Rattle.lvdc_map.specs.Place.{a9}
+use Rattle.lvdc_map.specs.Place.{jumped}
 use Rattle.lvdc_isa.specs.declared.instr.Instr.{Instr}
 use Rattle.lvdc_isa.specs.declared.op.Op.{Op}
 use Rattle.lvdc_isa.specs.declared.op.Op.TheVariants.{Hop, Tnz, Tra, Tmi, WrongShift, Exm}
@@ -26,7 +26,7 @@ moves_to h to = record { place = place_fields to; saver = word_of_hop (after h) 
 
 -- a transfer from h goes to the syllable and location of its address
 abbrev pub jumps : HopConstant → ℕ → LocatorState
-jumps h address = moves_to h (record h { syl = if a9 address then 1 else 0; loc = address % 2 ^ 8 })
+jumps h address = moves_to h (jumped h address)
 
 -- what each operation makes of PLACE and SAVER at the place h
 abbrev pub located : Op → Bus → HopConstant → ℕ → LocatorState

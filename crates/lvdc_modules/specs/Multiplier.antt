@@ -2,6 +2,9 @@
 use Rattle.std.specs.Prelude.{ℕ, true, false, List}
 use Rattle.std.specs.declared.option.Option.{Option}
 use Rattle.std.specs.declared.option.Option.TheVariants.{None, Some}
+use Rattle.lvdc_map.specs.Place.{operand_kind}
+use Rattle.lvdc_map.specs.declared.operand.OperandKind.{OperandKind}
+use Rattle.lvdc_map.specs.declared.operand.OperandKind.TheVariants.{Pq}
 use Rattle.lvdc_isa.specs.declared.instr.Instr.{Instr}
 use Rattle.lvdc_isa.specs.declared.op.Op.{Op}
 use Rattle.lvdc_isa.specs.declared.op.Op.TheVariants.{Mpy, Mph, Div, Sto}
@@ -9,12 +12,9 @@ use Rattle.lvdc_mul.specs.Latches.{Latches}
 use Rattle.lvdc_mul.specs.Unit.{issued_multiply, issued_divide, cancelled, phase_of, lands_of}
 use Rattle.lvdc_modules.specs.declared.bus.Bus.{Bus}
 use Rattle.lvdc_modules.specs.declared.multiplier.MultiplierState.{MultiplierState}
-use Rattle.lvdc_modules.specs.declared.request.OperandKind.{OperandKind}
-use Rattle.lvdc_modules.specs.declared.request.OperandKind.TheVariants.{Pq}
 use Rattle.lvdc_modules.specs.declared.seen.Doing.{Doing}
 use Rattle.lvdc_modules.specs.declared.seen.Doing.TheVariants.{Executing}
 use Rattle.lvdc_modules.specs.Seen.{doing, instruction}
-use Rattle.lvdc_modules.specs.Request.{operand_kind}
 use Rattle.lvdc_modules.specs.States.{multiplier_latches}
 
 -- the working latches of the unit

@@ -1,24 +1,16 @@
 -- REQUEST: what an instruction asks of memory or a port in phase C, and the word that says so.
-use Rattle.std.specs.Prelude.{ℕ, ◌+◌, ◌*◌, ◌/◌, ◌%◌, ◌^◌, ◌<◌, ◌==◌, ◌||◌, if◌then◌else◌}
+use Rattle.std.specs.Prelude.{ℕ, ◌+◌, ◌*◌, ◌/◌, ◌%◌, ◌^◌, ◌<◌, ◌==◌, if◌then◌else◌}
 use Rattle.lvdc_map.specs.Address.{Spot}
 use Rattle.lvdc_map.specs.Banks.{bank_of}
 use Rattle.lvdc_map.specs.Hop.{HopConstant}
-use Rattle.lvdc_map.specs.Place.{a9}
+use Rattle.lvdc_map.specs.Place.{data_sector}
 use Rattle.lvdc_modules.specs.declared.request.Target.{Target}
-use Rattle.lvdc_modules.specs.declared.request.OperandKind.{OperandKind}
-use Rattle.lvdc_modules.specs.declared.request.OperandKind.TheVariants.{Memory, Pq, Saver}
 use Rattle.lvdc_modules.specs.declared.request.Request.{Request}
 use Rattle.lvdc_modules.specs.declared.request.Request.TheVariants.{Nothing, StoreA, StoreSaver, PortWrite, PortRead}
 
--- what an operand address names, whatever the place is: 775 is PQ, 776 and 777 are the saver's words, all else is memory
-abbrev pub operand_kind : ℕ → OperandKind
-operand_kind address =
-    if address == 0o775 then Pq
-    else (if address == 0o776 || address == 0o777 then Saver else Memory)
-
--- the word of memory that an operand address means at the place h: in the residual sector where A9 is 1
+-- the word of memory that an operand address means at the place h
 abbrev pub target : HopConstant → ℕ → Target
-target h address = record { dmod = h.dmod; sector = if a9 address then 15 else h.dsec; loc = address % 2 ^ 8 }
+target h address = record { dmod = h.dmod; sector = data_sector h address; loc = address % 2 ^ 8 }
 
 -- its address, once the banks are known
 abbrev pub spot_of : ℕ → Target → Spot

@@ -1,7 +1,7 @@
 -- SELECTOR, module 4: where operands stand.
-use Rattle.std.specs.Prelude.{ℕ, ◌/◌, ◌%◌, ◌^◌, false, List}
+use Rattle.std.specs.Prelude.{ℕ, false, List}
 use Rattle.lvdc_map.specs.Hop.{HopConstant, hop_of, word_of_hop}
-use Rattle.lvdc_map.specs.Place.{a9}
+use Rattle.lvdc_map.specs.Place.{with_data}
 use Rattle.lvdc_isa.specs.declared.instr.Instr.{Instr}
 use Rattle.lvdc_isa.specs.declared.op.Op.{Op}
 use Rattle.lvdc_isa.specs.declared.op.Op.TheVariants.{Hop, Cds}
@@ -15,10 +15,6 @@ use Rattle.lvdc_modules.specs.States.{selector_latches}
 -- the fields that DATA keeps: the data fields alone
 abbrev pub data_fields : HopConstant → ℕ
 data_fields h = word_of_hop (record h { imod = 0; isec = 0; syl = 0; loc = 0; dupin = false })
-
--- the place with the data fields of an address: module in bits 6 to 4, sector in bits 3 to 0, DUPDN in bit 8
-abbrev pub with_data : HopConstant → ℕ → HopConstant
-with_data h address = record h { dmod = address / 2 ^ 4 % 8; dsec = address % 16; dupdn = a9 address }
 
 -- what each operation makes of DATA at the place h
 abbrev pub selected : Op → Bus → HopConstant → ℕ → SelectorState

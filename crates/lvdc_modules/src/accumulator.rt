@@ -2,14 +2,14 @@ ghost use Rattle.std.specs.Prelude.{◌≡◌, refl};
 ghost use Rattle.std.proofs.Common.{ap};
 ghost use Rattle.lvdc_modules.specs.States.{accumulator_latches, accumulator_of};
 ghost use Rattle.lvdc_isa.specs.Instr.{takes_operand};
-ghost use Rattle.lvdc_modules.specs.Request.{operand_kind};
-ghost use Rattle.lvdc_modules.specs.Accumulator.{shifted, accumulated, a_by, operand_from, operand_by, accumulator_row};
+ghost use Rattle.lvdc_map.specs.Place.{operand_kind};
+ghost use Rattle.lvdc_modules.specs.Accumulator.{accumulated, a_by, operand_from, operand_by, accumulator_row};
 
+use crate::Bus;
 use crate::multiplier::working;
-use crate::request::operand_kind;
 use crate::seen::{Doing, doing_of, instruction_of};
-use crate::{Bus, OperandKind};
-use lvdc_isa::{Instr, Op};
+use lvdc_isa::{Instr, Op, shifted};
+use lvdc_map::{OperandKind, is_a9};
 use lvdc_mul::Kind;
 use lvdc_vote::{LogicModule, Vote, flipped, forced, majority};
 use lvdc_word::Word;
@@ -83,19 +83,6 @@ impl Vote for AccumulatorState {
     ghost exact = { λ s t e. ap accumulator_of e };
 }
 
-/// The accumulator shifted by a pattern.
-fn shifted(a: Word, pattern: u16) -> Word
-    ensures { result ≡ shifted a pattern }
-{
-    match pattern {
-        0o1 => a.right(1),
-        0o2 => a.right(2),
-        0o20 => a.left(1),
-        0o40 => a.left(2),
-        _ => Word::ZERO,
-    }
-}
-
 /// What the operation makes of the accumulator.
 fn accumulated(op: Op, bus: &Bus, address: u16) -> Word
     ensures { result ≡ accumulated op bus.now address }
@@ -106,7 +93,7 @@ fn accumulated(op: Op, bus: &Bus, address: u16) -> Word
         Op::And => a.both(operand),
         Op::Add => a.plus(operand),
         Op::Xor => a.differ(operand),
-        Op::Pio => { if address >> 8 == 1 { bus.port } else { a } }
+        Op::Pio => { if is_a9(address) { bus.port } else { a } }
         Op::Rsu => operand.minus(a),
         Op::Shf => shifted(a, address & 0x7f),
         Op::Cla => operand,
@@ -118,7 +105,7 @@ fn accumulated(op: Op, bus: &Bus, address: u16) -> Word
 fn operand_named(bus: &Bus, address: u16) -> Word
     ensures { result ≡ operand_from (operand_kind address) bus.now }
 {
-    match operand_kind(address) {
+    match OperandKind::of(address) {
         OperandKind::Pq => bus.multiplier.pq,
         OperandKind::Memory | OperandKind::Saver => bus.memory,
     }

@@ -4,11 +4,10 @@ ghost use Rattle.lvdc_modules.specs.States.{exchange_latches, exchange_of};
 ghost use Rattle.lvdc_modules.specs.Request.{IsRequest};
 ghost use Rattle.lvdc_modules.specs.Exchange.{requested, stopped, exchange_row};
 
-use crate::request::operand_kind;
 use crate::seen::{Doing, doing_of, here_of, instruction_of};
-use crate::{Bus, OperandKind, Request, Target};
+use crate::{Bus, Request, Target};
 use lvdc_isa::Op;
-use lvdc_map::Hop;
+use lvdc_map::{Hop, OperandKind, is_a9};
 use lvdc_vote::{LogicModule, Vote, flipped, forced, majority};
 use lvdc_word::Word;
 
@@ -89,13 +88,13 @@ fn requested(op: Op, place: Hop, address: u16) -> Request
 {
     let port = (address & 0xff) as u8;
     match op {
-        Op::Sto => match operand_kind(address) {
+        Op::Sto => match OperandKind::of(address) {
             OperandKind::Memory => Request::StoreA(Target::at(place, address)),
             OperandKind::Saver => Request::StoreSaver(Target::at(place, address)),
             OperandKind::Pq => Request::Nothing,
         },
         Op::Pio => {
-            if address >> 8 == 1 {
+            if is_a9(address) {
                 Request::PortRead(port)
             } else {
                 Request::PortWrite(port)

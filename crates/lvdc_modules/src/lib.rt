@@ -23,7 +23,7 @@ pub use exchange::{ExchangeState, Exchanger};
 pub use locator::{Locator, LocatorState};
 pub use multiplier::{Multiplier, MultiplierState};
 pub use numbers::latches;
-pub use request::{OperandKind, Request, Target};
+pub use request::{Request, Target};
 pub use seen::{Doing, Phase};
 pub use selector::{Selector, SelectorState};
 pub use timer::{Timer, TimerState};

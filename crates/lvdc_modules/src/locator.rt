@@ -1,4 +1,4 @@
-ghost use Rattle.std.specs.Prelude.{◌≡◌, refl, ◌<◌, ◌^◌};
+ghost use Rattle.std.specs.Prelude.{◌≡◌, refl};
 ghost use Rattle.std.proofs.Common.{ap};
 ghost use Rattle.lvdc_modules.specs.States.{locator_latches, locator_of};
 ghost use Rattle.lvdc_modules.specs.Locator.{place_fields, moves_on, moves_to, jumps, located, locator_row};
@@ -114,20 +114,13 @@ fn moves_to(place: Hop, to: Hop) -> LocatorState
 
 /// To the syllable and location of an address in the same sector.
 fn jumps(place: Hop, address: u16) -> LocatorState
-    requires { address < 2 ^ 9 }
     ensures { result ≡ jumps place address }
 {
-    let to = Hop {
-        syl: (address >> 8) as u8,
-        loc: (address & 0xff) as u8,
-        ..place
-    };
-    moves_to(place, to)
+    moves_to(place, place.jumped(address))
 }
 
 /// Where the operation goes on.
 fn located(op: Op, bus: &Bus, place: Hop, address: u16) -> LocatorState
-    requires { address < 2 ^ 9 }
     ensures { result ≡ located op bus.now place address }
 {
     let a = bus.accumulator.a.value();

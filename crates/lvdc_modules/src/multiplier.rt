@@ -3,10 +3,10 @@ ghost use Rattle.std.proofs.Common.{ap};
 ghost use Rattle.lvdc_modules.specs.States.{multiplier_latches, multiplier_of};
 ghost use Rattle.lvdc_modules.specs.Multiplier.{working, unit_pq, unit_working, pq_after, working_after, multiplier_with, multiplier_row};
 
-use crate::request::operand_kind;
+use crate::Bus;
 use crate::seen::{Doing, doing_of, instruction_of};
-use crate::{Bus, OperandKind};
 use lvdc_isa::Op;
+use lvdc_map::OperandKind;
 use lvdc_mul::Unit;
 use lvdc_vote::{LogicModule, Vote, flipped, forced, majority};
 use lvdc_word::Word;
@@ -153,7 +153,7 @@ fn unit_working(bus: &Bus) -> Unit
 fn pq_after(op: Op, bus: &Bus, address: u16) -> Word
     ensures { result ≡ pq_after op bus.now address }
 {
-    if op == Op::Sto && operand_kind(address) == OperandKind::Pq {
+    if op == Op::Sto && OperandKind::of(address) == OperandKind::Pq {
         bus.accumulator.a
     } else {
         unit_pq(bus)
@@ -170,7 +170,7 @@ fn working_after(op: Op, bus: &Bus, address: u16) -> Unit
         Op::Mpy => Unit::issue_multiply(a, m, false),
         Op::Mph => Unit::issue_multiply(a, m, true),
         Op::Div => Unit::issue_divide(a, m),
-        Op::Sto => match operand_kind(address) {
+        Op::Sto => match OperandKind::of(address) {
             OperandKind::Pq => unit_working(bus).cancel(),
             OperandKind::Memory | OperandKind::Saver => unit_working(bus),
         },

@@ -1,20 +1,9 @@
 ghost use Rattle.std.specs.Prelude.{◌≡◌, ◌<◌, ◌^◌, ◌-◌, true};
 ghost use Rattle.lvdc_map.specs.Banks.{is_there};
-ghost use Rattle.lvdc_modules.specs.Request.{operand_kind, target, spot_of, target_bits, word_of_request, target_in, request_of, IsTarget, IsRequest};
+ghost use Rattle.lvdc_modules.specs.Request.{target, spot_of, target_bits, word_of_request, target_in, request_of, IsTarget, IsRequest};
 
 use lvdc_map::{Address, Banks, Hop};
 use lvdc_word::Word;
-
-/// What an operand address names, whatever the data place is.
-#[derive(Clone, Copy, Debug, PartialEq, Eq)]
-pub enum OperandKind {
-    /// A word of memory.
-    Memory,
-    /// The product-quotient register.
-    Pq,
-    /// A word of memory that STO fills with the saver.
-    Saver,
-}
 
 /// A word of memory by the number of its module, before the banks are known.
 #[derive(Clone, Copy, Debug, PartialEq, Eq)]
@@ -42,17 +31,6 @@ pub enum Request {
     PortRead(u8),
 }
 
-/// What the address names.
-pub(crate) fn operand_kind(address: u16) -> OperandKind
-    ensures { result ≡ operand_kind address }
-{
-    match address {
-        0o775 => OperandKind::Pq,
-        0o776 | 0o777 => OperandKind::Saver,
-        _ => OperandKind::Memory,
-    }
-}
-
 impl Target {
     /// The word that an address means at a place.
     pub(crate) fn at(place: Hop, address: u16) -> Target
@@ -62,7 +40,7 @@ impl Target {
     {
         Target {
             dmod: place.dmod,
-            sector: if address >> 8 == 1 { 15 } else { place.dsec },
+            sector: place.data_sector(address),
             loc: (address & 0xff) as u8,
         }
     }

@@ -1,7 +1,7 @@
-ghost use Rattle.std.specs.Prelude.{◌≡◌, refl, ◌<◌, ◌^◌};
+ghost use Rattle.std.specs.Prelude.{◌≡◌, refl};
 ghost use Rattle.std.proofs.Common.{ap};
 ghost use Rattle.lvdc_modules.specs.States.{selector_latches, selector_of};
-ghost use Rattle.lvdc_modules.specs.Selector.{data_fields, with_data, selected, selector_row};
+ghost use Rattle.lvdc_modules.specs.Selector.{data_fields, selected, selector_row};
 
 use crate::Bus;
 use crate::seen::{Doing, doing_of, here_of, instruction_of};
@@ -74,22 +74,8 @@ fn data_word(place: Hop) -> Word
     .to_word()
 }
 
-/// The place with the data fields of an address.
-fn with_data(place: Hop, address: u16) -> Hop
-    requires { address < 2 ^ 9 }
-    ensures { result ≡ with_data place address }
-{
-    Hop {
-        dmod: ((address >> 4) & 7) as u8,
-        dsec: (address & 15) as u8,
-        dupdn: address >> 8 == 1,
-        ..place
-    }
-}
-
 /// Where operands stand after the operation.
 fn selected(op: Op, bus: &Bus, place: Hop, address: u16) -> SelectorState
-    requires { address < 2 ^ 9 }
     ensures { result ≡ selected op bus.now place address }
 {
     match op {
@@ -97,7 +83,7 @@ fn selected(op: Op, bus: &Bus, place: Hop, address: u16) -> SelectorState
             hold_place: data_word(Hop::of(bus.accumulator.operand)),
         },
         Op::Cds => SelectorState {
-            hold_place: data_word(with_data(place, address)),
+            hold_place: data_word(place.with_data(address)),
         },
         _ => bus.selector,
     }

@@ -2,8 +2,8 @@
 use Rattle.std.specs.Prelude.{◌≡◌, ℕ, ◌+◌, ◌*◌}
 use Rattle.std.specs.declared.option.Option.{Option}
 use Rattle.std.specs.declared.option.Option.TheVariants.{None, Some}
+use Rattle.lvdc_map.specs.Memory.{IsMemory}
 use Rattle.lvdc_plain.specs.Plain.{PlainState}
-use Rattle.lvdc_plain.specs.Stands.{IsMemory}
 use Rattle.lvdc_plain.specs.declared.processor.Processor.{Processor}
 use Rattle.lvdc_plain.specs.declared.records.PlainEnd.{PlainEnd}
 use Rattle.lvdc_plain.specs.declared.records.PlainEnd.TheVariants.{Stopped}

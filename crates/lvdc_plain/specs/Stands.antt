@@ -1,9 +1,8 @@
 -- When a plain machine and its devices stand where the plain run of an opening is.
-use Rattle.std.specs.Prelude.{◌≡◌, ◌≢◌, ℕ, ◌+◌, ◌*◌, ◌<◌, Bool, true, List, length, slice_index}
+use Rattle.std.specs.Prelude.{◌≡◌, ◌≢◌, ℕ, ◌+◌, ◌*◌, ◌<◌, Bool, true, List}
 use Rattle.std.specs.declared.option.Option.{Option}
 use Rattle.std.specs.declared.option.Option.TheVariants.{None, Some}
-use Rattle.lvdc_map.specs.Address.{Spot, IsAddress, number_of}
-use Rattle.lvdc_map.specs.Memory.{Memory, word_at}
+use Rattle.lvdc_map.specs.Memory.{IsMemory}
 use Rattle.lvdc_port.specs.Causes.{Rose}
 use Rattle.lvdc_port.specs.Device as device
 use Rattle.lvdc_port.specs.Devices.{port_of}
@@ -15,11 +14,6 @@ use Rattle.lvdc_plain.specs.View.{View}
 use Rattle.lvdc_plain.specs.declared.records.PlainEnd.{PlainEnd}
 use Rattle.lvdc_plain.specs.declared.records.PlainEnd.TheVariants.{Done, Stopped, Device}
 use Rattle.lvdc_plain.specs.declared.records.Stop.{Stop}
-
--- the list holds the memory's word at the number of each address
-pub record IsMemory (words : List ℕ) (m : Memory) : Type 0 where
-  pub size : length words ≡ 32768
-  pub same : (at : Spot) → IsAddress at → slice_index words (number_of at) ≡ word_at m at
 
 -- the machine shows this state: the same registers, memory, log and times
 pub record Shows (m : View) (p : PlainState) : Type 0 where

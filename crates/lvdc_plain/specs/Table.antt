@@ -1,15 +1,16 @@
 -- The instruction table, and one instruction time.
-use Rattle.std.specs.Prelude.{ℕ, zero, suc, ◌+◌, ◌-◌, ◌/◌, ◌%◌, ◌^◌, Bool, true, false, ◌==◌, ◌&&◌, if◌then◌else◌, List, [], ◌∷◌, ◌++◌, bit_and, bit_xor}
+use Rattle.std.specs.Prelude.{ℕ, zero, suc, ◌+◌, ◌-◌, ◌%◌, ◌^◌, Bool, true, false, ◌==◌, ◌&&◌, if◌then◌else◌, List, [], ◌∷◌, ◌++◌, bit_and, bit_xor}
 use Rattle.std.specs.declared.option.Option.{Option}
 use Rattle.std.specs.declared.option.Option.TheVariants.{None, Some}
-use Rattle.lvdc_word.specs.Word.{sum, difference, shifted_right, shifted_left}
+use Rattle.lvdc_word.specs.Word.{sum, difference}
 use Rattle.lvdc_word.specs.Results.{product, quotient}
 use Rattle.lvdc_map.specs.Hop.{HopConstant, hop_of, word_of_hop, after, fetch_of, syllable_at, bit}
 use Rattle.lvdc_map.specs.Memory as memory
-use Rattle.lvdc_map.specs.Place.{place_of, a9}
+use Rattle.lvdc_map.specs.Place.{place_of, a9, jumped, with_data}
 use Rattle.lvdc_map.specs.declared.place.Place.{Place}
 use Rattle.lvdc_map.specs.declared.place.Place.TheVariants.{Memory, Pq, Saver}
 use Rattle.lvdc_isa.specs.Instr.{instr, takes_operand}
+use Rattle.lvdc_isa.specs.Shift.{shifted}
 use Rattle.lvdc_isa.specs.declared.instr.Instr.{Instr}
 use Rattle.lvdc_isa.specs.declared.op.Op.{Op}
 use Rattle.lvdc_isa.specs.declared.op.Op.TheVariants.{Hop, Mpy, Sub, Div, Tnz, Mph, And, Add, Tra, Xor, Pio, Sto, Tmi, Rsu, Cds, Shf, WrongShift, Exm, Cla}
@@ -80,23 +81,13 @@ goes_to p place = record p { place = place; saver = word_of_hop (after p.place) 
 
 -- goes to the syllable and location of an address in the same sector
 abbrev pub transfers : PlainState → ℕ → PlainState
-transfers p address = goes_to p (record p.place { syl = if a9 address then 1 else 0; loc = address % 2 ^ 8 })
+transfers p address = goes_to p (jumped p.place address)
 
 -- stores by place; what is stored in PQ stands there after the landing
 abbrev pub stores : PlainState → Place → PlainState
 stores p (Memory at) = record (goes_on p) { memory = memory.stored p.memory at p.a }
 stores p (Saver at) = record (goes_on p) { memory = memory.stored p.memory at p.saver }
 stores p Pq = goes_on p
-
--- the place with another data module, data sector and DUPDN
-abbrev pub with_data : HopConstant → ℕ → HopConstant
-with_data place address = record place { dmod = address / 2 ^ 4 % 8; dsec = address % 16; dupdn = a9 address }
-
--- the accumulator shifted by a pattern
-abbrev pub shifted : ℕ → ℕ → ℕ
-shifted a pattern =
-    if pattern == 0o1 then shifted_right a 1 else (if pattern == 0o2 then shifted_right a 2
-    else (if pattern == 0o20 then shifted_left a 1 else (if pattern == 0o40 then shifted_left a 2 else 0)))
 
 -- what an instruction does to place, accumulator, saver, memory, hold and stop
 abbrev pub effect : Op → PlainState → ℕ → ℕ → PlainState

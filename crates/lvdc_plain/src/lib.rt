@@ -5,7 +5,6 @@ mod plain;
 mod processor;
 mod records;
 mod results;
-mod words;
 
 pub use plain::Plain;
 pub use records::{Exchange, Pending, PlainEnd, Stop, Unplug, Visible};

@@ -3,23 +3,22 @@
 ghost use Rattle.std.specs.Prelude.{◌≡◌, ◌≢◌, ℕ, ◌+◌, ◌-◌, ◌*◌, ◌%◌, ◌^◌, ◌≤◌, ◌<◌, length, map, true, IsSome, IsNone, slice_index, vec_len, vec_capacity, OnOk, OnErr, IfOk, IfErr, Option, Some, None};
 ghost use Rattle.lvdc_map.specs.Address.{number_of};
 ghost use Rattle.lvdc_map.specs.Banks.{is_there};
-ghost use Rattle.lvdc_map.specs.Memory.{Memory, word_at, are_rising, AllThere};
+ghost use Rattle.lvdc_map.specs.Memory.{Memory, word_at, IsMemory, are_rising, AllThere};
 ghost use Rattle.lvdc_port.specs.Causes.{Rose};
 ghost use Rattle.lvdc_port.specs.Devices.{has_port, count_at, HasSpare, HoldWords, AreDistinct};
 ghost use Rattle.lvdc_plain.specs.Lists.{Left};
 ghost use Rattle.lvdc_plain.specs.Plain.{PlainState};
 ghost use Rattle.lvdc_plain.specs.Processor.{end_of};
 ghost use Rattle.lvdc_plain.specs.Run.{Opening};
-ghost use Rattle.lvdc_plain.specs.Stands.{IsMemory, Shows, Names, Stands, Caused};
+ghost use Rattle.lvdc_plain.specs.Stands.{Shows, Names, Stands, Caused};
 ghost use Rattle.lvdc_plain.specs.Table.{answered, exchanged, logged, makes, waits};
 ghost use Rattle.lvdc_plain.specs.View.{visible_of, answer_of_end, ByInstruction, IsPlainEnd};
 ghost use Rattle.lvdc_plain.specs.declared.records.PlainEnd.TheVariants.{Device};
 
-use crate::processor::{Processor, is_a9};
+use crate::processor::Processor;
 use crate::records::{Exchange, PlainEnd, Stop, Unplug, Visible};
-use crate::words::Words;
 use lvdc_isa::{Instr, Op};
-use lvdc_map::{Address, Banks, Hop, Placed};
+use lvdc_map::{Address, Banks, Hop, Placed, Words, is_a9};
 use lvdc_port::{DeviceFault, PortDevice, PortRequest, exchange, prepare_all, unplug};
 use lvdc_word::{NoMemory, Word};
 use std::alloc::Global;

@@ -3,19 +3,17 @@
 ghost use Rattle.std.specs.Prelude.{◌≡◌, ◌-◌, ◌<◌, ℕ, None, if◌then◌else◌};
 ghost use Rattle.lvdc_isa.specs.Instr.{takes_operand};
 ghost use Rattle.lvdc_map.specs.Hop.{after, word_of_hop, bit};
-ghost use Rattle.lvdc_map.specs.Memory.{Memory};
-ghost use Rattle.lvdc_map.specs.Place.{a9};
+ghost use Rattle.lvdc_map.specs.Memory.{Memory, IsMemory};
+ghost use Rattle.lvdc_map.specs.Place.{with_data};
 ghost use Rattle.lvdc_plain.specs.Plain.{PlainState, started};
 ghost use Rattle.lvdc_plain.specs.Processor.{Holds, LeavesResults};
-ghost use Rattle.lvdc_plain.specs.Stands.{IsMemory};
-ghost use Rattle.lvdc_plain.specs.Table.{effect, fetched_instr, goes_on, issues, landed_a, landed_pq, later, makes, operand_place, pending_after, pq_after, request_by, shifted, stores, transfers, waits, with_data, word_of_place};
+ghost use Rattle.lvdc_plain.specs.Table.{effect, fetched_instr, goes_on, issues, landed_a, landed_pq, later, makes, operand_place, pending_after, pq_after, request_by, stores, transfers, waits, word_of_place};
 ghost use Rattle.lvdc_plain.specs.View.{ByInstruction};
 
 use crate::records::{Pending, Stop};
 use crate::results::{product, quotient};
-use crate::words::Words;
-use lvdc_isa::{Instr, Op, decode};
-use lvdc_map::{Banks, Hop, Place, operand_place};
+use lvdc_isa::{Instr, Op, decode, shifted};
+use lvdc_map::{Banks, Hop, Place, Words, is_a9, operand_place};
 use lvdc_port::PortRequest;
 use lvdc_word::Word;
 
@@ -32,32 +30,11 @@ pub struct Processor {
     pub words: Words,
 }
 
-/// Is A9, the highest of the nine bits of an address, 1?
-pub fn is_a9(address: u16) -> bool
-    requires { address < 512 }
-    ensures { result ≡ a9 address }
-{
-    address >> 8 == 1
-}
-
 /// Is bit 25, the sign, 1?
 fn is_negative(word: Word) -> bool
     ensures { result ≡ bit word 25 }
 {
     (word.value() >> 25) & 1 == 1
-}
-
-/// The accumulator shifted by a pattern; pattern 000 leaves nothing.
-fn shifted(a: Word, pattern: u16) -> Word
-    ensures { result ≡ shifted a pattern }
-{
-    match pattern {
-        0o1 => a.right(1),
-        0o2 => a.right(2),
-        0o20 => a.left(1),
-        0o40 => a.left(2),
-        _ => Word::ZERO,
-    }
 }
 
 impl Processor {
@@ -155,21 +132,14 @@ impl Processor {
 
     /// Goes to the syllable and location of an address in the same sector.
     fn transfer(&mut self, address: u16)
-        requires { address < 512 }
         ensures holds { (p : PlainState) → Holds self.old p → Holds self.new (transfers p address) }
         ensures results { LeavesResults self.old self.new }
     {
-        let place = self.place;
-        self.go_to(Hop {
-            syl: if is_a9(address) { 1 } else { 0 },
-            loc: (address & 255) as u8,
-            ..place
-        });
+        self.go_to(self.place.jumped(address));
     }
 
     /// Transfers where a condition is met, and else goes on.
     fn transfer_where(&mut self, met: bool, address: u16)
-        requires { address < 512 }
         ensures holds { (p : PlainState) → Holds self.old p → Holds self.new (if met then transfers p address else goes_on p) }
         ensures results { LeavesResults self.old self.new }
     {
@@ -182,15 +152,9 @@ impl Processor {
 
     /// Takes another data module, data sector and DUPDN from an address.
     fn set_data(&mut self, address: u16)
-        requires { address < 512 }
         ensures { self.new ≡ record self.old { place = with_data (after self.old.place) address } }
     {
-        self.place = Hop {
-            dmod: ((address >> 4) & 7) as u8,
-            dsec: (address & 15) as u8,
-            dupdn: is_a9(address),
-            ..self.place.after()
-        };
+        self.place = self.place.after().with_data(address);
     }
 
     /// Stores by place. What is stored in PQ has to wait for the landing.

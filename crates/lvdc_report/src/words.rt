@@ -1,6 +1,5 @@
 ghost use Rattle.std.specs.Prelude.{◌≡◌, ◌+◌, ◌*◌, ◌≤◌, ◌++◌, length, OnOk};
-ghost use Rattle.lvdc_map.specs.Memory.{Memory};
-ghost use Rattle.lvdc_plain.specs.Stands.{IsMemory};
+ghost use Rattle.lvdc_map.specs.Memory.{Memory, IsMemory};
 ghost use Rattle.lvdc_report.specs.Report.{memory_line, line_at, memory_text};
 
 use crate::end::put_address;

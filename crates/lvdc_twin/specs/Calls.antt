@@ -1,5 +1,5 @@
 -- What a read and a write of the memory of two twins answer and leave.
-use Rattle.std.specs.Prelude.{◌≡◌, ℕ, ◌-◌, ◌/◌, ◌<◌, Bool, true, false, not, ◌==◌, ◌&&◌, ◌||◌, if◌then◌else◌, List, Option, Some, None, Result, Ok, Err, IsOkAnd}
+use Rattle.std.specs.Prelude.{◌≡◌, ℕ, ◌-◌, ◌/◌, ◌<◌, Bool, true, false, not, ◌&&◌, if◌then◌else◌, List, Option, Some, None, Result, Ok, Err, IsOkAnd}
 use Rattle.lvdc_word.specs.Cell.{code_of, is_good, word_in}
 use Rattle.lvdc_map.specs.Address.{Spot, is_same}
 use Rattle.lvdc_map.specs.Banks.{is_simplex, home, holds, held_at}
@@ -7,7 +7,7 @@ use Rattle.lvdc_map.specs.Memory.{word_at, memory_of}
 use Rattle.lvdc_map.specs.declared.placed.Placed.{Placed}
 use Rattle.lvdc_twin.specs.declared.both_bad.BothBad.{BothBad}
 use Rattle.lvdc_twin.specs.declared.read_out.ReadOut.{ReadOut}
-use Rattle.lvdc_twin.specs.Store.{Store, IsPlace, nothing, stored_in, stuck_in, is_dead, selected_in, shown_in, with_word, with_selected}
+use Rattle.lvdc_twin.specs.Store.{Store, IsPlace, nothing, stored_in, stuck_in, is_dead, selected_in, shown_in, survives, with_word, with_selected}
 
 -- ---- a new memory
 
@@ -56,12 +56,9 @@ after_answer (Err _) t place = t
 
 -- ---- the law of repair
 
--- some twin shows the code of a word, and each twin that shows another cell shows a bad one
+-- the code of a word survives in what the twins show
 abbrev pub shows_word : Store → Spot → ℕ → Bool
-shows_word t place w =
-    let zero_shows = shown_in t 0 place == code_of w in
-    let one_shows = shown_in t 1 place == code_of w in
-    (zero_shows || one_shows) && (zero_shows || not (is_good (shown_in t 0 place))) && (one_shows || not (is_good (shown_in t 1 place)))
+shows_word t place w = survives (code_of w) (shown_in t 0 place) (shown_in t 1 place)
 
 -- a twin that isn't dead and shows a bad cell is mended by a read
 abbrev pub is_mended : Store → ℕ → Spot → Bool

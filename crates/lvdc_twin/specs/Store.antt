@@ -1,6 +1,6 @@
 -- The memory of two twins: what each stores and shows, where it is dead, and which is selected.
-use Rattle.std.specs.Prelude.{◌≡◌, ℕ, ◌+◌, ◌*◌, ◌<◌, Bool, false, if◌then◌else◌, List, length, slice_index, slice_index_or, slice_set}
-use Rattle.lvdc_word.specs.Cell.{code_of, with_stuck}
+use Rattle.std.specs.Prelude.{◌≡◌, ℕ, ◌+◌, ◌*◌, ◌<◌, Bool, false, not, ◌==◌, ◌&&◌, ◌||◌, if◌then◌else◌, List, length, slice_index, slice_index_or, slice_set}
+use Rattle.lvdc_word.specs.Cell.{code_of, with_stuck, is_good}
 use Rattle.lvdc_map.specs.Address.{Spot, number_of}
 use Rattle.lvdc_twin.specs.declared.stuck.Stuck.{Stuck}
 
@@ -58,6 +58,11 @@ abbrev pub shown_in : Store → ℕ → Spot → ℕ
 shown_in t twin place =
     if is_dead t twin place.pair then 0
     else with_stuck (stored_in t twin place) (stuck_in t twin place).mask (stuck_in t twin place).value
+
+-- a cell survives in what two twins show where one of them shows it, and each that shows another cell shows a bad one
+abbrev pub survives : ℕ → ℕ → ℕ → Bool
+survives cell zeroth first =
+    (zeroth == cell || first == cell) && (zeroth == cell || not (is_good zeroth)) && (first == cell || not (is_good first))
 
 -- ---- one change
 

@@ -1,6 +1,5 @@
 use Rattle.std.proofs.Common.{◌≡◌, ◌+◌, ◌*◌, ◌≤◌, ◌++◌, length}
-use Rattle.lvdc_map.specs.Memory.{Memory}
-use Rattle.lvdc_plain.specs.Stands.{IsMemory}
+use Rattle.lvdc_map.specs.Memory.{Memory, IsMemory}
 use Rattle.lvdc_report.specs.Report.{lines_below}
 use Rattle.lvdc_report.proofs.words.put_memory.Given as goal
 

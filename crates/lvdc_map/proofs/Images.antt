@@ -3,9 +3,8 @@ use Rattle.std.proofs.Common.{◌≡◌, ℕ, zero, suc, ◌<◌, List, [], ◌�
 use Rattle.std.proofs.Math.ListN.{replicate}
 use Rattle.std.proofs.lemmas.List.{length-replicate, get_or-replicate}
 use Rattle.lvdc_map.specs.Address.{number_of}
-use Rattle.lvdc_map.specs.Memory.{Memory, filled_with, stored, loaded}
+use Rattle.lvdc_map.specs.Memory.{Memory, filled_with, stored, loaded, IsMemory}
 use Rattle.lvdc_map.specs.declared.placed.Placed.{Placed}
-use Rattle.lvdc_plain.specs.Stands.{IsMemory}
 
 -- 0 at every address
 pub zeros : (n : ℕ) (words : List ℕ) → n ≡ 32768 → words ≡ replicate n 0 → IsMemory words (filled_with 0)

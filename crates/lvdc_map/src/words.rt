@@ -2,10 +2,9 @@
 
 ghost use Rattle.std.specs.Prelude.{◌≡◌, [], IfOk, slice_index, slice_set};
 ghost use Rattle.lvdc_map.specs.Address.{number_of};
-ghost use Rattle.lvdc_map.specs.Memory.{Memory, word_at, stored, memory_of};
-ghost use Rattle.lvdc_plain.specs.Stands.{IsMemory};
+ghost use Rattle.lvdc_map.specs.Memory.{Memory, word_at, stored, memory_of, IsMemory};
 
-use lvdc_map::{Address, Placed};
+use crate::{Address, Placed};
 use lvdc_word::{NoMemory, Word};
 use std::alloc::Global;
 use std::marker::Model;

@@ -1,8 +1,7 @@
 use Rattle.std.proofs.Common.{add-one, subst}
-use Rattle.lvdc_map.specs.Memory.{filled_with}
-use Rattle.lvdc_plain.proofs.Images.{loaded-more}
-use Rattle.lvdc_plain.specs.Stands.{IsMemory}
-use Rattle.lvdc_plain.proofs.words.Words.of_image.Goals as goal
+use Rattle.lvdc_map.specs.Memory.{filled_with, IsMemory}
+use Rattle.lvdc_map.proofs.Images.{loaded-more}
+use Rattle.lvdc_map.proofs.words.Words.of_image.Goals as goal
 
 pub loop-placed-preserved : goal.loop-placed-preserved
 loop-placed-preserved c =
