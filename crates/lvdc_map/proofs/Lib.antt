@@ -1,3 +1,5 @@
+pub mod Addresses
+pub mod Holders
 pub mod HopLaws
 mod MapRows
 pub mod Images

@@ -1,5 +1,5 @@
 -- The banks of the memory. A pair of modules is duplex, and then both hold the same words, or simplex.
-use Rattle.std.specs.Prelude.{ℕ, ◌+◌, ◌-◌, ◌*◌, ◌/◌, ◌%◌, ◌^◌, Bool, ◌==◌, ◌||◌, nat_lt, if◌then◌else◌}
+use Rattle.std.specs.Prelude.{◌≡◌, ℕ, ◌+◌, ◌-◌, ◌*◌, ◌/◌, ◌%◌, ◌^◌, ◌<◌, Bool, true, ◌==◌, ◌||◌, nat_lt, if◌then◌else◌}
 use Rattle.lvdc_map.specs.Address.{Spot}
 
 -- which pairs are simplex: a bit each
@@ -13,6 +13,11 @@ bank_of banks number = if is_simplex banks (number / 2) then number / 2 + 4 * (n
 -- a bank from 4 on is there where its pair is simplex
 abbrev pub is_there : ℕ → Spot → Bool
 is_there banks at = nat_lt at.pair 4 || is_simplex banks (at.pair - 4)
+
+-- an address whose bank is there
+pub record HasBank (banks : ℕ) (at : Spot) : Type 0 where
+  pub small : at.pair < 8
+  pub there : is_there banks at ≡ true
 
 -- the place of an address in the modules of its pair
 abbrev pub home : Spot → Spot

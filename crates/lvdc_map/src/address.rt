@@ -1,4 +1,5 @@
-ghost use Rattle.std.specs.Prelude.{◌≡◌, ◌<◌, SomeIff};
+ghost use Rattle.std.specs.Prelude.{◌≡◌, ◌<◌, true, SomeIff};
+ghost use Rattle.lvdc_map.specs.Address.{Spot, is_same};
 
 use std::marker::Model;
 
@@ -63,3 +64,8 @@ impl Address {
         }
     }
 }
+
+/// Addresses that are the same are equal.
+pub fn same_address()
+    ensures { (a b : Spot) → is_same a b ≡ true → a ≡ b }
+{}

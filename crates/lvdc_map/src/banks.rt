@@ -1,4 +1,6 @@
-ghost use Rattle.std.specs.Prelude.{◌≡◌, ◌<◌, SomeIff};
+ghost use Rattle.std.specs.Prelude.{◌≡◌, ◌<◌, ◌%◌, ℕ, true, false, SomeIff};
+ghost use Rattle.lvdc_map.specs.Address.{Spot};
+ghost use Rattle.lvdc_map.specs.Banks.{is_simplex, bank_of, holds, HasBank};
 
 use crate::Address;
 use std::marker::Model;
@@ -68,3 +70,9 @@ impl Banks {
         at.pair < 4 || self.simplex(at.pair - 4)
     }
 }
+
+/// The bank that the number of a module means is there, and both twins hold the addresses of a duplex pair that are there.
+pub fn banks_are_held()
+    ensures there { (banks number : ℕ) (at : Spot) → number < 8 → at.pair ≡ bank_of banks number → HasBank banks at }
+    ensures duplex { (banks twin : ℕ) (at : Spot) → HasBank banks at → is_simplex banks (at.pair % 4) ≡ false → holds banks twin at ≡ true }
+{}

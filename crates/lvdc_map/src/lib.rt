@@ -9,8 +9,8 @@ mod place;
 mod placed;
 mod words;
 
-pub use address::Address;
-pub use banks::Banks;
+pub use address::{Address, same_address};
+pub use banks::{Banks, banks_are_held};
 pub use hop::Hop;
 pub use operand::{OperandKind, is_a9, operand_place};
 pub use place::Place;

@@ -1,11 +1,12 @@
--- The seven modules side by side: their rows in the order of their numbers, and the bus of lists of latches.
+-- The seven modules side by side: their rows in the order of their numbers, the bus of lists of latches, and the start.
 use Rattle.std.specs.Prelude.{ℕ, List, [], ◌∷◌, slice_index_or}
+use Rattle.lvdc_map.specs.Hop.{HopConstant}
 use Rattle.lvdc_modules.specs.declared.bus.Bus.{Bus}
 use Rattle.lvdc_modules.specs.States.{timer_of, locator_of, decoder_of, selector_of, accumulator_of, multiplier_of, exchange_of}
 use Rattle.lvdc_modules.specs.Timer.{timer_row}
-use Rattle.lvdc_modules.specs.Locator.{locator_row}
+use Rattle.lvdc_modules.specs.Locator.{place_fields, locator_row}
 use Rattle.lvdc_modules.specs.Decoder.{decoder_row}
-use Rattle.lvdc_modules.specs.Selector.{selector_row}
+use Rattle.lvdc_modules.specs.Selector.{data_fields, selector_row}
 use Rattle.lvdc_modules.specs.Accumulator.{accumulator_row}
 use Rattle.lvdc_modules.specs.Multiplier.{multiplier_row}
 use Rattle.lvdc_modules.specs.Exchange.{exchange_row}
@@ -40,3 +41,15 @@ bus_of lists memory port =
       memory = memory;
       port = port;
     }
+
+-- the latches of each module at the start: all are 0 but PLACE and DATA
+abbrev pub start_latches : HopConstant → List (List ℕ)
+start_latches start =
+    (0 ∷ 0 ∷ [])
+    ∷ (place_fields start ∷ 0 ∷ [])
+    ∷ (0 ∷ [])
+    ∷ (data_fields start ∷ [])
+    ∷ (0 ∷ 0 ∷ [])
+    ∷ (0 ∷ 0 ∷ 0 ∷ 0 ∷ 0 ∷ [])
+    ∷ (0 ∷ 0 ∷ [])
+    ∷ []

@@ -20,12 +20,12 @@ pub use accumulator::{Accumulator, AccumulatorState};
 pub use bus::Bus;
 pub use decoder::{Decoder, DecoderState};
 pub use exchange::{ExchangeState, Exchanger};
-pub use locator::{Locator, LocatorState};
+pub use locator::{Locator, LocatorState, place_word};
 pub use multiplier::{Multiplier, MultiplierState};
 pub use numbers::latches;
 pub use request::{Request, Target};
 pub use seen::{Doing, Phase};
-pub use selector::{Selector, SelectorState};
+pub use selector::{Selector, SelectorState, data_word};
 pub use timer::{Timer, TimerState};
 pub use wanted::{Wanted, wish};
 

@@ -80,7 +80,7 @@ impl Vote for LocatorState {
 }
 
 /// The word of the fields that PLACE keeps.
-fn place_word(place: Hop) -> Word
+pub fn place_word(place: Hop) -> Word
     ensures { result ≡ place_fields place }
 {
     Hop {

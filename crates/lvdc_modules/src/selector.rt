@@ -60,7 +60,7 @@ impl Vote for SelectorState {
 }
 
 /// The word of the fields that DATA keeps.
-fn data_word(place: Hop) -> Word
+pub fn data_word(place: Hop) -> Word
     ensures { result ≡ data_fields place }
 {
     Hop {

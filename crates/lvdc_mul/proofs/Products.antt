@@ -246,3 +246,7 @@ multiply-lands a m high u e a_small small =
     subst (LandsOnlyIn 12 (product a m)) (sym e)
     (lands-only 12 (product a m) (issued_multiply a m high) (ap is_idle (begins a m high) ∙ is_busy high) (begins_count a m high)
     (λ n all. product_after n a m high all a_small small))
+
+-- its kind stays
+pub multiply-kind : (a m : ℕ) (high : Bool) (n : ℕ) → kind (after_phases n (issued_multiply a m high)) ≡ multiply_kind high
+multiply-kind a m high n = (afterwards n (issued_multiply a m high) (ap is_idle (begins a m high) ∙ is_busy high)).kind ∙ begins a m high

@@ -3,10 +3,12 @@
 
 mod control;
 mod divide;
+mod landing;
 mod multiply;
 mod unit;
 
 pub use control::Kind;
+pub use landing::{divide_lands, multiply_lands};
 pub use unit::Unit;
 
 #[cfg(test)]

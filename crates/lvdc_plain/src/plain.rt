@@ -6,7 +6,6 @@ ghost use Rattle.lvdc_map.specs.Banks.{is_there};
 ghost use Rattle.lvdc_map.specs.Memory.{Memory, word_at, IsMemory, are_rising, AllThere};
 ghost use Rattle.lvdc_port.specs.Causes.{Rose};
 ghost use Rattle.lvdc_port.specs.Devices.{has_port, count_at, HasSpare, HoldWords, AreDistinct};
-ghost use Rattle.lvdc_plain.specs.Lists.{Left};
 ghost use Rattle.lvdc_plain.specs.Plain.{PlainState};
 ghost use Rattle.lvdc_plain.specs.Processor.{end_of};
 ghost use Rattle.lvdc_plain.specs.Run.{Opening};
@@ -17,9 +16,10 @@ ghost use Rattle.lvdc_plain.specs.declared.records.PlainEnd.TheVariants.{Device}
 
 use crate::processor::Processor;
 use crate::records::{Exchange, PlainEnd, Stop, Unplug, Visible};
+use crate::unplugs::unplug_all;
 use lvdc_isa::{Instr, Op};
 use lvdc_map::{Address, Banks, Hop, Placed, Words, is_a9};
-use lvdc_port::{DeviceFault, PortDevice, PortRequest, exchange, prepare_all, unplug};
+use lvdc_port::{DeviceFault, PortDevice, PortRequest, exchange, prepare_all};
 use lvdc_word::{NoMemory, Word};
 use std::alloc::Global;
 use std::marker::Model;
@@ -67,17 +67,6 @@ fn device_time(times: u64) -> Word
     ensures { result ≡ times % 2 ^ 26 }
 {
     Word::within((times % u64::from(Word::LIMIT)) as u32)
-}
-
-/// Removes the devices that lines of this time take away.
-fn unplug_all(unplugs: &[Unplug], time: u64, devices: &mut Vec<Box<dyn PortDevice>>)
-    ensures { Left device_of unplugs.now time devices.old.items devices.new.items }
-{
-    for line in unplugs {
-        if line.time == time {
-            unplug(devices, line.port);
-        }
-    }
 }
 
 /// Makes the exchange that is asked for. Where none is, and after a write, the answer is 0.

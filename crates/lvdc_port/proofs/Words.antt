@@ -3,16 +3,11 @@ use Rattle.std.proofs.Common.{ℕ, ◌<◌, ◌^◌, ◌==◌, List, [], ◌∷�
 use Rattle.std.specs.Bool.{if◌then◌else◌}
 use Rattle.std.proofs.lemmas.List.Elements.{All-head, All-tail, All-cons, All-push}
 use Rattle.lvdc_port.specs.Device.{Device, AreWords, word_by_kind, state_after_read, state_after_write}
-use Rattle.lvdc_port.specs.Devices.{port_of, answer_of, after_request, exchange_word, after_exchange, without, HoldWords}
+use Rattle.lvdc_port.specs.Devices.{port_of, answer_of, after_request, exchange_word, after_exchange, without, HoldWords, CarriesWord}
 use Rattle.lvdc_port.specs.declared.device.Kind.{Kind}
 use Rattle.lvdc_port.specs.declared.device.Kind.TheVariants.{Tape, Latch, Ticker, Recorder}
 use Rattle.lvdc_port.specs.declared.requests.PortRequest.{PortRequest}
 use Rattle.lvdc_port.specs.declared.requests.PortRequest.TheVariants.{Read, Write}
-
--- what a request carries is a word
-abbrev pub CarriesWord : PortRequest → Type 0
-CarriesWord (Read port) = Unit {0}
-CarriesWord (Write port word) = word < 2 ^ 26
 
 word_by_kind_small : (kind : Kind) (state : List ℕ) (time : ℕ) → AreWords state → time < 2 ^ 26 →
     word_by_kind kind state time < 2 ^ 26

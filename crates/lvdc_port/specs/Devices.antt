@@ -1,5 +1,5 @@
 -- Lists of devices. The definitions serve lists of boxes, each seen as a device by `device_of`, and lists of plain devices.
-use Rattle.std.specs.Prelude.{◌≡◌, ◌≢◌, ℕ, ◌≤◌, ◌==◌, if◌then◌else◌, List, [], ◌∷◌, All, Bool, true, false}
+use Rattle.std.specs.Prelude.{◌≡◌, ◌≢◌, ℕ, ◌≤◌, ◌<◌, ◌^◌, ◌==◌, if◌then◌else◌, List, [], ◌∷◌, All, Bool, true, false}
 use Rattle.lvdc_port.specs.Device.{Device, AreWords, read_word, after_read, after_write}
 use Rattle.lvdc_port.specs.declared.requests.PortRequest.{PortRequest}
 use Rattle.lvdc_port.specs.declared.requests.PortRequest.TheVariants.{Read, Write}
@@ -61,6 +61,11 @@ OthersKept device_of port (old ∷ olds) [] = ⊥
 -- each device has room for so many writes
 abbrev pub HasSpare : {B : Type 0} → (B → ℕ) → ℕ → List B → Type 0
 HasSpare spare writes devices = All (λ device. writes ≤ spare device) devices
+
+-- what a request carries is a word
+abbrev pub CarriesWord : PortRequest → Type 0
+CarriesWord (Read port) = Unit {0}
+CarriesWord (Write port word) = word < 2 ^ 26
 
 -- each device holds words
 abbrev pub HoldWords : List Device → Type 0

@@ -15,7 +15,7 @@ pub use device::{Failed, Kind, PortDevice};
 pub use failing::Failing;
 pub use latch::Latch;
 pub use recorder::Recorder;
-pub use requests::{DeviceFault, PortRequest, Supply, exchange, prepare_all, unplug};
+pub use requests::{DeviceFault, PortRequest, Supply, exchange, prepare_all, unplug, words_stay};
 pub use supplies::{kind_at, supply_all};
 pub use tape::Tape;
 pub use ticker::Ticker;

@@ -1,7 +1,8 @@
-ghost use Rattle.std.specs.Prelude.{◌≡◌, ◌+◌, ◌≤◌, ◌<◌, ◌^◌, ℕ, ◌↔◌, IsTrue, map, OnOk, OnErr, IfOk, IfErr, MatchOption};
+ghost use Rattle.std.specs.Prelude.{◌≡◌, ◌+◌, ◌≤◌, ◌<◌, ◌^◌, ℕ, ◌↔◌, List, IsTrue, map, OnOk, OnErr, IfOk, IfErr, MatchOption};
 ghost use Rattle.lvdc_port.specs.Causes.{HasCause, Rose};
-ghost use Rattle.lvdc_port.specs.Device.{AreWords};
-ghost use Rattle.lvdc_port.specs.Devices.{port_of, answer_of, after_request, exchange_word, after_exchange, without, has_port, count_at, OthersKept, HasSpare, HoldWords, RoomFor, RoomAt};
+ghost use Rattle.lvdc_port.specs.Device.{Device, AreWords};
+ghost use Rattle.lvdc_port.specs.declared.requests.PortRequest.{PortRequest};
+ghost use Rattle.lvdc_port.specs.Devices.{port_of, answer_of, after_request, exchange_word, after_exchange, without, has_port, count_at, OthersKept, HasSpare, HoldWords, CarriesWord, RoomFor, RoomAt};
 ghost use Rattle.lvdc_port.specs.Places.{IsFirstAt, Lacks};
 
 use crate::device::{Failed, PortDevice};
@@ -181,3 +182,11 @@ pub fn prepare_all(devices: &mut Vec<Box<dyn PortDevice>>, writes: u64) -> Resul
 {
     prepare_each(devices, writes)
 }
+
+/// Plain devices that hold words answer words to a time that is one, and hold words after an exchange and without one of
+/// them.
+pub fn words_stay()
+    ensures answer { (request : PortRequest) (time : ℕ) (devices : List Device) → HoldWords devices → time < 2 ^ 26 → exchange_word request time devices < 2 ^ 26 }
+    ensures exchange { (request : PortRequest) (devices : List Device) → HoldWords devices → CarriesWord request → HoldWords (after_exchange request devices) }
+    ensures unplug { (port : ℕ) (devices : List Device) → HoldWords devices → HoldWords (without (λ device. device) port devices) }
+{}

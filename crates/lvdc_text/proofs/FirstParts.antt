@@ -9,7 +9,7 @@ use Rattle.std.specs.Str.Lines.{strip_carriage_return}
 use Rattle.std.proofs.lemmas.Bool.Decides.{nat_tests}
 use Rattle.std.proofs.lemmas.Grind.{common_steps}
 use Rattle.lvdc_text.specs.declared.cutting.Line.{Line}
-use Rattle.lvdc_text.specs.Lines.{part_at, is_line_feed, lines_from, is_blank, words_from}
+use Rattle.lvdc_text.specs.Lines.{part_at, is_line_feed, lines_from, is_blank, words_from, words_left}
 
 -- whether the byte doesn't end a part
 abbrev pub goes_on : (ℕ → Bool) → ℕ → Bool
@@ -153,41 +153,44 @@ pub no_line : (number start : ℕ) (bytes : List ℕ) (lines all : List Line) �
 no_line number start bytes lines all l e =
     sym (append-nil lines) ∙ ap (λ rest. lines ++ rest) (sym (ap (λ bs. lines_from number start (slice_split is_line_feed bs)) (drop_all start bytes l) ∙ lines_from-empty number start)) ∙ e
 
+-- a blank is passed over
+pub blank_skipped : (number at : ℕ) (text : List ℕ) → at < length text → is_blank (get_or text at 0) ≡ true → words_left number at text ≡ words_left number (at + 1) text
+blank_skipped number at text l k =
+    ap (λ bs. words_from number at (slice_split is_blank bs)) (drop_more text at 0 l) ∙ blank_first number at (get_or text at 0) (drop (at + 1) text) k
+
+-- no word is left at the end
+pub none_left : (number at : ℕ) (text : List ℕ) → length text ≤ at → words_left number at text ≡ []
+none_left number at text l =
+    ap (λ bs. words_from number at (slice_split is_blank bs)) (drop_all at text l) ∙ words_from-empty number at [] ∙ words_from-none number (at + 1)
+
 -- a blank ends the word in hand
-pub word_ended : (number start at : ℕ) (text : List ℕ) (words all : List Line) → start < at → at < length text → list_all (goes_on is_blank) (take (at - start) (drop start text)) ≡ true → is_blank (get_or text at 0) ≡ true
-    → words ++ words_from number start (slice_split is_blank (drop start text)) ≡ all
-    → (words ++ record { number = number; start = start; end = at } ∷ []) ++ words_from (number + 1) (at + 1) (slice_split is_blank (drop (at + 1) text)) ≡ all
-word_ended number start at text words all o l h k e =
+pub word_ended : (number start at : ℕ) (text : List ℕ) → start < at → at < length text → list_all (goes_on is_blank) (take (at - start) (drop start text)) ≡ true → is_blank (get_or text at 0) ≡ true
+    → words_left number start text ≡ record { number = number; start = start; end = at } ∷ words_left (number + 1) at text
+word_ended number start at text o l h k =
     let word = take (at - start) (drop start text) in
     let size = cut_length start at text (omega arith) (omega arith) in
     let place : start + length (take (at - start) (drop start text)) ≡ at = omega arith in
-    let first = ap (λ bs. words_from number start (slice_split is_blank bs)) (cut_at start at text (omega arith) l)
+    ap (λ bs. words_from number start (slice_split is_blank bs)) (cut_at start at text (omega arith) l)
     ∙ first_word number start (get_or text at 0) word (drop (at + 1) text) (ends_nowhere is_blank word h) (omega arith) k
-    ∙ ap (λ n. record { number = number; start = start; end = n } ∷ words_from (number + 1) (n + 1) (slice_split is_blank (drop (at + 1) text))) place in
-    append_assoc words _ _ ∙ ap (λ rest. words ++ rest) (sym first) ∙ e
-
--- a blank where no word is in hand
-pub blank_passed : (number start at : ℕ) (text : List ℕ) (words all : List Line) → start ≡ at → at < length text → is_blank (get_or text at 0) ≡ true
-    → words ++ words_from number start (slice_split is_blank (drop start text)) ≡ all
-    → words ++ words_from number (at + 1) (slice_split is_blank (drop (at + 1) text)) ≡ all
-blank_passed number start at text words all o l k e =
-    ap (λ rest. words ++ rest) (sym (ap (λ n. words_from number n (slice_split is_blank (drop n text))) o ∙ ap (λ bs. words_from number at (slice_split is_blank bs)) (drop_more text at 0 l)
-    ∙ blank_first number at (get_or text at 0) (drop (at + 1) text) k)) ∙ e
+    ∙ ap (λ n. record { number = number; start = start; end = n } ∷ words_from (number + 1) (n + 1) (slice_split is_blank (drop (at + 1) text))) place
+    ∙ ap (λ ws. record { number = number; start = start; end = at } ∷ ws) (sym (blank_skipped (number + 1) at text l k))
 
 -- nothing ends the last word
-pub word_open : (number start : ℕ) (text : List ℕ) (words all : List Line) → start < length text → list_all (goes_on is_blank) (take (length text - start) (drop start text)) ≡ true
-    → words ++ words_from number start (slice_split is_blank (drop start text)) ≡ all
-    → words ++ record { number = number; start = start; end = length text } ∷ [] ≡ all
-word_open number start text words all l h e =
+pub word_open : (number start : ℕ) (text : List ℕ) → start < length text → list_all (goes_on is_blank) (take (length text - start) (drop start text)) ≡ true
+    → words_left number start text ≡ record { number = number; start = start; end = length text } ∷ words_left (number + 1) (length text) text
+word_open number start text l h =
     let some : 0 < length (drop start text) = omega (arith, length-drop start text) in
-    let last = last_word number start (drop start text) (ends_nowhere is_blank (drop start text) (rest_whole (goes_on is_blank) start text h)) some in
-    ap (λ rest. words ++ rest) (sym (last ∙ ap (λ word. word ∷ []) (part_to_end number start text l))) ∙ e
+    last_word number start (drop start text) (ends_nowhere is_blank (drop start text) (rest_whole (goes_on is_blank) start text h)) some
+    ∙ ap (λ word. word ∷ []) (part_to_end number start text l)
+    ∙ ap (λ ws. record { number = number; start = start; end = length text } ∷ ws) (sym (none_left (number + 1) (length text) text (omega arith)))
 
--- no word is left
-pub no_word : (number start : ℕ) (text : List ℕ) (words all : List Line) → length text ≤ start → words ++ words_from number start (slice_split is_blank (drop start text)) ≡ all → words ≡ all
-no_word number start text words all l e =
-    sym (append-nil words) ∙ ap (λ rest. words ++ rest) (sym (ap (λ bs. words_from number start (slice_split is_blank bs)) (drop_all start text l)
-    ∙ words_from-empty number start [] ∙ words_from-none number (start + 1))) ∙ e
+-- one more word
+pub words_more : (words all : List Line) (token : Line) (left later : List Line) → words ++ left ≡ all → left ≡ token ∷ later → (words ++ token ∷ []) ++ later ≡ all
+words_more words all token left later e is = append_assoc words (token ∷ []) later ∙ ap (λ ws. words ++ ws) (sym is) ∙ e
+
+-- all words
+pub words_done : (words all left : List Line) → words ++ left ≡ all → left ≡ [] → words ≡ all
+words_done words all left e is = sym (append-nil words) ∙ ap (λ ws. words ++ ws) (sym is) ∙ e
 
 -- a CR at the end is stripped
 pub strip-cr : (text front : List ℕ) (last : ℕ) → text ≡ front ++ last ∷ [] → last ≡ 13 → length front ≡ length (strip_carriage_return text)

@@ -1,5 +1,5 @@
 -- How bytes fall into lines and into words.
-use Rattle.std.specs.Prelude.{ℕ, ◌+◌, ◌≤◌, length, slice_range, Bool, ◌||◌, ◌==◌, not, List, [], ◌∷◌, if◌then◌else◌}
+use Rattle.std.specs.Prelude.{ℕ, ◌+◌, ◌≤◌, length, drop, slice_range, Bool, ◌||◌, ◌==◌, not, List, [], ◌∷◌, if◌then◌else◌}
 use Rattle.std.specs.List.{slice_split, filter}
 use Rattle.std.specs.Str.Lines.{strip_carriage_return, lines_of_parts}
 use Rattle.lvdc_text.specs.declared.cutting.Line.{Line}
@@ -38,6 +38,10 @@ words_from number start [] = []
 words_from number start (piece ∷ pieces) =
     if length piece == 0 then words_from number (start + 1) pieces
     else part_at number start (length piece) ∷ words_from (number + 1) (start + length piece + 1) pieces
+
+-- the words of the text from a place on, where the first has this number
+abbrev pub words_left : ℕ → ℕ → List ℕ → List Line
+words_left number start text = words_from number start (slice_split is_blank (drop start text))
 
 -- the words of the text, from 1
 abbrev pub words_of : List ℕ → List Line

@@ -1,12 +1,13 @@
-ghost use Rattle.std.specs.Prelude.{◌≡◌, ◌<◌, ◌≤◌, ◌-◌, ◌^◌, length, map, IfOk, All};
+ghost use Rattle.std.specs.Prelude.{◌≡◌, ◌<◌, ◌≤◌, ◌+◌, ◌-◌, ◌^◌, ℕ, ◌∷◌, [], length, slice_index, map, false, IfOk, IfSome, IfNone, All};
 ghost use Rattle.std.specs.Str.Lines.{strip_carriage_return};
-ghost use Rattle.lvdc_text.specs.Lines.{lines_of, texts_of, is_blank, words_of, word_texts_of, IsWithin, part_of};
+ghost use Rattle.lvdc_text.specs.Lines.{lines_of, texts_of, is_blank, words_left, words_of, word_texts_of, IsWithin, part_of};
 
+use arrayvec::ArrayVec;
 use lvdc_word::NoMemory;
 use std::alloc::Global;
 
 /// A line of a text, or a token of one: where it stands in the bytes, counted from 0, and its number, counted from 1.
-#[derive(Clone, Copy, Debug, PartialEq, Eq)]
+#[derive(Clone, Copy, Debug, Default, PartialEq, Eq)]
 pub struct Line {
     /// Which line of the text, or which token of the line, it is.
     pub number: u32,
@@ -50,6 +51,17 @@ pub fn tokens(alloc: Global, text: &[u8]) -> Result<Vec<Line>, NoMemory>
     cut_tokens(alloc, text)
 }
 
+/// The tokens of the text, where there are at most so many. It takes no memory.
+pub fn few_tokens<const MOST: usize>(text: &[u8]) -> Option<ArrayVec<Line, MOST>>
+    requires { length text.now < 2 ^ 32 - 1 }
+    ensures tokens { IfSome result (λ v. v.items ≡ words_of text.now) }
+    ensures texts { IfSome result (λ v. map (part_of text.now) v.items ≡ word_texts_of text.now) }
+    ensures within { IfSome result (λ v. All (IsWithin text.now) v.items) }
+    ensures many { IfNone result (MOST < length (word_texts_of text.now)) }
+{
+    cut_few_tokens(text)
+}
+
 /// The bytes of a line, or of a token.
 pub fn part<'a>(bytes: &'a [u8], line: &Line) -> &'a [u8]
     requires { IsWithin bytes.now line.now }
@@ -88,7 +100,53 @@ fn is_blank(byte: u8) -> bool
     byte == b' ' || byte == b'\t'
 }
 
-/// The tokens of the text, each pushed at the blank that ends it.
+/// The first place from `start` on where no blank stands.
+fn skip_blanks(text: &[u8], start: usize) -> usize
+    requires { start ≤ length text.now }
+    ensures after { start ≤ result }
+    ensures within { result ≤ length text.now }
+    ensures some { result < length text.now → is_blank (slice_index text.now result) ≡ false }
+    ensures skipped { (number : ℕ) → words_left number start text.now ≡ words_left number result text.now }
+{
+    let mut at = start;
+    while at < text.len() && is_blank(text[at]) {
+        at += 1;
+    }
+    at
+}
+
+/// The end of the token that begins at `start`.
+fn end_of_token(text: &[u8], start: usize) -> usize
+    requires within { start < length text.now }
+    requires begins { is_blank (slice_index text.now start) ≡ false }
+    ensures after { start < result }
+    ensures within { result ≤ length text.now }
+    ensures token { (number : ℕ) → words_left number start text.now
+        ≡ record { number = number; start = start; end = result } ∷ words_left (number + 1) result text.now }
+{
+    let mut end = start + 1;
+    while end < text.len() && !is_blank(text[end]) {
+        end += 1;
+    }
+    end
+}
+
+/// The first token from `start` on, which is given this number.
+fn next_token(text: &[u8], number: u32, start: usize) -> Option<Line>
+    requires { start ≤ length text.now }
+    ensures none { IfNone result (words_left number start text.now ≡ []) }
+    ensures some { IfSome result (λ token. words_left number start text.now ≡ token ∷ words_left (number + 1) token.end text.now) }
+    ensures further { IfSome result (λ token. (start < token.end) × (token.end ≤ length text.now)) }
+{
+    let start = skip_blanks(text, start);
+    if start == text.len() {
+        return None;
+    }
+    let end = end_of_token(text, start);
+    Some(Line { number, start, end })
+}
+
+/// The tokens of the text, one after another.
 fn cut_tokens(alloc: Global, text: &[u8]) -> Result<Vec<Line>, NoMemory>
     requires { length text.now < 2 ^ 32 - 1 }
     ensures { IfOk result (λ v. v.items ≡ words_of text.now) }
@@ -96,19 +154,27 @@ fn cut_tokens(alloc: Global, text: &[u8]) -> Result<Vec<Line>, NoMemory>
     let mut words = Vec::new(alloc);
     let mut number = 1;
     let mut start = 0;
-    for (at, byte) in text.iter().enumerate() {
-        if is_blank(*byte) {
-            if start < at {
-                let end = at;
-                words.push(Line { number, start, end })?;
-                number += 1;
-            }
-            start = at + 1;
-        }
-    }
-    if start < text.len() {
-        let end = text.len();
-        words.push(Line { number, start, end })?;
+    while let Some(token) = next_token(text, number, start) {
+        words.push(token)?;
+        number += 1;
+        start = token.end;
     }
     Ok(words)
+}
+
+/// The tokens of the text, where there are at most so many. It takes no memory.
+fn cut_few_tokens<const MOST: usize>(text: &[u8]) -> Option<ArrayVec<Line, MOST>>
+    requires { length text.now < 2 ^ 32 - 1 }
+    ensures some { IfSome result (λ v. v.items ≡ words_of text.now) }
+    ensures none { IfNone result (MOST < length (words_of text.now)) }
+{
+    let mut words = ArrayVec::new();
+    let mut number = 1;
+    let mut start = 0;
+    while let Some(token) = next_token(text, number, start) {
+        words.try_push(token).ok()?;
+        number += 1;
+        start = token.end;
+    }
+    Some(words)
 }

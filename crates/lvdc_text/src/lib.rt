@@ -10,10 +10,10 @@ mod standard;
 mod streams;
 mod transfer;
 
-pub use cutting::{Line, lines, part, tokens};
+pub use cutting::{Line, few_tokens, lines, part, tokens};
 pub use faulty::{FaultySink, FaultySource};
 pub use memory::{MemorySink, MemorySource};
-pub use numbers::{decimal, octal, put_decimal, put_octal};
+pub use numbers::{decimal, octal, octal_word, plain_decimal, put_decimal, put_octal};
 pub use standard::{StdSink, StdSource};
 pub use streams::{Failed, Sink, Source};
 pub use transfer::{ReadEnd, WriteFault, read_all, write_all};

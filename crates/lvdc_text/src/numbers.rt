@@ -1,8 +1,8 @@
-ghost use Rattle.std.specs.Prelude.{◌≡◌, ◌≤◌, ◌<◌, ◌^◌, ◌++◌, ℕ, Some, OnOk, OnErr, decimal};
-ghost use Rattle.lvdc_text.specs.Numbers.{number_of, octal_text};
+ghost use Rattle.std.specs.Prelude.{◌≡◌, ◌≤◌, ◌<◌, ◌^◌, ◌++◌, ℕ, Some, IfSome, OnOk, OnErr, decimal};
+ghost use Rattle.lvdc_text.specs.Numbers.{number_of, is_plain, plain_number_of, word_in, octal_text};
 
 use itoa::Buffer;
-use lvdc_word::NoMemory;
+use lvdc_word::{NoMemory, Word};
 
 /// The number that one to `digits` digits of the base stand for. Leading zeros are allowed.
 fn number(text: &[u8], base: u64, digits: u8) -> Option<u64>
@@ -37,6 +37,40 @@ pub fn decimal(text: &[u8], digits: u8) -> Option<u64>
     ensures { result ≡ number_of 10 digits text.now }
 {
     number(text, 10, digits)
+}
+
+/// Does the number begin without a needless zero?
+fn is_plain(text: &[u8]) -> bool
+    ensures { result ≡ is_plain text.now }
+{
+    match text {
+        [first, _, ..] => *first != b'0',
+        _ => true,
+    }
+}
+
+/// The number that one to `digits` decimal digits without a needless zero in front stand for.
+pub fn plain_decimal(text: &[u8], digits: u8) -> Option<u64>
+    requires { digits ≤ 18 }
+    ensures { result ≡ plain_number_of digits text.now }
+{
+    if is_plain(text) {
+        decimal(text, digits)
+    } else {
+        None
+    }
+}
+
+/// The word that one to nine octal digits stand for.
+#[tactic(auto, unfolding(crate::specs::Numbers::word_in))]
+pub fn octal_word(text: &[u8]) -> Option<Word>
+    ensures value { result ≡ word_in text.now }
+    ensures range { IfSome result (λ word. word < 2 ^ 26) }
+{
+    match octal(text, 9) {
+        Some(value) if value < u64::from(Word::LIMIT) => Some(Word::within(value as u32)),
+        _ => None,
+    }
 }
 
 /// Appends the number in `width` octal digits, with zeros in front.

@@ -7,7 +7,7 @@ use Rattle.lvdc_map.specs.Address.{Spot, is_same}
 use Rattle.lvdc_map.specs.Banks.{is_simplex, home, holds, held_at}
 use Rattle.lvdc_map.specs.Memory.{Memory, word_at, stored, loaded, memory_of, filled_with}
 use Rattle.lvdc_map.specs.declared.placed.Placed.{Placed}
-use Rattle.lvdc_twin.specs.Store.{Store, IsPlace, IsStore, stored_in, stuck_in, is_dead, selected_in}
+use Rattle.lvdc_twin.specs.Store.{Store, IsPlace, IsStore, stored_in, stuck_in, is_dead}
 use Rattle.lvdc_twin.specs.Calls.{Begins, after_write, with_held}
 use Rattle.lvdc_twin.proofs.Writes.{and_false, kept-with_held, stored-after_write}
 
@@ -90,7 +90,7 @@ begins-more banks image p t whole home_place h =
       cells = cells;
       stuck = λ twin place. kept_by (λ u. stuck_in u twin place) t p.at p.word (λ u w. kept-with_held (λ s. stuck_in s twin place) u w p.at p.word refl) ∙ h.stuck twin place;
       dead = λ twin pair. kept_by (λ u. is_dead u twin pair) t p.at p.word (λ u w. kept-with_held (λ s. is_dead s twin pair) u w p.at p.word refl) ∙ h.dead twin pair;
-      selected = λ pair. kept_by (λ u. selected_in u pair) t p.at p.word (λ u w. kept-with_held (λ s. selected_in s pair) u w p.at p.word refl) ∙ h.selected pair;
+      selected = kept_by (λ u. u.selected) t p.at p.word (λ u w. kept-with_held (λ s. s.selected) u w p.at p.word refl) ∙ h.selected;
     }
   where
     cells : (twin : ℕ) → twin < 2 → (place : Spot) → IsPlace place

@@ -1,15 +1,16 @@
 -- What a read mends, and where it finds no good cell.
-use Rattle.std.proofs.Common.{◌≡◌, ℕ, zero, suc, ◌-◌, ◌/◌, ◌%◌, ◌^◌, ◌<◌, Bool, true, false, cond, not, ◌&&◌, ◌||◌, inl, inr, subst, refl, sym, ap, ◌∙◌, arith, Option, Some, None, Result, Ok, Err, IsErr, OnErr, ◌↔◌}
+use Rattle.std.proofs.Common.{◌≡◌, ℕ, zero, suc, ◌-◌, ◌/◌, ◌%◌, ◌^◌, ◌<◌, Bool, true, false, cond, not, ◌&&◌, ◌||◌, inl, inr, subst, refl, sym, ap, ◌∙◌, arith, Option, Some, None, IfSome, Result, Ok, Err, IsErr, OnErr, ◌↔◌}
 use Rattle.std.specs.Prelude.{◌==◌, nat_lt}
 use Rattle.std.proofs.lemmas.Bool.{true≢false, false≢true, eqb-true, eq-eqb, ne_eqb, lt-ltb, le-ltb, and_parts, cases_lt}
 use Rattle.lvdc_word.specs.Cell.{code_of, is_good, word_in}
 use Rattle.lvdc_word.proofs.Parity.{good-code, word-code}
 use Rattle.lvdc_map.specs.Address.{Spot, is_same}
 use Rattle.lvdc_map.specs.Banks.{is_simplex, is_there, home, holds}
+use Rattle.lvdc_map.proofs.Holders.{holds_duplex}
 use Rattle.lvdc_twin.specs.declared.both_bad.BothBad.{BothBad}
 use Rattle.lvdc_twin.specs.declared.read_out.ReadOut.{ReadOut}
-use Rattle.lvdc_twin.specs.Store.{Store, IsPlace, IsStore, stored_in, is_dead, shown_in, selected_in, with_word}
-use Rattle.lvdc_twin.specs.Calls.{answer_by_one, answer_by_two, repaired_by, switched_by, after_answer, shows_word, Mends, NoneGood}
+use Rattle.lvdc_twin.specs.Store.{Store, IsPlace, IsStore, stored_in, is_dead, shown_in, selected_in, with_word, survives}
+use Rattle.lvdc_twin.specs.Calls.{answer_by_one, answer_by_two, repaired_by, switched_by, after_answer, shows_word, is_repaired, Finds, Mends, NoneGood}
 use Rattle.lvdc_twin.proofs.Places.{stored-with_word}
 use Rattle.lvdc_twin.proofs.Writes.{and_false, kept-with_word}
 
@@ -62,6 +63,60 @@ either P (suc zero) (suc zero) hs ht p q = p
 either P (suc (suc s)) twin hs ht p q = absurd (omega arith)
 either P s (suc (suc twin)) hs ht p q = absurd (omega arith)
 
+-- ---- what a read finds
+
+not_false : (b : Bool) → false ≡ not b → b ≡ true
+not_false true e = refl
+not_false false e = e
+
+found_by : (g h : Bool) (w s : ℕ) (shown : ℕ → ℕ) → s < 2 → w < 2 ^ 26 → is_good (shown s) ≡ g → is_good (shown (1 - s)) ≡ h → Recovers w (shown s) (shown (1 - s))
+    → Finds w shown (answer_by_two s (shown s) (shown (1 - s)))
+found_by true true w s shown two small mine others rec =
+    record {
+      out = record { word = word_in (shown s); repaired = None; switched = false };
+      is = rw (mine, others) refl;
+      word = ap word_in (rec.mine_good mine) ∙ word-code w small;
+      twin = tt;
+      bad = λ twin ht. either (λ n. false ≡ not (is_good (shown n))) s twin two ht (sym (ap not mine)) (sym (ap not others));
+    }
+found_by true false w s shown two small mine others rec =
+    record {
+      out = record { word = word_in (shown s); repaired = Some (1 - s); switched = false };
+      is = rw (mine, others) refl;
+      word = ap word_in (rec.mine_good mine) ∙ word-code w small;
+      twin = omega arith;
+      bad = λ twin ht. either (λ n. (n == 1 - s) ≡ not (is_good (shown n))) s twin two ht
+          (ne_eqb s (1 - s) (λ same. omega arith) ∙ sym (ap not mine)) (eq-eqb (1 - s) (1 - s) refl ∙ sym (ap not others));
+    }
+found_by false true w s shown two small mine others rec =
+    record {
+      out = record { word = word_in (shown (1 - s)); repaired = Some s; switched = true };
+      is = rw (mine, others) refl;
+      word = ap word_in (rec.some mine) ∙ word-code w small;
+      twin = two;
+      bad = λ twin ht. either (λ n. (n == s) ≡ not (is_good (shown n))) s twin two ht
+          (eq-eqb s s refl ∙ sym (ap not mine)) (ne_eqb (1 - s) s (λ same. omega arith) ∙ sym (ap not others));
+    }
+found_by false false w s shown two small mine others rec = absurd (true≢false (sym (good-code w small) ∙ ap is_good (sym (rec.some mine)) ∙ others))
+
+-- of a duplex pair in which the code of a word survives
+pub found-two : (w s : ℕ) (shown : ℕ → ℕ) → s < 2 → w < 2 ^ 26 → survives (code_of w) (shown 0) (shown 1) ≡ true
+    → Finds w shown (answer_by_two s (shown s) (shown (1 - s)))
+found-two w s shown two small lives =
+    found_by (is_good (shown s)) (is_good (shown (1 - s))) w s shown two small refl refl (by_selected s two)
+  where
+    both : Recovers w (shown 0) (shown 1) × Recovers w (shown 1) (shown 0)
+    both = recovers w (shown 0) (shown 1) small lives
+
+    by_selected : (n : ℕ) → n < 2 → Recovers w (shown n) (shown (1 - n))
+    by_selected zero two = both.0
+    by_selected (suc zero) two = both.1
+    by_selected (suc (suc n)) two = absurd (omega arith)
+
+-- of a simplex pair whose twin shows the code
+pub found-one : (w : ℕ) → w < 2 ^ 26 → answer_by_one (code_of w) ≡ Ok (record { word = w; repaired = None; switched = false })
+found-one w small = rw (good-code w small, word-code w small) refl
+
 -- ---- the law of repair
 
 -- no twin is mended
@@ -105,55 +160,29 @@ repairs switched t place w r v two whole here found bad =
           ∙ ap (λ (c : ℕ). cond (is_same other place && (not (is_dead t twin place.pair) && not (is_good (shown_in t twin place)))) (code_of c) (stored_in t twin other)) found;
     }
 
-mends_by : (g h : Bool) (t : Store) (place : Spot) (w s : ℕ) → s < 2 → IsStore t → IsPlace place → w < 2 ^ 26
-    → is_good (shown_in t s place) ≡ g → is_good (shown_in t (1 - s) place) ≡ h → Recovers w (shown_in t s place) (shown_in t (1 - s) place)
-    → MendsBy t place w (answer_by_two s (shown_in t s place) (shown_in t (1 - s) place))
-mends_by true true t place w s hs whole here small mine others rec =
-    let word : word_in (shown_in t s place) ≡ w = ap word_in (rec.mine_good mine) ∙ word-code w small in
-    let is : answer_by_two s (shown_in t s place) (shown_in t (1 - s) place) ≡ Ok (record { word = word_in (shown_in t s place); repaired = None; switched = false }) =
-    rw (mine, others) refl in
-    subst (MendsBy t place w) (sym is)
-    (record {
-      found = word;
-      cells = λ twin ht other ho. none_mended (is_same other place) (is_dead t twin place.pair) (is_good (shown_in t twin place)) (code_of w) (stored_in t twin other)
-          (either (λ n. is_good (shown_in t n place) ≡ true) s twin hs ht mine others);
-    })
-mends_by true false t place w s hs whole here small mine others rec =
-    let word : word_in (shown_in t s place) ≡ w = ap word_in (rec.mine_good mine) ∙ word-code w small in
-    let is : answer_by_two s (shown_in t s place) (shown_in t (1 - s) place) ≡ Ok (record { word = word_in (shown_in t s place); repaired = Some (1 - s); switched = false }) =
-    rw (mine, others) refl in
-    subst (MendsBy t place w) (sym is)
-    (repairs false t place w (1 - s) (word_in (shown_in t s place)) (omega arith) whole here word
-    (λ twin ht. either (λ n. (n == 1 - s) ≡ not (is_good (shown_in t n place))) s twin hs ht
-    (ne_eqb s (1 - s) (λ same. omega arith) ∙ sym (ap not mine)) (eq-eqb (1 - s) (1 - s) refl ∙ sym (ap not others))))
-mends_by false true t place w s hs whole here small mine others rec =
-    let word : word_in (shown_in t (1 - s) place) ≡ w = ap word_in (rec.some mine) ∙ word-code w small in
-    let is : answer_by_two s (shown_in t s place) (shown_in t (1 - s) place) ≡ Ok (record { word = word_in (shown_in t (1 - s) place); repaired = Some s; switched = true }) =
-    rw (mine, others) refl in
-    subst (MendsBy t place w) (sym is)
-    (repairs true t place w s (word_in (shown_in t (1 - s) place)) hs whole here word
-    (λ twin ht. either (λ n. (n == s) ≡ not (is_good (shown_in t n place))) s twin hs ht
-    (eq-eqb s s refl ∙ sym (ap not mine)) (ne_eqb (1 - s) s (λ same. omega arith) ∙ sym (ap not others))))
-mends_by false false t place w s hs whole here small mine others rec =
-    absurd (true≢false (sym (good-code w small) ∙ ap is_good (sym (rec.some mine)) ∙ others))
+-- a read that found the word meets the law
+mends_found : (repaired : Option ℕ) (switched : Bool) (t : Store) (place : Spot) (w v : ℕ) → IsStore t → IsPlace place → v ≡ w
+    → IfSome repaired (λ twin. twin < 2)
+    → ((twin : ℕ) → twin < 2 → is_repaired repaired twin ≡ not (is_good (shown_in t twin place)))
+    → MendsBy t place w (Ok (record { word = v; repaired = repaired; switched = switched }))
+mends_found None switched t place w v whole here found two bad =
+    record {
+      found = found;
+      cells = λ twin ht other ho.
+          stored-switched_by switched t place.pair twin other
+          ∙ none_mended (is_same other place) (is_dead t twin place.pair) (is_good (shown_in t twin place)) (code_of w) (stored_in t twin other) (not_false (is_good (shown_in t twin place)) (bad twin ht));
+    }
+mends_found (Some r) switched t place w v whole here found two bad = repairs switched t place w r v two whole here found bad
 
 -- in a duplex pair where some twin shows the code of a word, and each that shows another cell shows a bad one
 pub mends : (t u : Store) (place : Spot) (w : ℕ) (answer : Result ReadOut BothBad) → IsStore t → IsPlace place → w < 2 ^ 26
     → answer ≡ answer_by_two (selected_in t place.pair) (shown_in t (selected_in t place.pair) place) (shown_in t (1 - selected_in t place.pair) place)
     → u ≡ after_answer answer t place → shows_word t place w ≡ true → Mends t u place w answer
 mends t u place w answer whole here small answered left shows =
+    let it = found-two w (selected_in t place.pair) (λ twin. shown_in t twin place) (whole.selected place.pair) small shows in
     subst (λ (v : Store). Mends t v place w answer) (sym left)
-    (subst (MendsBy t place w) (sym answered)
-    (mends_by (is_good (shown_in t (selected_in t place.pair) place)) (is_good (shown_in t (1 - selected_in t place.pair) place)) t place w (selected_in t place.pair)
-    (whole.selected place.pair) whole here small refl refl (by_selected (selected_in t place.pair) (whole.selected place.pair))))
-  where
-    both : Recovers w (shown_in t 0 place) (shown_in t 1 place) × Recovers w (shown_in t 1 place) (shown_in t 0 place)
-    both = recovers w (shown_in t 0 place) (shown_in t 1 place) small shows
-
-    by_selected : (n : ℕ) → n < 2 → Recovers w (shown_in t n place) (shown_in t (1 - n) place)
-    by_selected zero two = both.0
-    by_selected (suc zero) two = both.1
-    by_selected (suc (suc n)) two = absurd (omega arith)
+    (subst (MendsBy t place w) (sym (answered ∙ it.is))
+    (mends_found it.out.repaired it.out.switched t place w it.out.word whole here it.word it.twin it.bad))
 
 -- ---- what a read leaves as it is
 
@@ -176,19 +205,6 @@ banks-after_answer (Ok r) t place = banks-switched_by r.switched (repaired_by r.
 banks-after_answer (Err _) t place = refl
 
 -- ---- no good cell
-
--- both twins hold an address of a duplex pair that is there
-holds_duplex : (banks twin : ℕ) (at : Spot) → at.pair < 8 → is_there banks at ≡ true → is_simplex banks (at.pair % 4) ≡ false → holds banks twin at ≡ true
-holds_duplex banks twin at small there duplex =
-    rw duplex
-    (elim (cases_lt at.pair 4) [
-      | inl low ↦ lt-ltb at.pair 4 low
-      | inr high ↦ (
-          let same : at.pair - 4 ≡ at.pair % 4 = omega arith in
-          let simplex : is_simplex banks (at.pair - 4) ≡ true = or_first (nat_lt at.pair 4) (is_simplex banks (at.pair - 4)) there (le-ltb at.pair 4 high) in
-          absurd (true≢false (sym simplex ∙ ap (is_simplex banks) same ∙ duplex))
-          )
-    ])
 
 -- no twin showed a good cell
 abbrev none_found : Result ReadOut BothBad
@@ -225,7 +241,7 @@ none_good-two t at answer whole small there duplex answered = (there', back)
     back : NoneGood t at → IsErr answer
     back none =
         let other : 1 - s < 2 = omega arith in
-        subst IsErr (sym answered) (cases.1 (none s two (holds_duplex t.banks s at small there duplex), none (1 - s) other (holds_duplex t.banks (1 - s) at small there duplex)))
+        subst IsErr (sym answered) (cases.1 (none s two (holds_duplex t.banks s at (record { small = small; there = there }) duplex), none (1 - s) other (holds_duplex t.banks (1 - s) at (record { small = small; there = there }) duplex)))
 
 pub none_good-one : (t : Store) (at : Spot) (answer : Result ReadOut BothBad) → at.pair < 8 → is_simplex t.banks (at.pair % 4) ≡ true
     → answer ≡ answer_by_one (shown_in t (at.pair / 4) (home at)) → IsErr answer ↔ NoneGood t at

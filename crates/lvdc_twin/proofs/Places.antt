@@ -5,22 +5,13 @@ use Rattle.std.proofs.lemmas.Bool.{true≢false, eqb-true, eq-eqb, and_parts, an
 use Rattle.std.proofs.lemmas.List.{get_or-set_same, get_or-set_other}
 use Rattle.lvdc_word.specs.Cell.{code_of}
 use Rattle.lvdc_map.specs.Address.{Spot, is_same}
+use Rattle.lvdc_map.proofs.Addresses.{same-spot}
 use Rattle.lvdc_twin.specs.Store.{Store, IsPlace, IsStore, nothing, slot_of, stored_in, stuck_in, is_dead, with_cell, with_word, with_stuck_bits, with_dead}
 use Rattle.lvdc_twin.specs.declared.stuck.Stuck.{Stuck}
 
 -- ---- places
 
--- places that are the same are equal
-pub same-spot : (a b : Spot) → is_same a b ≡ true → a ≡ b
-same-spot a b h =
-    let one = and_parts (a.pair == b.pair && a.sector == b.sector) (a.loc == b.loc) h in
-    let two = and_parts (a.pair == b.pair) (a.sector == b.sector) one.0 in
-    let p : a.pair ≡ b.pair = eqb-true a.pair b.pair two.0 in
-    let q : a.sector ≡ b.sector = eqb-true a.sector b.sector two.1 in
-    let r : a.loc ≡ b.loc = eqb-true a.loc b.loc one.1 in
-    λ i. record { pair = p i; sector = q i; loc = r i }
-
--- and the other way round
+-- places with the same numbers are the same
 pub same-from : (a b : Spot) → a.pair ≡ b.pair → a.sector ≡ b.sector → a.loc ≡ b.loc → is_same a b ≡ true
 same-from a b p q r =
     and_from (a.pair == b.pair && a.sector == b.sector) (a.loc == b.loc)

@@ -1,5 +1,5 @@
 -- What a read and a write of the memory of two twins answer and leave.
-use Rattle.std.specs.Prelude.{◌≡◌, ℕ, ◌-◌, ◌/◌, ◌<◌, Bool, true, false, not, ◌&&◌, if◌then◌else◌, List, Option, Some, None, Result, Ok, Err, IsOkAnd}
+use Rattle.std.specs.Prelude.{◌≡◌, ℕ, ◌-◌, ◌/◌, ◌<◌, Bool, true, false, not, ◌&&◌, ◌==◌, if◌then◌else◌, List, [], ◌∷◌, Option, Some, None, IfSome, Result, Ok, Err, IsOkAnd}
 use Rattle.lvdc_word.specs.Cell.{code_of, is_good, word_in}
 use Rattle.lvdc_map.specs.Address.{Spot, is_same}
 use Rattle.lvdc_map.specs.Banks.{is_simplex, home, holds, held_at}
@@ -7,7 +7,8 @@ use Rattle.lvdc_map.specs.Memory.{word_at, memory_of}
 use Rattle.lvdc_map.specs.declared.placed.Placed.{Placed}
 use Rattle.lvdc_twin.specs.declared.both_bad.BothBad.{BothBad}
 use Rattle.lvdc_twin.specs.declared.read_out.ReadOut.{ReadOut}
-use Rattle.lvdc_twin.specs.Store.{Store, IsPlace, nothing, stored_in, stuck_in, is_dead, selected_in, shown_in, survives, with_word, with_selected}
+use Rattle.lvdc_twin.specs.Store.{Store, IsPlace, nothing, stored_in, stuck_in, is_dead, selected_in, shown_in, survives, with_word, with_selected, IsStore, with_cell, with_stuck_bits, with_dead}
+use Rattle.lvdc_twin.specs.declared.stuck.Stuck.{Stuck}
 
 -- ---- a new memory
 
@@ -18,7 +19,7 @@ pub record Begins (banks : ℕ) (image : List Placed) (t : Store) : Type 0 where
   pub cells : (twin : ℕ) → twin < 2 → (place : Spot) → IsPlace place → stored_in t twin place ≡ code_of (word_at (memory_of image) (held_at banks twin place))
   pub stuck : (twin : ℕ) (place : Spot) → stuck_in t twin place ≡ nothing
   pub dead : (twin pair : ℕ) → is_dead t twin pair ≡ false
-  pub selected : (pair : ℕ) → selected_in t pair ≡ 0
+  pub selected : t.selected ≡ 0 ∷ 0 ∷ 0 ∷ 0 ∷ []
 
 -- ---- a read
 
@@ -60,6 +61,19 @@ after_answer (Err _) t place = t
 abbrev pub shows_word : Store → Spot → ℕ → Bool
 shows_word t place w = survives (code_of w) (shown_in t 0 place) (shown_in t 1 place)
 
+-- whether it is this twin that a read repairs
+abbrev pub is_repaired : Option ℕ → ℕ → Bool
+is_repaired None twin = false
+is_repaired (Some repaired) twin = twin == repaired
+
+-- a read found the word, and repairs each twin that shows a bad cell and no other
+pub record Finds (w : ℕ) (shown : ℕ → ℕ) (answer : Result ReadOut BothBad) : Type 0 where
+  pub out : ReadOut
+  pub is : answer ≡ Ok out
+  pub word : out.word ≡ w
+  pub twin : IfSome out.repaired (λ twin. twin < 2)
+  pub bad : (twin : ℕ) → twin < 2 → is_repaired out.repaired twin ≡ not (is_good (shown twin))
+
 -- a twin that isn't dead and shows a bad cell is mended by a read
 abbrev pub is_mended : Store → ℕ → Spot → Bool
 is_mended t twin place = not (is_dead t twin place.pair) && not (is_good (shown_in t twin place))
@@ -83,3 +97,17 @@ with_held t twin at w = if holds t.banks twin at then with_word t twin (home at)
 -- each twin that holds the address does
 abbrev pub after_write : Store → Spot → ℕ → Store
 after_write t at w = with_held (with_held t 0 at w) 1 at w
+
+-- ---- the law of one change
+
+-- a change at a place of a twin, or of a mark, is seen there and nowhere else; a held word leaves the memory whole, with its
+-- banks
+pub record ChangesAreLocal : Type 0 where
+  pub cells : (t : Store) (twin : ℕ) (place : Spot) (cell w : ℕ) (other : Spot) → IsStore t → twin < 2 → w < 2 → IsPlace place → IsPlace other
+      → stored_in (with_cell t twin place cell) w other ≡ if w == twin && is_same other place then cell else stored_in t w other
+  pub stuck : (t : Store) (twin : ℕ) (place : Spot) (bits : Stuck) (w : ℕ) (other : Spot) → IsStore t → twin < 2 → w < 2 → IsPlace place → IsPlace other
+      → stuck_in (with_stuck_bits t twin place bits) w other ≡ if w == twin && is_same other place then bits else stuck_in t w other
+  pub dead : (t : Store) (twin pair : ℕ) (on : Bool) (w other : ℕ) → IsStore t → twin < 2 → pair < 4 → w < 2 → other < 4
+      → is_dead (with_dead t twin pair on) w other ≡ if w == twin && other == pair then on else is_dead t w other
+  pub whole : (t : Store) (twin : ℕ) (at : Spot) (w : ℕ) → IsStore t → IsStore (with_held t twin at w)
+  pub banks : (t : Store) (twin : ℕ) (at : Spot) (w : ℕ) → (with_held t twin at w).banks ≡ t.banks

@@ -9,7 +9,8 @@ mod twins;
 
 pub use both_bad::BothBad;
 pub use read_out::ReadOut;
-pub use twins::Twins;
+pub use stuck::Stuck;
+pub use twins::{Twins, changes_are_local, home, survivor_is_read};
 
 #[cfg(test)]
 mod tests;

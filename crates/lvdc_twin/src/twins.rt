@@ -2,11 +2,10 @@ ghost use Rattle.std.specs.Prelude.{◌≡◌, ℕ, ◌-◌, ◌/◌, ◌%◌, �
 ghost use Rattle.lvdc_word.specs.Cell.{code_of};
 ghost use Rattle.lvdc_map.specs.Banks.{is_there, is_simplex, home};
 ghost use Rattle.lvdc_map.specs.Memory.{AllThere};
-ghost use Rattle.lvdc_twin.specs.Store.{IsStore, IsPlace, nothing, slot_of, stored_in, is_dead, selected_in, shown_in, with_cell, with_word, with_stuck_bits, with_dead, with_selected};
-ghost use Rattle.lvdc_twin.specs.Calls.{Begins, answer_by_one, answer_by_two, answer_of, after_answer, shows_word, Mends, NoneGood, with_held, after_write};
+ghost use Rattle.lvdc_twin.specs.Store.{IsStore, IsPlace, nothing, slot_of, stored_in, stuck_in, is_dead, selected_in, shown_in, survives, with_cell, with_word, with_stuck_bits, with_dead, with_selected};
+ghost use Rattle.lvdc_twin.specs.Calls.{Begins, answer_by_one, answer_by_two, answer_of, after_answer, shows_word, Finds, Mends, NoneGood, with_held, after_write, ChangesAreLocal};
 
-use crate::stuck::Stuck;
-use crate::{BothBad, ReadOut};
+use crate::{BothBad, ReadOut, Stuck};
 use lvdc_map::{Address, Banks, Placed};
 use lvdc_word::{Cell, NoMemory, Word};
 use std::alloc::Global;
@@ -80,10 +79,12 @@ impl Twins {
         ensures after { self.new ≡ after_answer result self.old (home at) }
         ensures both_bad { IsErr result ↔ NoneGood self.old at }
         ensures unchanged { OnErr result (self.new ≡ self.old) }
+        ensures repaired { IfOk result (λ r. IfSome r.repaired (λ twin. twin < 2)) }
         ensures mends { (w : ℕ) → w < 2 ^ 26 → is_simplex self.old.banks (at.pair % 4) ≡ false → shows_word self.old (home at) w ≡ true → Mends self.old self.new (home at) w result }
         ensures banks { self.new.banks ≡ self.old.banks }
         ensures whole { IsStore self.old }
         ensures place { IsPlace (home at) }
+        ensures bank { at.pair < 8 }
     {
         let place = home(at);
         if self.banks.simplex(place.pair) {
@@ -129,6 +130,17 @@ impl Twins {
         self.stuck[slot(twin, at)] = Stuck { mask, value };
     }
 
+    /// What is stuck at a physical place of a twin.
+    pub fn stuck_at(&self, twin: u8, at: Address) -> Stuck
+        requires twin { twin < 2 }
+        requires pair { at.pair < 4 }
+        ensures value { result ≡ stuck_in self.now twin at }
+        ensures whole { IsStore self.now }
+        ensures place { IsPlace at }
+    {
+        self.stuck[slot(twin, at)]
+    }
+
     /// Marks a twin as dead in a pair, or as alive. A dead twin shows 0 and stores no word.
     pub fn dead(&mut self, twin: u8, pair: u8, on: bool)
         requires twin { twin < 2 }
@@ -150,9 +162,8 @@ impl Twins {
         if self.is_dead(twin, at.pair) {
             Cell::within(0)
         } else {
-            let slot = slot(twin, at);
-            let stuck = self.stuck[slot];
-            self.cells[slot].stuck(stuck.mask, stuck.value)
+            let stuck = self.stuck_at(twin, at);
+            self.cells[slot(twin, at)].stuck(stuck.mask, stuck.value)
         }
     }
 
@@ -177,6 +188,7 @@ impl Twins {
     /// A read of a duplex pair.
     fn read_two(&mut self, place: Address) -> Result<ReadOut, BothBad>
         requires { place.pair < 4 }
+        ensures repaired { IfOk result (λ r. IfSome r.repaired (λ twin. twin < 2)) }
         ensures answer { let selected = selected_in self.old place.pair in result ≡ answer_by_two selected (shown_in self.old selected place) (shown_in self.old (1 - selected) place) }
         ensures after { self.new ≡ after_answer result self.old place }
     {
@@ -308,6 +320,17 @@ fn answer_by_two(selected: u8, mine: Cell, others: Cell) -> Result<ReadOut, Both
     }
 }
 
+/// A read finds a word of which the code survives in what is shown, whichever twin it uses first.
+pub fn survivor_is_read()
+    ensures one { (w : ℕ) → w < 2 ^ 26 → answer_by_one (code_of w) ≡ Ok (record { word = w; repaired = None; switched = false }) }
+    ensures two { (w selected : ℕ) (shown : ℕ → ℕ) → selected < 2 → w < 2 ^ 26 → survives (code_of w) (shown 0) (shown 1) ≡ true → Finds w shown (answer_by_two selected (shown selected) (shown (1 - selected))) }
+{}
+
+/// A change at one place, or of one mark, is seen there and nowhere else.
+pub fn changes_are_local()
+    ensures { ChangesAreLocal }
+{}
+
 /// Where a physical place of a twin stands in a table.
 fn slot(twin: u8, place: Address) -> usize
     requires twin { twin < 2 }
@@ -320,7 +343,7 @@ fn slot(twin: u8, place: Address) -> usize
 }
 
 /// The physical place of an address, in each twin that holds it.
-fn home(at: Address) -> Address
+pub fn home(at: Address) -> Address
     ensures value { result ≡ home at }
     ensures place { IsPlace result }
     ensures bank { at.pair < 8 }

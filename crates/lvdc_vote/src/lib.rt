@@ -17,7 +17,7 @@ pub use hurt::{Hurt, latched_state};
 pub use logic::LogicModule;
 pub use order::{Feed, latch_in_order, step_in_order};
 pub use triple::Triple;
-pub use vote::Vote;
+pub use vote::{Vote, two_are_the_vote};
 pub use whole::WholeTriple;
 
 #[cfg(test)]

@@ -198,7 +198,7 @@ impl<M: LogicModule> Triple<M> {
     }
 
     /// The copy of this number.
-    fn copy(&self, copy: u8) -> &M::State
+    pub fn copy(&self, copy: u8) -> &M::State
         requires { copy < 3 }
         ensures { M.State.latches result.now ≡ copy_of self.now copy }
     {

@@ -1,4 +1,5 @@
 ghost use Rattle.std.specs.Prelude.{◌≡◌, ℕ, ◌<◌, ◌↔◌, List, length, slice_get, IsTrue};
+ghost use Rattle.lvdc_vote.specs.Bits.{TwoAre};
 ghost use Rattle.lvdc_vote.specs.Latches.{majority_of, flipped_at, forced_at};
 
 use lvdc_word::Word;
@@ -47,3 +48,8 @@ pub trait Vote: Drop {
     /// States with the same words are equal.
     ghost exact: { (a b : Self) → latches a ≡ latches b → a ≡ b };
 }
+
+/// Where at least two of three states of one length are the same, their vote is that state.
+pub fn two_are_the_vote()
+    ensures { (one two three state : List ℕ) → length one ≡ length state → length two ≡ length state → length three ≡ length state → TwoAre one two three state → majority_of one two three ≡ state }
+{}

@@ -12,5 +12,5 @@ returns c =
       cells = λ twin two place here. c.in_ok-zeros.ensures.zero (slot_of twin place) (slot-small twin place two here);
       stuck = λ twin place. c.in_ok-nothing_stuck.ensures.nothing (slot_of twin place);
       dead = λ twin pair. get_or-same 8 (twin * 4 + pair) false;
-      selected = λ pair. get_or-same 4 pair 0;
+      selected = refl;
     }

@@ -1,0 +1,125 @@
+-- What the active events of a script do is what the whole script does.
+use Rattle.std.proofs.Common.{◌≡◌, ℕ, zero, suc, ◌==◌, bit_or, bit_xor, ◌<◌, Bool, true, false, ◌&&◌, ◌||◌, cond, List, [], ◌∷◌, length, get_or, All, Some, slice_get, refl, sym, ap, ◌∙◌, arith, true≢false}
+use Rattle.std.specs.List.{list_any}
+use Rattle.std.proofs.lemmas.List.Elements.{All-cons, All-nil}
+use Rattle.std.proofs.lemmas.Option.{slice_get_within}
+use Rattle.lvdc_word.specs.Cell.{with_stuck}
+use Rattle.lvdc_map.specs.Address.{Spot, is_same}
+use Rattle.lvdc_twin.specs.declared.stuck.Stuck.{Stuck}
+use Rattle.lvdc_fault.specs.declared.event.Event.{Event}
+use Rattle.lvdc_fault.specs.declared.event.Event.TheVariants.{Flip, Force, Lag, Deaf, Damage, Stick, Dead}
+use Rattle.lvdc_fault.specs.Script.{is_within, hurts, hurts_in, deafens, is_wrong, is_active, put_if, active_from, active_at, active_events}
+use Rattle.lvdc_fault.specs.Damage.{damaged_by, damaged, stuck_by, stuck_after, kills}
+use Rattle.lvdc_fault.proofs.Starts.{Stand, stand-all, stand-head, stand-tail}
+
+-- ---- an event that isn't active does nothing
+
+last_fails : (a b c : Bool) → c ≡ false → ((a && b) && c) ≡ false
+last_fails true true c h = h
+last_fails true false c h = refl
+last_fails false b c h = refl
+
+first_fails : (a b c : Bool) → a ≡ false → ((a && b) && c) ≡ false
+first_fails false b c h = refl
+first_fails true b c h = absurd (true≢false h)
+
+pub idle_hurts : (step m c : ℕ) (e : Event) → is_active step e ≡ false → hurts step m c e ≡ false
+idle_hurts step m c (Flip number copy first last index mask) h = last_fails (number == m) (copy == c) (is_within first last step) h
+idle_hurts step m c (Force number copy first last index mask value) h = last_fails (number == m) (copy == c) (is_within first last step) h
+idle_hurts step m c (Lag number copy first last) h = last_fails (number == m) (copy == c) (is_within first last step) h
+idle_hurts step m c (Deaf number copy first last) h = last_fails (number == m) (copy == c) (is_within first last step) h
+idle_hurts step m c _ h = refl
+
+pub idle_deafens : (step m c : ℕ) (e : Event) → is_active step e ≡ false → deafens step m c e ≡ false
+idle_deafens step m c (Deaf number copy first last) h = last_fails (number == m) (copy == c) (is_within first last step) h
+idle_deafens step m c _ h = refl
+
+pub idle_kills : (step twin pair : ℕ) (e : Event) → is_active step e ≡ false → kills step twin pair e ≡ false
+idle_kills step twin pair (Dead w p first last) h = last_fails (w == twin) (p == pair) (is_within first last step) h
+idle_kills step twin pair _ h = refl
+
+pub idle_damages : (step twin : ℕ) (place : Spot) (e : Event) (cell : ℕ) → is_active step e ≡ false → damaged_by step twin place e cell ≡ cell
+idle_damages step twin place (Damage w at t mask) cell h = ap (λ b. cond b (bit_xor cell mask) cell) (first_fails (t == step) (w == twin) (is_same place at) h)
+idle_damages step twin place _ cell h = refl
+
+pub idle_sticks : (step twin : ℕ) (place : Spot) (e : Event) (s : Stuck) → is_active step e ≡ false → stuck_by step twin place e s ≡ s
+idle_sticks step twin place (Stick w at first last mask value) s h =
+    ap (λ b. cond b (record { mask = bit_or s.mask mask; value = with_stuck s.value mask value }) s) (last_fails (w == twin) (is_same place at) (is_within first last step) h)
+idle_sticks step twin place _ s h = refl
+
+-- ---- what all do is what the active ones do
+
+any_step : (p : Event → Bool) (b : Bool) (e : Event) (es fs : List Event) → (b ≡ false → p e ≡ false) → list_any p fs ≡ list_any p es → list_any p (cond b (e ∷ fs) fs) ≡ list_any p (e ∷ es)
+any_step p true e es fs idle rest = ap (λ r. p e || r) rest
+any_step p false e es fs idle rest = rest ∙ ap (λ r. r || list_any p es) (sym (idle refl))
+
+pub any_active : (p : Event → Bool) (step : ℕ) → ((e : Event) → is_active step e ≡ false → p e ≡ false) → (es : List Event) → list_any p (active_events es step) ≡ list_any p es
+any_active p step idle [] = refl
+any_active p step idle (e ∷ es) = any_step p (is_active step e) e es (active_events es step) (idle e) (any_active p step idle es)
+
+damaged_step : (step twin : ℕ) (place : Spot) (b : Bool) (e : Event) (es fs : List Event) (cell : ℕ) → (b ≡ false → damaged_by step twin place e cell ≡ cell)
+    → ((cell : ℕ) → damaged step twin place fs cell ≡ damaged step twin place es cell) → damaged step twin place (cond b (e ∷ fs) fs) cell ≡ damaged step twin place (e ∷ es) cell
+damaged_step step twin place true e es fs cell idle rest = rest (damaged_by step twin place e cell)
+damaged_step step twin place false e es fs cell idle rest = rest cell ∙ ap (damaged step twin place es) (sym (idle refl))
+
+pub damaged_active : (step twin : ℕ) (place : Spot) (es : List Event) (cell : ℕ) → damaged step twin place (active_events es step) cell ≡ damaged step twin place es cell
+damaged_active step twin place [] cell = refl
+damaged_active step twin place (e ∷ es) cell =
+    damaged_step step twin place (is_active step e) e es (active_events es step) cell (idle_damages step twin place e cell) (damaged_active step twin place es)
+
+stuck_step : (step twin : ℕ) (place : Spot) (b : Bool) (e : Event) (es fs : List Event) (s : Stuck) → (b ≡ false → stuck_by step twin place e s ≡ s)
+    → ((s : Stuck) → stuck_after step twin place fs s ≡ stuck_after step twin place es s) → stuck_after step twin place (cond b (e ∷ fs) fs) s ≡ stuck_after step twin place (e ∷ es) s
+stuck_step step twin place true e es fs s idle rest = rest (stuck_by step twin place e s)
+stuck_step step twin place false e es fs s idle rest = rest s ∙ ap (stuck_after step twin place es) (sym (idle refl))
+
+pub stuck_active : (step twin : ℕ) (place : Spot) (es : List Event) (s : Stuck) → stuck_after step twin place (active_events es step) s ≡ stuck_after step twin place es s
+stuck_active step twin place [] s = refl
+stuck_active step twin place (e ∷ es) s =
+    stuck_step step twin place (is_active step e) e es (active_events es step) s (idle_sticks step twin place e s) (stuck_active step twin place es)
+
+-- ---- where they stand
+
+module _ (script : List Event) (step : ℕ) where
+  length-put : (b : Bool) (k : ℕ) (ps : List ℕ) (e : Event) (fs : List Event) → length fs ≡ length ps → length (cond b (e ∷ fs) fs) ≡ length (put_if b k ps)
+  length-put true k ps e fs h = ap suc h
+  length-put false k ps e fs h = h
+
+  pub length-active : (k : ℕ) (es : List Event) → length (active_events es step) ≡ length (active_from k es step)
+  length-active k [] = refl
+  length-active k (e ∷ es) = length-put (is_active step e) k (active_from (suc k) es step) e (active_events es step) (length-active (suc k) es)
+
+  at_put : (b : Bool) (k : ℕ) (ps : List ℕ) (e : Event) (fs : List Event) → slice_get script k ≡ Some e
+      → ((i : ℕ) → i < length ps → slice_get fs i ≡ slice_get script (get_or ps i 0))
+      → (i : ℕ) → i < length (put_if b k ps) → slice_get (cond b (e ∷ fs) fs) i ≡ slice_get script (get_or (put_if b k ps) i 0)
+  at_put true k ps e fs here rest zero h = sym here
+  at_put true k ps e fs here rest (suc i) h = rest i (omega arith)
+  at_put false k ps e fs here rest i h = rest i h
+
+  pub active_stand : (k : ℕ) (es : List Event) → Stand script k es → (i : ℕ) → i < length (active_from k es step) → slice_get (active_events es step) i ≡ slice_get script (get_or (active_from k es step) i 0)
+  active_stand k [] h i low = absurd (omega arith)
+  active_stand k (e ∷ es) h i low =
+      at_put (is_active step e) k (active_from (suc k) es step) e (active_events es step) (stand-head script k e es h) (active_stand (suc k) es (stand-tail script k e es h)) i low
+
+  within_put : (b : Bool) (k : ℕ) (ps : List ℕ) → k < length script → All (λ p. p < length script) ps → All (λ p. p < length script) (put_if b k ps)
+  within_put true k ps h rest = All-cons (λ p. p < length script) k ps h rest
+  within_put false k ps h rest = rest
+
+  pub active_within : (k : ℕ) (es : List Event) → Stand script k es → All (λ p. p < length script) (active_from k es step)
+  active_within k [] h = All-nil (λ p. p < length script)
+  active_within k (e ∷ es) h =
+      within_put (is_active step e) k (active_from (suc k) es step) (slice_get_within script k e (stand-head script k e es h)) (active_within (suc k) es (stand-tail script k e es h))
+
+  -- a copy is wrong where an event at an active position acts on it
+  hurt_put : (b : Bool) (m c k : ℕ) (ps : List ℕ) (e : Event) (fs : List Event) → slice_get script k ≡ Some e
+      → list_any (λ p. hurts_in (slice_get script p) step m c) ps ≡ list_any (hurts step m c) fs
+      → list_any (λ p. hurts_in (slice_get script p) step m c) (put_if b k ps) ≡ list_any (hurts step m c) (cond b (e ∷ fs) fs)
+  hurt_put true m c k ps e fs here rest = ap (λ o. hurts_in o step m c || list_any (λ p. hurts_in (slice_get script p) step m c) ps) here ∙ ap (λ r. hurts step m c e || r) rest
+  hurt_put false m c k ps e fs here rest = rest
+
+  hurt_active : (m c k : ℕ) (es : List Event) → Stand script k es → list_any (λ p. hurts_in (slice_get script p) step m c) (active_from k es step) ≡ list_any (hurts step m c) (active_events es step)
+  hurt_active m c k [] h = refl
+  hurt_active m c k (e ∷ es) h =
+      hurt_put (is_active step e) m c k (active_from (suc k) es step) e (active_events es step) (stand-head script k e es h) (hurt_active m c (suc k) es (stand-tail script k e es h))
+
+  pub wrong_active : (m c : ℕ) → list_any (λ p. hurts_in (slice_get script p) step m c) (active_at script step) ≡ is_wrong script step m c
+  wrong_active m c = hurt_active m c 0 script (stand-all script) ∙ any_active (hurts step m c) step (idle_hurts step m c) script

@@ -1,0 +1,6 @@
+pub mod Actives
+mod FaultRows
+pub mod Lowest
+pub mod Moves
+pub mod Rising
+pub mod Starts

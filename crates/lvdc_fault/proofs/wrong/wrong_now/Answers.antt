@@ -1,0 +1,17 @@
+use Rattle.std.proofs.Common.{sym, arith, ◌∙◌}
+use Rattle.lvdc_fault.specs.Script.{two_wrong}
+use Rattle.lvdc_fault.proofs.Lowest.{first_found, none_found, none_of_seven, fails_next}
+use Rattle.lvdc_fault.proofs.wrong.wrong_now.Goals as goal
+
+pub returns-then-has_two_now : goal.returns-then-has_two_now
+returns-then-has_two_now c =
+    let found = first_found (two_wrong c.args.script.now c.args.step) 1 7 c.loop-number.number (omega arith) (omega arith) c.loop-number.invariant (sym c.has_two_now.ensures ∙ c.if-has_two_now.true) in
+    record { value = sym found; none = none_of_seven _ _ (sym found) }
+
+pub loop-number-preserved : goal.loop-number-preserved
+loop-number-preserved c = fails_next (two_wrong c.args.script.now c.args.step) 1 c.loop-number.number c.loop-number.invariant (sym c.has_two_now.ensures ∙ c.if-has_two_now.false)
+
+pub returns : goal.returns
+returns c =
+    let none = none_found (two_wrong c.args.script.now c.args.step) 1 7 (λ j low high. c.loop-number.invariant j low (omega arith)) in
+    record { value = sym none; none = none_of_seven _ _ (sym none) }

@@ -1,0 +1,59 @@
+-- What is kept to tell the events active at one step after another.
+use Rattle.std.specs.Prelude.{◌≡◌, ℕ, suc, ◌<◌, ◌≤◌, Bool, false, List, [], ◌∷◌, length, map, filter, take, drop, All, Option, None, Some, slice_get, IfSome, MatchOption}
+use Rattle.std.specs.List.Sorted.{IsPermutation, IsNonDecreasingBy}
+use Rattle.lvdc_fault.specs.declared.event.Event.{Event}
+use Rattle.lvdc_fault.specs.declared.start.Start.{Start}
+use Rattle.lvdc_fault.specs.Script.{is_active, first_of, active_at}
+
+-- the positions of the events by rising first step, how many of them have begun, the positions held, the room for such, and
+-- the step that they are held for
+pub record Activity : Type 0 where
+  pub order : List Start
+  pub begun : ℕ
+  pub held : List ℕ
+  pub room : ℕ
+  pub last : Option ℕ
+
+-- the first steps of a list of events, whose first one has this position
+abbrev pub starts_from : ℕ → List Event → List Start
+starts_from position [] = []
+starts_from position (e ∷ es) = record { first = first_of e; position = position } ∷ starts_from (suc position) es
+
+-- the first steps of a script
+abbrev pub starts_of : List Event → List Start
+starts_of script = starts_from 0 script
+
+-- so many of the order have begun at a step, and the others haven't
+pub record HaveBegun (step : ℕ) (order : List Start) (begun : ℕ) : Type 0 where
+  pub before : All (λ s. s.first ≤ step) (take begun order)
+  pub after : All (λ s. step < s.first) (drop begun order)
+
+-- what is held for a step is what is active at it
+pub record Holds (script : List Event) (a : Activity) (step : ℕ) : Type 0 where
+  pub begun : HaveBegun step a.order a.begun
+  pub held : a.held ≡ active_at script step
+
+-- an activity fits a script: there is room for each event; the order holds each position once and no other, by rising first
+-- step; and what is held is right for the step that it is held for
+pub record Fits (script : List Event) (a : Activity) : Type 0 where
+  pub room : length script ≤ a.room
+  pub order : IsPermutation (starts_of script) a.order
+  pub rising : IsNonDecreasingBy (λ s. s.first) a.order
+  pub kept : IfSome a.last (Holds script a)
+
+-- it is ready to move on to a step: what is held is held for the step before, or nothing is
+abbrev pub IsReady : ℕ → Activity → Type 0
+IsReady step a = MatchOption a.last ((a.begun ≡ 0) × (a.held ≡ [])) (λ last. suc last ≡ step)
+
+-- is the event, if there is one, active at a step?
+abbrev pub is_active_in : Option Event → ℕ → Bool
+is_active_in None step = false
+is_active_in (Some e) step = is_active step e
+
+-- is there an event at a position that is active at a step?
+abbrev pub is_active_at : List Event → ℕ → ℕ → Bool
+is_active_at script step position = is_active_in (slice_get script position) step
+
+-- the positions of those in an order whose events are active at a step
+abbrev pub active_of : List Event → ℕ → List Start → List ℕ
+active_of script step order = filter (is_active_at script step) (map (λ s. s.position) order)

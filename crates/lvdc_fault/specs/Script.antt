@@ -1,0 +1,103 @@
+-- The fault script: what is active at a step, which copies are wrong then, and which are deaf.
+use Rattle.std.specs.Prelude.{◌≡◌, ◌≤◌, ℕ, suc, Bool, true, false, ◌==◌, ◌&&◌, ◌||◌, nat_le, List, [], ◌∷◌, Option, None, Some, find, filter}
+use Rattle.std.specs.List.{list_any}
+use Rattle.lvdc_fault.specs.declared.event.Event.{Event}
+use Rattle.lvdc_fault.specs.declared.event.Event.TheVariants.{Flip, Force, Lag, Deaf, Damage, Stick, Dead}
+
+-- does a step lie from the first to the last?
+abbrev pub is_within : ℕ → ℕ → ℕ → Bool
+is_within first last step = nat_le first step && nat_le step last
+
+-- ---- wrong copies
+
+-- is it this copy of this module, at a step from the first to the last?
+abbrev pub acts_on : ℕ → ℕ → ℕ → ℕ → ℕ → ℕ → ℕ → Bool
+acts_on number copy first last step m c = number == m && copy == c && is_within first last step
+
+-- does an event act on a copy of a module at a step?
+abbrev pub hurts : ℕ → ℕ → ℕ → Event → Bool
+hurts step m c (Flip number copy first last index mask) = acts_on number copy first last step m c
+hurts step m c (Force number copy first last index mask value) = acts_on number copy first last step m c
+hurts step m c (Lag number copy first last) = acts_on number copy first last step m c
+hurts step m c (Deaf number copy first last) = acts_on number copy first last step m c
+hurts step m c (Damage twin at t mask) = false
+hurts step m c (Stick twin at first last mask value) = false
+hurts step m c (Dead twin pair first last) = false
+
+-- does the event, if there is one?
+abbrev pub hurts_in : Option Event → ℕ → ℕ → ℕ → Bool
+hurts_in None step m c = false
+hurts_in (Some e) step m c = hurts step m c e
+
+-- a copy is wrong at a step where an event acts on it
+abbrev pub is_wrong : List Event → ℕ → ℕ → ℕ → Bool
+is_wrong script step m c = list_any (hurts step m c) script
+
+-- does a module have two wrong copies?
+abbrev pub two_wrong : List Event → ℕ → ℕ → Bool
+two_wrong script step m =
+    (is_wrong script step m 1 && is_wrong script step m 2)
+    || (is_wrong script step m 1 && is_wrong script step m 3)
+    || (is_wrong script step m 2 && is_wrong script step m 3)
+
+-- the lowest module with two wrong copies
+abbrev pub wrong_module : List Event → ℕ → Option ℕ
+wrong_module script step = find (two_wrong script step) (1 ∷ 2 ∷ 3 ∷ 4 ∷ 5 ∷ 6 ∷ 7 ∷ [])
+
+-- no module has two wrong copies
+abbrev pub NoneWrong : List Event → ℕ → Type 0
+NoneWrong script step = (m : ℕ) → 1 ≤ m → m ≤ 7 → two_wrong script step m ≡ false
+
+-- does an event make a copy of a module deaf at a step?
+abbrev pub deafens : ℕ → ℕ → ℕ → Event → Bool
+deafens step m c (Flip number copy first last index mask) = false
+deafens step m c (Force number copy first last index mask value) = false
+deafens step m c (Lag number copy first last) = false
+deafens step m c (Deaf number copy first last) = acts_on number copy first last step m c
+deafens step m c (Damage twin at t mask) = false
+deafens step m c (Stick twin at first last mask value) = false
+deafens step m c (Dead twin pair first last) = false
+
+-- a deaf copy of a module follows the copies of its own number in place of the votes
+abbrev pub is_deaf : List Event → ℕ → ℕ → ℕ → Bool
+is_deaf script step m c = list_any (deafens step m c) script
+
+-- ---- what is active
+
+-- is an event active at a step? Damage is at its step alone
+abbrev pub is_active : ℕ → Event → Bool
+is_active step (Flip number copy first last index mask) = is_within first last step
+is_active step (Force number copy first last index mask value) = is_within first last step
+is_active step (Lag number copy first last) = is_within first last step
+is_active step (Deaf number copy first last) = is_within first last step
+is_active step (Damage twin at t mask) = t == step
+is_active step (Stick twin at first last mask value) = is_within first last step
+is_active step (Dead twin pair first last) = is_within first last step
+
+-- the first step of an event
+abbrev pub first_of : Event → ℕ
+first_of (Flip number copy first last index mask) = first
+first_of (Force number copy first last index mask value) = first
+first_of (Lag number copy first last) = first
+first_of (Deaf number copy first last) = first
+first_of (Damage twin at t mask) = t
+first_of (Stick twin at first last mask value) = first
+first_of (Dead twin pair first last) = first
+
+-- a position before others, where it is wanted
+abbrev pub put_if : Bool → ℕ → List ℕ → List ℕ
+put_if true position positions = position ∷ positions
+put_if false position positions = positions
+
+-- the positions of the active events of a list whose first event has this position
+abbrev pub active_from : ℕ → List Event → ℕ → List ℕ
+active_from position [] step = []
+active_from position (e ∷ es) step = put_if (is_active step e) position (active_from (suc position) es step)
+
+-- the positions of the events active at a step, in the order of the script
+abbrev pub active_at : List Event → ℕ → List ℕ
+active_at script step = active_from 0 script step
+
+-- the events active at a step, in the order of the script
+abbrev pub active_events : List Event → ℕ → List Event
+active_events script step = filter (is_active step) script

@@ -1,0 +1,129 @@
+ghost use Rattle.std.specs.Prelude.{◌≡◌, ℕ, ◌+◌, ◌<◌, ◌≤◌, [], ◌++◌, length, map, take, filter, All, IfOk, None, Some, slice_index_or};
+ghost use Rattle.std.specs.List.Sorted.{IsPermutation, IsNonDecreasingBy};
+ghost use Rattle.smallvec.specs.SmallVec.{small_vec_len};
+ghost use Rattle.lvdc_fault.specs.declared.start.Start.{Start};
+ghost use Rattle.lvdc_fault.specs.Script.{active_at};
+ghost use Rattle.lvdc_fault.specs.Activity.{Fits, starts_of, is_active_at, active_of, IsReady};
+
+use crate::Script;
+use crate::start::Start;
+use lvdc_word::NoMemory;
+use smallvec::SmallVec;
+use std::alloc::Global;
+use std::marker::Model;
+
+/// The positions of the events that are active at a step. It is made for one script, and asked through `Script::active`. Steps
+/// asked in order cost the events that begin, end or are in force.
+#[derive(Drop)]
+pub struct Active {
+    order: Vec<Start>,
+    begun: usize,
+    held: SmallVec<usize, 8>,
+    last: Option<u64>,
+}
+
+impl Model for Active {
+    ghost use Rattle.std.specs.Prelude.{◌≤◌, vec_len};
+    ghost use Rattle.lvdc_fault.specs.Activity.{Activity};
+
+    ghost Value = { Activity };
+
+    ghost view = { λ a. record { order = a.order.items; begun = a.begun; held = a.held.items; room = a.held.capacity; last = a.last } };
+
+    ghost invariant = { λ a. a.begun ≤ vec_len a.order };
+}
+
+impl Active {
+    /// Fits the script, with room for all its events, and holds no position.
+    pub fn for_script(alloc: Global, script: &Script) -> Result<Active, NoMemory>
+        ensures fits { IfOk result (λ a. Fits script.now a) }
+        ensures held { IfOk result (λ a. a.held ≡ []) }
+        ensures last { IfOk result (λ a. a.last ≡ None) }
+    {
+        Ok(Active {
+            order: order_of(alloc, script)?,
+            begun: 0,
+            held: SmallVec::with_capacity(alloc, script.len())?,
+            last: None,
+        })
+    }
+
+    /// The positions held, in the order of the script.
+    pub fn positions(&self) -> &[usize]
+        ensures { result.now ≡ self.now.held }
+    {
+        self.held.as_slice()
+    }
+
+    /// Holds the positions of the events active at a step.
+    pub(crate) fn go_to(&mut self, script: &Script, step: u64)
+        requires { Fits script.now self.old }
+        ensures fits { Fits script.now self.new }
+        ensures held { self.new.held ≡ active_at script.now step }
+        ensures last { self.new.last ≡ Some step }
+    {
+        self.make_ready(script, step);
+        retain_active(script, step, &mut self.held);
+        self.begun += take_up(script, step, &self.order[self.begun..], &mut self.held);
+        self.held.sort_unstable();
+        self.last = Some(step);
+    }
+
+    /// Starts anew, unless what is held is held for the step before this one.
+    fn make_ready(&mut self, script: &Script, step: u64)
+        requires { Fits script.now self.old }
+        ensures fits { Fits script.now self.new }
+        ensures ready { IsReady step self.new }
+    {
+        if step == 0 || self.last != Some(step - 1) {
+            self.begun = 0;
+            self.held.clear();
+            self.last = None;
+        }
+    }
+}
+
+/// When each event begins, by rising first step.
+fn order_of(alloc: Global, script: &Script) -> Result<Vec<Start>, NoMemory>
+    ensures order { IfOk result (λ v. IsPermutation (starts_of script.now) v.items) }
+    ensures rising { IfOk result (λ v. IsNonDecreasingBy (λ s. s.first) v.items) }
+{
+    let mut order = Vec::with_capacity(alloc, script.len())?;
+    for (position, event) in script.events().iter().enumerate() {
+        order.push(Start {
+            first: event.first(),
+            position,
+        })?;
+    }
+    order.sort_unstable_by_key(|start| start.first);
+    Ok(order)
+}
+
+/// Keeps the positions of the events that are active at the step.
+fn retain_active(script: &Script, step: u64, held: &mut SmallVec<usize, 8>)
+    ensures items { held.new.items ≡ filter (is_active_at script.now step) held.old.items }
+    ensures capacity { held.new.capacity ≡ held.old.capacity }
+{
+    held.retain(|position| script.is_active_at(step, *position));
+}
+
+/// Takes up those at the front of an order that have begun at the step, and holds the positions of those that are active. It
+/// answers how many have begun.
+fn take_up(script: &Script, step: u64, order: &[Start], held: &mut SmallVec<usize, 8>) -> usize
+    requires { small_vec_len held.old + length order.now ≤ held.old.capacity }
+    ensures within { result ≤ length order.now }
+    ensures before { All (λ s. s.first ≤ step) (take result order.now) }
+    ensures after { (d : Start) → result < length order.now → step < (slice_index_or order.now result d).first }
+    ensures held { held.new.items ≡ held.old.items ++ active_of script.now step (take result order.now) }
+    ensures capacity { held.new.capacity ≡ held.old.capacity }
+{
+    for (index, start) in order.iter().enumerate() {
+        if start.first > step {
+            return index;
+        }
+        if script.is_active_at(step, start.position) {
+            held.push_reserved(start.position);
+        }
+    }
+    order.len()
+}

@@ -1,0 +1,114 @@
+ghost use Rattle.std.specs.Prelude.{◌≡◌};
+ghost use Rattle.lvdc_fault.specs.Script.{first_of, hurts, is_active};
+
+use lvdc_map::Address;
+use lvdc_word::{Cell, Word};
+
+/// A line of the fault script (this project's profile). Modules are 1 to 7, copies 1 to 3, twins 0 and 1; an event acts at
+/// the steps from `first` to `last`. The events on memory name the physical place, with its pair below 4.
+#[derive(Clone, Copy, Debug, PartialEq, Eq)]
+pub enum Event {
+    /// FLIP: the bits under the mask are turned over in the latch that the copy takes.
+    Flip {
+        module: u8,
+        copy: u8,
+        first: u64,
+        last: u64,
+        index: u8,
+        mask: Word,
+    },
+    /// FORCE: the bits under the mask are the value's in the latch that the copy takes.
+    Force {
+        module: u8,
+        copy: u8,
+        first: u64,
+        last: u64,
+        index: u8,
+        mask: Word,
+        value: Word,
+    },
+    /// LAG: the copy keeps its old latches.
+    Lag {
+        module: u8,
+        copy: u8,
+        first: u64,
+        last: u64,
+    },
+    /// DEAF: the copy follows the copies of its own number in place of the votes.
+    Deaf {
+        module: u8,
+        copy: u8,
+        first: u64,
+        last: u64,
+    },
+    /// DAMAGE: before the step the bits under the mask are turned over in the stored cell.
+    Damage {
+        twin: u8,
+        at: Address,
+        step: u64,
+        mask: Cell,
+    },
+    /// STICK: the twin shows the value's bits under the mask. Where two meet on a bit, the later one of the script counts.
+    Stick {
+        twin: u8,
+        at: Address,
+        first: u64,
+        last: u64,
+        mask: Cell,
+        value: Cell,
+    },
+    /// DEAD: the twin of the pair shows 0 and stores no word.
+    Dead {
+        twin: u8,
+        pair: u8,
+        first: u64,
+        last: u64,
+    },
+}
+
+impl Event {
+    /// The first step at which it acts.
+    pub(crate) fn first(&self) -> u64
+        ensures { result ≡ first_of self.now }
+    {
+        match *self {
+            Event::Flip { first, .. }
+            | Event::Force { first, .. }
+            | Event::Lag { first, .. }
+            | Event::Deaf { first, .. }
+            | Event::Stick { first, .. }
+            | Event::Dead { first, .. } => first,
+            Event::Damage { step, .. } => step,
+        }
+    }
+
+    /// Is it active at the step?
+    pub(crate) fn is_active(&self, step: u64) -> bool
+        ensures { result ≡ is_active step self.now }
+    {
+        match *self {
+            Event::Flip { first, last, .. }
+            | Event::Force { first, last, .. }
+            | Event::Lag { first, last, .. }
+            | Event::Deaf { first, last, .. }
+            | Event::Stick { first, last, .. }
+            | Event::Dead { first, last, .. } => first <= step && step <= last,
+            Event::Damage { step: at_step, .. } => at_step == step,
+        }
+    }
+
+    /// Does it act on this copy of this module at the step?
+    pub(crate) fn hurts(&self, step: u64, module_number: u8, copy_number: u8) -> bool
+        ensures { result ≡ hurts step module_number copy_number self.now }
+    {
+        match *self {
+            Event::Flip { module, copy, .. }
+            | Event::Force { module, copy, .. }
+            | Event::Lag { module, copy, .. }
+            | Event::Deaf { module, copy, .. } => {
+                module == module_number && copy == copy_number && self.is_active(step)
+            }
+            Event::Damage { .. } | Event::Stick { .. } | Event::Dead { .. } => false,
+        }
+    }
+}

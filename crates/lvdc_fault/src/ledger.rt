@@ -1,0 +1,100 @@
+ghost use Rattle.std.specs.Prelude.{◌≡◌, ◌<◌, true, IfOk, slice_set};
+ghost use Rattle.lvdc_map.specs.Address.{number_of};
+ghost use Rattle.lvdc_map.specs.Banks.{is_there};
+ghost use Rattle.lvdc_map.specs.Memory.{Memory, AllThere, IsMemory, word_at, stored, memory_of};
+ghost use Rattle.lvdc_fault.specs.Ledger.{intended_at};
+ghost use Rattle.lvdc_fault.specs.Recoverable.{recovers_by, is_recovered, shown_by};
+ghost use Rattle.lvdc_twin.specs.Store.{survives};
+
+use lvdc_map::{Address, Banks, Placed, Words};
+use lvdc_word::{Cell, NoMemory, Word};
+use std::alloc::Global;
+use std::marker::Model;
+
+/// The intended words: the last word that was written at each address, else the image's, else 0. It knows nothing of cells
+/// and faults.
+#[derive(Drop)]
+pub struct Ledger {
+    banks: Banks,
+    words: Words,
+}
+
+impl Model for Ledger {
+    ghost use Rattle.lvdc_fault.specs.Ledger.{Intended};
+
+    ghost Value = { Intended };
+
+    ghost view = { λ l. record { banks = l.banks; words = l.words } };
+}
+
+impl Ledger {
+    /// The words of an image.
+    pub fn new(alloc: Global, image: &[Placed], banks: Banks) -> Result<Ledger, NoMemory>
+        requires { AllThere banks image.now }
+        ensures banks { IfOk result (λ l. l.banks ≡ banks) }
+        ensures words { IfOk result (λ l. IsMemory l.words (memory_of image.now)) }
+    {
+        let words = Words::of_image(alloc, image)?;
+        Ok(Ledger { banks, words })
+    }
+
+    /// From now on this word is intended at the address.
+    pub fn wrote(&mut self, at: Address, word: Word)
+        requires { is_there self.old.banks at ≡ true }
+        ensures value { self.new ≡ record self.old { words = slice_set self.old.words (number_of at) word } }
+        ensures words { (m : Memory) → IsMemory self.old.words m → IsMemory self.new.words (stored m at word) }
+        ensures banks { self.new.banks ≡ self.old.banks }
+    {
+        self.words.store(at, word);
+    }
+
+    /// The word intended at an address.
+    pub fn intended(&self, at: Address) -> Word
+        requires { is_there self.now.banks at ≡ true }
+        ensures value { result ≡ intended_at self.now at }
+        ensures words { (m : Memory) → IsMemory self.now.words m → result ≡ word_at m at }
+    {
+        self.words.word(at)
+    }
+
+    /// Can the intended word be recovered from what twin 0 and twin 1 show? In a duplex pair a twin shows its cell, and each
+    /// twin that shows another cell shows a bad one; in a simplex pair the twin with the bank shows its cell, and the other
+    /// isn't looked at.
+    pub fn recoverable(&self, at: Address, zeroth: Cell, first: Cell) -> bool
+        requires { is_there self.now.banks at ≡ true }
+        ensures value { result ≡ is_recovered self.now.banks at (intended_at self.now at) (shown_by zeroth first) }
+        ensures words { (m : Memory) → IsMemory self.now.words m → result ≡ is_recovered self.now.banks at (word_at m at) (shown_by zeroth first) }
+    {
+        let code = Cell::encode(self.intended(at));
+        recovers(
+            self.banks.simplex(at.pair % 4),
+            at.pair,
+            code,
+            zeroth,
+            first,
+        )
+    }
+}
+
+/// Can this cell of a bank be recovered, in a simplex or a duplex pair?
+fn recovers(simplex: bool, bank: u8, cell: Cell, zeroth: Cell, first: Cell) -> bool
+    requires { bank < 8 }
+    ensures { result ≡ recovers_by simplex bank cell (shown_by zeroth first) }
+{
+    if simplex {
+        let shown = if bank < 4 { zeroth } else { first };
+        shown == cell
+    } else {
+        survives(cell, zeroth, first)
+    }
+}
+
+/// Does a twin show the cell, and each twin that shows another one a bad one?
+fn survives(cell: Cell, zeroth: Cell, first: Cell) -> bool
+    ensures { result ≡ survives cell zeroth first }
+{
+    let good = |shown: Cell| shown.decode().is_some();
+    (zeroth == cell || first == cell)
+        && (zeroth == cell || !good(zeroth))
+        && (first == cell || !good(first))
+}

@@ -1,0 +1,25 @@
+//! The fault script: what is active at a step, which modules have two wrong copies, and the intended words of memory by
+//! which a step is judged (this project's profile).
+#![tactic(auto)]
+
+mod active;
+mod event;
+mod laws;
+mod ledger;
+mod named;
+mod script;
+mod start;
+mod verdict;
+mod wrong;
+
+pub use active::Active;
+pub use event::Event;
+pub use laws::{active_suffice, inactive_idles, none_wrong};
+pub use ledger::Ledger;
+pub use named::Named;
+pub use script::Script;
+pub use verdict::Verdict;
+pub use wrong::{wrong_module, wrong_now};
+
+#[cfg(test)]
+mod tests;

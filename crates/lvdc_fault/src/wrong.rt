@@ -1,0 +1,77 @@
+ghost use Rattle.std.specs.Prelude.{◌≡◌, ℕ, ◌↔◌, ◌&&◌, ◌||◌, IsNone, slice_get};
+ghost use Rattle.std.specs.List.{list_any};
+ghost use Rattle.lvdc_fault.specs.Script.{active_at, is_wrong, wrong_module, two_wrong, hurts_in, NoneWrong};
+
+use crate::{Active, Event, Script};
+
+/// The lowest module with two or more wrong copies at the step, by the whole script.
+pub fn wrong_module(script: &Script, step: u64) -> Option<u8>
+    ensures value { result ≡ wrong_module script.now step }
+    ensures none { IsNone result ↔ NoneWrong script.now step }
+{
+    for number in 1..=7 {
+        if has_two(script.events(), step, number) {
+            return Some(number);
+        }
+    }
+    None
+}
+
+/// The lowest module with two or more wrong copies at the step, by the events that are active.
+pub fn wrong_now(script: &Script, active: &Active, step: u64) -> Option<u8>
+    requires { active.now.held ≡ active_at script.now step }
+    ensures value { result ≡ wrong_module script.now step }
+    ensures none { IsNone result ↔ NoneWrong script.now step }
+{
+    for number in 1..=7 {
+        if has_two_now(script, active.positions(), step, number) {
+            return Some(number);
+        }
+    }
+    None
+}
+
+/// Has this module two wrong copies at the step?
+fn has_two(events: &[Event], step: u64, number: u8) -> bool
+    ensures { result ≡ two_wrong events.now step number }
+{
+    are_two(
+        is_wrong(events, step, number, 1),
+        is_wrong(events, step, number, 2),
+        is_wrong(events, step, number, 3),
+    )
+}
+
+/// Has this module two wrong copies at the step, by the positions of the active events?
+fn has_two_now(script: &Script, active: &[usize], step: u64, number: u8) -> bool
+    requires { active.now ≡ active_at script.now step }
+    ensures { result ≡ two_wrong script.now step number }
+{
+    are_two(
+        is_wrong_at(script, active, step, number, 1),
+        is_wrong_at(script, active, step, number, 2),
+        is_wrong_at(script, active, step, number, 3),
+    )
+}
+
+fn are_two(one: bool, two: bool, three: bool) -> bool
+    ensures { result ≡ ((one && two) || (one && three) || (two && three)) }
+{
+    one && two || one && three || two && three
+}
+
+/// Does one of the events act on this copy of this module at the step?
+fn is_wrong(events: &[Event], step: u64, number: u8, copy: u8) -> bool
+    ensures { result ≡ is_wrong events.now step number copy }
+{
+    events.iter().any(|event| event.hurts(step, number, copy))
+}
+
+/// Does an event at one of the positions act on this copy of this module at the step?
+fn is_wrong_at(script: &Script, positions: &[usize], step: u64, number: u8, copy: u8) -> bool
+    ensures { result ≡ list_any (λ p. hurts_in (slice_get script.now p) step number copy) positions.now }
+{
+    positions
+        .iter()
+        .any(|position| script.hurts_at(step, number, copy, *position))
+}

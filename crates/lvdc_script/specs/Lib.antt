@@ -1,0 +1,4 @@
+pub mod Orders
+pub mod Events
+pub mod Fields
+pub mod Lines
