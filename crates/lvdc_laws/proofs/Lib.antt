@@ -1,0 +1,11 @@
+pub mod Copies
+pub mod Places
+pub mod Cells
+pub mod Recovered
+pub mod PlainTimes
+pub mod PlainRuns
+pub mod Steps
+pub mod Join
+pub mod Run
+pub mod Whole
+pub mod Known

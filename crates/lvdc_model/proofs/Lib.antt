@@ -1,0 +1,5 @@
+pub mod LedgerRows
+pub mod VotedRows
+pub mod LongRows
+pub mod ProgramRows
+pub mod SimplexRows

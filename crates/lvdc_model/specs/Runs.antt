@@ -1,0 +1,85 @@
+-- Whole runs of the voted machine: through every fault, guarded by the verdicts, and guarded by what the machine itself sees.
+use Rattle.std.specs.Prelude.{ℕ, zero, suc, Bool, if◌then◌else◌}
+use Rattle.std.specs.declared.option.Option.{Option}
+use Rattle.std.specs.declared.option.Option.TheVariants.{None, Some}
+use Rattle.lvdc_map.specs.Address.{Spot}
+use Rattle.lvdc_map.specs.Memory.{word_at}
+use Rattle.lvdc_modules.specs.declared.wanted.Wanted.{Wanted}
+use Rattle.lvdc_modules.specs.declared.wanted.Wanted.TheVariants.{Fetch, Operand}
+use Rattle.lvdc_fault.specs.Recoverable.{is_recovered}
+use Rattle.lvdc_fault.specs.Script.{wrong_module}
+use Rattle.lvdc_fault.specs.declared.verdict.Verdict.{Verdict}
+use Rattle.lvdc_fault.specs.declared.verdict.Verdict.TheVariants.{Admissible, Logic, Memory}
+use Rattle.lvdc_model.specs.declared.outcome.Outcome.{Outcome}
+use Rattle.lvdc_model.specs.declared.outcome.Outcome.TheVariants.{Inadmissible}
+use Rattle.lvdc_model.specs.Trial.{Trial}
+use Rattle.lvdc_model.specs.Judging.{judged}
+use Rattle.lvdc_model.specs.Twins.{shows}
+use Rattle.lvdc_model.specs.Voted.{Voted, voted_start}
+use Rattle.lvdc_model.specs.Exchanges.{prepared, ended, wished, voted_step}
+
+-- ---- through every fault
+
+-- one step that no one judges; after an end nothing changes
+abbrev pub through_by : Option Outcome → Trial → Voted → Voted
+through_by (Some e) o v = v
+through_by None o v = voted_step o (prepared o v)
+
+-- the voted machine after so many steps, or fewer where it ends
+abbrev pub through : Trial → ℕ → Voted
+through o zero = voted_start o
+through o (suc n) = through_by (through o n).end o (through o n)
+
+-- ---- guarded
+
+-- a step that was judged: any verdict but Admissible ends the run, once the step's devices are unplugged and its cells damaged
+abbrev pub judged_by : Verdict → Trial → Voted → Voted
+judged_by Admissible o v = voted_step o v
+judged_by (Logic step m) o v = ended v (Inadmissible (Logic step m))
+judged_by (Memory step at) o v = ended v (Inadmissible (Memory step at))
+
+-- one step, judged by script and plain run
+abbrev pub guarded_by : Option Outcome → Trial → Voted → Voted
+guarded_by (Some e) o v = v
+guarded_by None o v = judged_by (judged o v.steps) o (prepared o v)
+
+-- the guarded machine after so many steps, or fewer where it ends
+abbrev pub guarded : Trial → ℕ → Voted
+guarded o zero = voted_start o
+guarded o (suc n) = guarded_by (guarded o n).end o (guarded o n)
+
+-- ---- guarded by what the machine itself has
+
+-- the address that is to be read
+abbrev pub read_of_wish : Wanted → Option Spot
+read_of_wish (Fetch at) = Some at
+read_of_wish (Operand at) = Some at
+read_of_wish _ = None
+
+-- the intended word of an address can be recovered from the machine's own cells
+abbrev pub recovers : Trial → Voted → Spot → Bool
+recovers o v at = is_recovered o.opening.banks at (word_at v.intended at) (λ twin. shows o v.steps v.twins twin at)
+
+-- what the machine says of the address that it is to read
+abbrev pub found_memory : Trial → Voted → Option Spot → Verdict
+found_memory o v None = Admissible
+found_memory o v (Some at) = if recovers o v at then Admissible else Memory v.steps at
+
+-- a module with two wrong copies comes first
+abbrev pub found_logic : Trial → Voted → Option ℕ → Verdict
+found_logic o v (Some m) = Logic v.steps m
+found_logic o v None = found_memory o v (read_of_wish (wished o v))
+
+-- the verdict that the machine finds by its own votes, cells and intended words, once the step is prepared
+abbrev pub found : Trial → Voted → Verdict
+found o v = found_logic o v (wrong_module o.script v.steps)
+
+-- one step, judged so
+abbrev pub alone_by : Option Outcome → Trial → Voted → Voted
+alone_by (Some e) o v = v
+alone_by None o v = judged_by (found o (prepared o v)) o (prepared o v)
+
+-- the machine that judges alone, after so many steps, or fewer where it ends
+abbrev pub alone : Trial → ℕ → Voted
+alone o zero = voted_start o
+alone o (suc n) = alone_by (alone o n).end o (alone o n)

@@ -1,0 +1,42 @@
+-- A trial: an opening, and the script of faults under which the voted machine runs it.
+use Rattle.std.specs.Prelude.{ℕ, zero, suc, ◌/◌, ◌%◌, List}
+use Rattle.std.specs.declared.option.Option.{Option}
+use Rattle.std.specs.declared.option.Option.TheVariants.{None}
+use Rattle.lvdc_map.specs.Address.{Spot}
+use Rattle.lvdc_plain.specs.Accesses as accesses
+use Rattle.lvdc_plain.specs.Plain.{PlainState}
+use Rattle.lvdc_plain.specs.Run.{Opening, run}
+use Rattle.lvdc_fault.specs.declared.event.Event.{Event}
+
+-- what a voted run depends on, as plain data
+pub record Trial : Type 0 where
+  pub opening : Opening
+  pub script : List Event
+
+-- the plain state after so many whole times; it knows no script
+abbrev pub plain_at : Trial → ℕ → PlainState
+plain_at o k = (run o.opening k).plain
+
+-- the plain state of the time in which a step lies: a time has three steps
+abbrev pub plain_in : Trial → ℕ → PlainState
+plain_in o step = plain_at o (step / 3)
+
+-- what a plain state reads of memory in a phase of the time that it begins: in A the instruction, in B the operand
+abbrev pub read_in_phase : ℕ → PlainState → Option Spot
+read_in_phase zero p = accesses.fetched p
+read_in_phase (suc zero) p = accesses.operand p
+read_in_phase (suc (suc n)) p = None
+
+-- what the plain run reads of memory in a step
+abbrev pub read_at : Trial → ℕ → Option Spot
+read_at o step = read_in_phase (step % 3) (plain_in o step)
+
+-- what it stores in a phase: only C stores
+abbrev pub store_in_phase : ℕ → PlainState → Option accesses.Store
+store_in_phase zero p = None
+store_in_phase (suc zero) p = None
+store_in_phase (suc (suc n)) p = accesses.store p
+
+-- what it stores in a step
+abbrev pub store_at : Trial → ℕ → Option accesses.Store
+store_at o step = store_in_phase (step % 3) (plain_in o step)

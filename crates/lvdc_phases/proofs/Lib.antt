@@ -1,0 +1,10 @@
+pub mod Seen
+pub mod Quiet
+pub mod UnitLands
+pub mod Before
+pub mod ByOperation
+pub mod Executes
+pub mod Wishes
+pub mod Law
+pub mod Words
+pub mod Stands
