@@ -1,0 +1,4 @@
+pub mod ActiveEvents
+pub mod Differing
+pub mod Numbers
+pub mod Commits

@@ -1,0 +1,26 @@
+-- The logic as it is seen: three copies of each of seven modules, and how often each copy differed from the vote.
+use Rattle.std.specs.Prelude.{ℕ, ◌-◌, ◌≤◌, List, [], slice_index, slice_index_or}
+use Rattle.lvdc_vote.specs.Copies.{Copies, settled, copy_of}
+
+-- the copies of the seven modules in order, of each copy how often it differed from the vote, and how many hurts of one copy
+-- there is room for
+pub record LogicState : Type 0 where
+  pub copies : List Copies
+  pub counts : List (List ℕ)
+  pub room : ℕ
+
+-- the copies of a module, by its number from 1
+abbrev pub copies_at : List Copies → ℕ → Copies
+copies_at copies number = slice_index_or copies (number - 1) (settled [] [] [])
+
+-- the word of a latch of a copy, by the number of the module and of the copy, both from 1, and the index of the latch
+abbrev pub latch_of : List Copies → ℕ → ℕ → ℕ → ℕ
+latch_of copies number copy index = slice_index (copy_of (copies_at copies number) (copy - 1)) index
+
+-- how often a copy differed, by the same numbers
+abbrev pub count_of : List (List ℕ) → ℕ → ℕ → ℕ
+count_of counts number copy = slice_index (slice_index_or counts (number - 1) []) (copy - 1)
+
+-- no copy differed more often than this
+abbrev pub DifferedAtMost : ℕ → List (List ℕ) → Type 0
+DifferedAtMost most counts = (number copy : ℕ) → count_of counts number copy ≤ most

@@ -1,0 +1,13 @@
+//! The logic of the voted machine: three copies of each of the seven modules, what each latches in a step whatever the order,
+//! and how often each copy differed from the vote.
+#![tactic(auto)]
+
+mod counts;
+mod hits;
+mod logic;
+mod triples;
+
+pub use logic::Logic;
+
+#[cfg(test)]
+mod tests;

@@ -1,0 +1,125 @@
+ghost use Rattle.std.specs.Prelude.{◌≡◌, ◌+◌, ◌≤◌, ◌<◌, ◌^◌, [], ◌∷◌, All, IfOk, length, map, replicate};
+ghost use Rattle.lvdc_vote.specs.Copies.{vote_of};
+ghost use Rattle.lvdc_modules.specs.Rows.{rows, bus_of, start_latches};
+ghost use Rattle.lvdc_modules.specs.States.{latches_of};
+ghost use Rattle.lvdc_fault.specs.Script.{active_at};
+ghost use Rattle.lvdc_model.specs.Voted.{next_copies, counted, thrice};
+ghost use Rattle.lvdc_script.specs.Events.{IsEvent};
+ghost use Rattle.lvdc_logic.specs.Logic.{latch_of, count_of, DifferedAtMost};
+
+use crate::counts::Counts;
+use crate::triples::Triples;
+use lvdc_fault::{Active, Script};
+use lvdc_map::Hop;
+use lvdc_modules::Bus;
+use lvdc_script::Order;
+use lvdc_vote::Hurt;
+use lvdc_word::{NoMemory, Word};
+use smallvec::SmallVec;
+use std::alloc::Global;
+use std::marker::Model;
+
+/// Three copies of each of the seven modules, and of each copy in how many steps it differed from the vote. Contracts see
+/// the lists of both, and the room for what is wrong with one copy.
+#[derive(Drop)]
+pub struct Logic {
+    triples: Triples,
+    counts: Counts,
+    hurts: SmallVec<Hurt, 8>,
+}
+
+impl Model for Logic {
+    ghost use Rattle.lvdc_logic.specs.Counts.{counts_in};
+    ghost use Rattle.lvdc_logic.specs.Latching.{copies_in, AllFresh, AllSized};
+    ghost use Rattle.lvdc_logic.specs.Logic.{LogicState};
+
+    ghost Value = { LogicState };
+
+    ghost view = { λ l. record { copies = copies_in l.triples; counts = counts_in l.counts; room = l.hurts.capacity } };
+
+    ghost invariant = { λ l. AllFresh l.triples × AllSized l.triples };
+}
+
+impl Logic {
+    /// The logic at a start: equal copies, of which none has differed, with room for what so many events do to one copy.
+    pub fn new(alloc: Global, start: Hop, events: usize) -> Result<Logic, NoMemory>
+        ensures copies { IfOk result (λ l. l.copies ≡ map thrice (start_latches start)) }
+        ensures counts { IfOk result (λ l. l.counts ≡ replicate 7 (0 ∷ 0 ∷ 0 ∷ [])) }
+        ensures differed { IfOk result (λ l. DifferedAtMost 0 l.counts) }
+        ensures room { IfOk result (λ l. events ≤ l.room) }
+    {
+        Ok(Logic {
+            triples: Triples::new(start),
+            counts: Counts::none(),
+            hurts: SmallVec::with_capacity(alloc, events)?,
+        })
+    }
+
+    /// The votes, with these words from memory and port.
+    pub fn bus(&self, memory: Word, port: Word) -> Bus
+        ensures { result ≡ bus_of (map vote_of self.now.copies) memory port }
+    {
+        self.triples.voted_bus(memory, port)
+    }
+
+    /// Makes a step, in which the copies latch in this order: each from the votes and these words from memory and port, or
+    /// where it is deaf from the copies of its own number, and with what the active events do to it. Then each copy that
+    /// differs from the new vote is counted. What comes of it doesn't depend on the order.
+    pub fn step(
+        &mut self,
+        order: &Order,
+        script: &Script,
+        active: &Active,
+        step: u64,
+        memory: Word,
+        port: Word,
+    )
+        requires active { active.now.held ≡ active_at script.now step }
+        requires events { All IsEvent script.now }
+        requires room { length script.now ≤ self.old.room }
+        requires differed { DifferedAtMost step self.old.counts }
+        requires bound { step < 2 ^ 63 }
+        ensures copies { self.new.copies ≡ next_copies script.now step 1 rows self.old.copies self.old.copies (bus_of (map vote_of self.old.copies) memory port) }
+        ensures counts { self.new.counts ≡ counted self.new.copies self.old.counts }
+        ensures differed { DifferedAtMost (step + 1) self.new.counts }
+        ensures room { self.new.room ≡ self.old.room }
+    {
+        let voted = self.triples.voted_bus(memory, port);
+        self.triples
+            .latch_all(order, &mut self.hurts, script, active, step, &voted);
+        self.triples.commit();
+        self.counts.count(&self.triples);
+    }
+
+    /// In how many steps a copy differed from the vote. Modules are 1 to 7 and copies 1 to 3.
+    pub fn differed(&self, number: u8, copy: u8) -> u64
+        requires first_number { 1 ≤ number }
+        requires last_number { number ≤ 7 }
+        requires first_copy { 1 ≤ copy }
+        requires last_copy { copy ≤ 3 }
+        ensures { result ≡ count_of self.now.counts number copy }
+    {
+        self.counts.of_module(number)[usize::from(copy - 1)]
+    }
+
+    /// The word of a latch of a copy. Modules are 1 to 7, copies 1 to 3, and latches are counted from 0.
+    pub fn copy_word(&self, number: u8, copy: u8, index: u8) -> Word
+        requires first_number { 1 ≤ number }
+        requires last_number { number ≤ 7 }
+        requires first_copy { 1 ≤ copy }
+        requires last_copy { copy ≤ 3 }
+        requires index { index < latches_of number }
+        ensures { result ≡ latch_of self.now.copies number copy index }
+    {
+        let copy = copy - 1;
+        match number {
+            1 => self.triples.timer.word(copy, index),
+            2 => self.triples.locator.word(copy, index),
+            3 => self.triples.decoder.word(copy, index),
+            4 => self.triples.selector.word(copy, index),
+            5 => self.triples.accumulator.word(copy, index),
+            6 => self.triples.multiplier.word(copy, index),
+            _ => self.triples.exchange.word(copy, index),
+        }
+    }
+}

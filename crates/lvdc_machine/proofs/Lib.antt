@@ -1,0 +1,12 @@
+pub mod Timer
+pub mod Begun
+pub mod Judging
+pub mod Making
+pub mod Arms
+pub mod Standing
+pub mod Blame
+pub mod Ports
+pub mod Frames
+pub mod Telling
+pub mod Starting
+pub mod Following

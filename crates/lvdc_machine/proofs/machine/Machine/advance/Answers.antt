@@ -1,0 +1,106 @@
+use Rattle.std.proofs.Common.{ℕ, sym, ap, subst, ◌∙◌, arith}
+use Rattle.lvdc_port.specs.Devices.{HasSpare}
+use Rattle.lvdc_machine.specs.Room.{exchanges_left}
+use Rattle.lvdc_machine.specs.View.{View}
+use Rattle.lvdc_machine.proofs.Blame.{since-then, made-caused, fails-has, fails-since}
+use Rattle.lvdc_machine.proofs.Frames.{keeps-then, keeps-begun, keeps-ended, made-most}
+use Rattle.lvdc_machine.proofs.Standing.{is-prepared, wanted-wished, stands-judged, stands-made, stands-failed}
+use Rattle.lvdc_machine.proofs.machine.Machine.advance.Goals as goal
+
+pub exchange-requires-clause-right : goal.exchange-requires-clause-right
+exchange-requires-clause-right g c = c.verdict.ensures.right c.in-Admissible.is
+
+pub exchange-requires-clause-left : goal.exchange-requires-clause-left
+exchange-requires-clause-left g c = rw c.begin.ensures.new c.requires.left
+
+pub exchange-requires-clause-room : goal.exchange-requires-clause-room
+exchange-requires-clause-room g c =
+    subst (λ (n : ℕ). HasSpare (λ b. (goal.PortDevice-dyn g (b.vtable, b.value)).spare b.value) n c.unplug_due.new.devices.items)
+    (sym (ap (λ (m : View). exchanges_left m.pace m.steps m.limit) c.begin.ensures.new)) (c.unplug_due.ensures.spare _ c.requires.room)
+
+pub returns-in_default-clause-stands : goal.returns-in_default-clause-stands
+returns-in_default-clause-stands g c = λ o t h.
+    let p = is-prepared o t c.args.self.now c.begin.new.self _ _ h c.requires.running c.begin.ensures.new c.begin.ensures.last
+    (λ v s. c.begin.ensures.shows o v _ s) c.unplug_due.ensures.devices in
+    stands-judged o t c.begin.new.self c.stop.new.self _ c.verdict.result p
+    (c.verdict.ensures.verdict o _ _ p.shows (wanted-wished p.shows _ c.wanted-wanted.ensures.value)) c.in_default.not-Admissible c.stop.ensures.new
+
+pub returns-in-Ok-clause-stands : goal.returns-in-Ok-clause-stands
+returns-in-Ok-clause-stands g c = λ o t h.
+    let p = is-prepared o t c.args.self.now c.begin.new.self _ _ h c.requires.running c.begin.ensures.new c.begin.ensures.last
+    (λ v s. c.begin.ensures.shows o v _ s) c.unplug_due.ensures.devices in
+    let wish = wanted-wished p.shows _ c.wanted-wanted.ensures.value in
+    stands-made o t c.begin.new.self c.exchange.new.self _ _ c.verdict.result c.wanted-wanted.result p
+    (c.verdict.ensures.verdict o _ _ p.shows wish) c.in-Admissible.is wish (λ v s. c.in-Ok.ensures.shows o v s) c.in-Ok.ensures.made
+
+pub returns-in-Err-clause-stands : goal.returns-in-Err-clause-stands
+returns-in-Err-clause-stands g c = λ o t h.
+    let p = is-prepared o t c.args.self.now c.begin.new.self _ _ h c.requires.running c.begin.ensures.new c.begin.ensures.last
+    (λ v s. c.begin.ensures.shows o v _ s) c.unplug_due.ensures.devices in
+    let wish = wanted-wished p.shows _ c.wanted-wanted.ensures.value in
+    stands-failed o t c.begin.new.self c.fail.new.self _ _ c.verdict.result c.wanted-wanted.result c.in-Err.port p
+    (c.verdict.ensures.verdict o _ _ p.shows wish) c.in-Admissible.is wish c.in-Err.ensures.named c.in-Err.ensures.fails.states
+    (rw c.in-Err.ensures.unchanged at c.fail.ensures.new)
+
+pub returns-in_default-clause-keeps : goal.returns-in_default-clause-keeps
+returns-in_default-clause-keeps g c =
+    keeps-then (keeps-begun c.args.self.now c.begin.new.self c.begin.ensures.new) (keeps-ended c.begin.new.self c.stop.new.self _ c.stop.ensures.new)
+
+pub returns-in-Ok-clause-keeps : goal.returns-in-Ok-clause-keeps
+returns-in-Ok-clause-keeps g c = keeps-then (keeps-begun c.args.self.now c.begin.new.self c.begin.ensures.new) c.in-Ok.ensures.made.keeps
+
+pub returns-in-Err-clause-keeps : goal.returns-in-Err-clause-keeps
+returns-in-Err-clause-keeps g c =
+    keeps-then (keeps-begun c.args.self.now c.begin.new.self c.begin.ensures.new)
+    (keeps-ended c.begin.new.self c.fail.new.self _ (rw c.in-Err.ensures.unchanged at c.fail.ensures.new))
+
+pub returns-in_default-clause-steps : goal.returns-in_default-clause-steps
+returns-in_default-clause-steps g c =
+    let one = ap (λ (m : View). m.steps) c.begin.ensures.new in
+    let two = ap (λ (m : View). m.steps) c.stop.ensures.new in
+    omega (arith, one, two)
+
+pub returns-in-Ok-clause-steps : goal.returns-in-Ok-clause-steps
+returns-in-Ok-clause-steps g c =
+    let one = ap (λ (m : View). m.steps) c.begin.ensures.new in
+    let two = made-most c.exchange.new.self.end _ _ c.in-Ok.ensures.made.ends in
+    omega (arith, one, two)
+
+pub returns-in-Err-clause-steps : goal.returns-in-Err-clause-steps
+returns-in-Err-clause-steps g c =
+    let one = ap (λ (m : View). m.steps) c.begin.ensures.new in
+    let two = ap (λ (m : View). m.steps) (rw c.in-Err.ensures.unchanged at c.fail.ensures.new) in
+    omega (arith, one, two)
+
+pub returns-in_default-clause-room : goal.returns-in_default-clause-room
+returns-in_default-clause-room g c =
+    subst (λ (n : ℕ). HasSpare (λ b. (goal.PortDevice-dyn g (b.vtable, b.value)).spare b.value) n c.unplug_due.new.devices.items)
+    (sym (ap (λ (m : View). exchanges_left m.pace m.steps m.limit) c.stop.ensures.new ∙ ap (λ (m : View). exchanges_left m.pace m.steps m.limit) c.begin.ensures.new))
+    (c.unplug_due.ensures.spare _ c.requires.room)
+
+pub returns-in-Ok-clause-room : goal.returns-in-Ok-clause-room
+returns-in-Ok-clause-room g c = c.exchange.ensures.room
+
+pub returns-in-Err-clause-room : goal.returns-in-Err-clause-room
+returns-in-Err-clause-room g c =
+    subst (λ (n : ℕ). HasSpare (λ b. (goal.PortDevice-dyn g (b.vtable, b.value)).spare b.value) n c.exchange.new.devices.items)
+    (sym (ap (λ (m : View). exchanges_left m.pace m.steps m.limit) c.fail.ensures.new)) c.exchange.ensures.room
+
+pub returns-in_default-clause-left : goal.returns-in_default-clause-left
+returns-in_default-clause-left g c = c.unplug_due.ensures.since.left
+
+pub returns-in-Ok-clause-left : goal.returns-in-Ok-clause-left
+returns-in-Ok-clause-left g c = (since-then c.unplug_due.ensures.since c.in-Ok.ensures.since).left
+
+pub returns-in-Err-clause-left : goal.returns-in-Err-clause-left
+returns-in-Err-clause-left g c = λ port has. c.unplug_due.ensures.since.left port (fails-has c.in-Err.ensures.fails port has)
+
+pub returns-in_default-clause-cause : goal.returns-in_default-clause-cause
+returns-in_default-clause-cause g c = rw c.stop.ensures.new c.unplug_due.ensures.since.counts
+
+pub returns-in-Ok-clause-cause : goal.returns-in-Ok-clause-cause
+returns-in-Ok-clause-cause g c =
+    made-caused (since-then c.unplug_due.ensures.since c.in-Ok.ensures.since) c.exchange.new.self.end _ _ c.in-Ok.ensures.made.ends
+
+pub returns-in-Err-clause-cause : goal.returns-in-Err-clause-cause
+returns-in-Err-clause-cause g c = rw c.fail.ensures.new (fails-since c.unplug_due.ensures.since c.in-Err.ensures.fails)

@@ -1,0 +1,18 @@
+use Rattle.std.proofs.Common.{◌∙◌, sym, ap}
+use Rattle.std.specs.declared.option.Option.TheVariants.{Some}
+use Rattle.lvdc_machine.proofs.Judging.{found-good, found-bad}
+use Rattle.lvdc_machine.proofs.machine.Machine.found_memory.Goals as goal
+
+pub returns-then-recoverable : goal.returns-then-recoverable
+returns-then-recoverable c = λ o v ds h.
+    let s = rw (← c.self.view_is) at h in
+    let begun = rw (← c.self.view_is) at c.requires.begun in
+    rw c.in-Some.is (found-good o v c.in-Some.address
+    (sym c.if-recoverable.true ∙ c.recoverable.ensures o (Some v.steps) v.twins v.intended (rw (begun ∙ ap Some s.steps) at s.memory)))
+
+pub returns-else-recoverable : goal.returns-else-recoverable
+returns-else-recoverable c = λ o v ds h.
+    let s = rw (← c.self.view_is) at h in
+    let begun = rw (← c.self.view_is) at c.requires.begun in
+    rw c.in-Some.is (found-bad o v c.in-Some.address c.self.inside.steps s.steps
+    (sym c.if-recoverable.false ∙ c.recoverable.ensures o (Some v.steps) v.twins v.intended (rw (begun ∙ ap Some s.steps) at s.memory)))

@@ -1,0 +1,7 @@
+use Rattle.std.proofs.Common.{arith}
+use Rattle.lvdc_machine.proofs.Making.{few-logged}
+use Rattle.lvdc_machine.proofs.machine.Machine.log.Goals as goal
+
+pub returns-clause-few : goal.returns-clause-few
+returns-clause-few c =
+    let few = few-logged c.self.inside.pace c.self.inside.limit c.self.inside.steps _ c.self.invariant.log c.self.invariant.limit in omega (arith, few, c.deref.ensures.len)

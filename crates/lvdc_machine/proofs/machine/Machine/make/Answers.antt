@@ -1,0 +1,39 @@
+use Rattle.std.proofs.Common.{◌%◌, refl, arith}
+use Rattle.lvdc_machine.proofs.Timer.{stays-in-step}
+use Rattle.lvdc_machine.proofs.Making.{log-room, repair-room, begun-made, ends-made, shows-made}
+use Rattle.lvdc_machine.proofs.machine.Machine.make.Goals as goal
+
+pub invariant_of-self : goal.invariant_of-self
+invariant_of-self c =
+    let left = rw (← c.self.view_is) at c.requires.left in
+    record {
+      events = c.self.invariant.events;
+      fits = c.self.invariant.fits;
+      within = c.self.invariant.within;
+      hurts = rw c.step.ensures.room c.self.invariant.hurts;
+      differed = c.step.ensures.differed;
+      banks = c.self.invariant.banks;
+      log = log-room c.self.inside.pace c.self.inside.steps c.self.inside.limit _ _ _ c.args.brought.line c.self.invariant.log left
+          (rw (← c.self.view_is) at c.requires.line) c.log_line.ensures.length c.log_line.ensures.none;
+      log_room = let had = c.self.invariant.log_room in let grown = c.log_line.ensures.capacity in omega arith;
+      repairs = repair-room c.self.inside.pace c.self.inside.steps c.self.inside.limit _ _ _ c.args.brought.repair c.self.invariant.repairs left
+          (rw (← c.self.view_is) at c.requires.repair) c.note_repair.ensures.length c.note_repair.ensures.none;
+      repairs_room = let had = c.self.invariant.repairs_room in let grown = c.note_repair.ensures.capacity in omega arith;
+      steps = omega (arith, left);
+      limit = c.self.invariant.limit;
+      judges = c.self.invariant.judges;
+      phase = rw c.step.ensures.copies (stays-in-step c.self.inside.pace c.self.inside.script c.self.inside.steps c.self.inside.logic.copies
+          c.args.brought.memory c.args.brought.port (rw (← c.self.view_is) at c.requires.right) c.self.invariant.phase);
+    }
+
+pub returns-clause-shows : goal.returns-clause-shows
+returns-clause-shows c = λ o v ds h.
+    shows-made (rw (← c.self.view_is) at h) c.args.brought _ _ _ _ _ _ c.step.ensures.copies c.step.ensures.counts c.log_line.ensures.items
+    c.note_repair.ensures.items c.bus-bus.ensures c.stop_of-self-inside.ensures
+
+pub returns-clause-made : goal.returns-clause-made
+returns-clause-made c = rw (← c.self.view_is) (record {
+  keeps = record { banks = refl; script = refl; unplugs = refl; limit = refl; mode = refl; pace = refl };
+  begun = begun-made (c.bus-bus.result.exchange.stop % 4) c.self.inside.steps _ _ c.stop_of-self-inside.ensures (rw (← c.self.view_is) at c.requires.begun);
+  ends = ends-made (c.bus-bus.result.exchange.stop % 4) c.self.inside.steps _ c.stop_of-self-inside.ensures;
+})

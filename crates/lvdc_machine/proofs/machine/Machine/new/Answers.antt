@@ -1,0 +1,45 @@
+use Rattle.std.proofs.Common.{ℕ, refl, sym, ap, subst, ◌∙◌, arith}
+use Rattle.lvdc_port.specs.Devices.{HasSpare}
+use Rattle.lvdc_machine.specs.declared.mode.Pace.{Pace}
+use Rattle.lvdc_machine.specs.Room.{exchanges_left}
+use Rattle.lvdc_machine.proofs.Starting.{stands-start, nothing-within, starts-in-step, judges-by}
+use Rattle.lvdc_machine.proofs.machine.Machine.new.Goals as goal
+
+pub returns-clause-stands : goal.returns-clause-stands
+returns-clause-stands g c =
+    stands-start _ _ _ (record {
+      banks = refl;
+      script = refl;
+      unplugs = refl;
+      copies = c.in_ok-logic.ensures.copies;
+      memory = rw c.in_ok-active.ensures.last (c.in_ok-memory.ensures.holds _ refl refl);
+      left = c.prepare_all.ensures.devices;
+      log = c.in_ok-log.ensures.items;
+      repairs = c.in_ok-repairs.ensures.items;
+      counts = c.in_ok-logic.ensures.counts;
+      steps = refl;
+      end = refl;
+    }) c.in_ok-active.ensures.last refl refl
+
+pub invariant_of-result : goal.invariant_of-result
+invariant_of-result g c = record {
+  events = c.requires.events;
+  fits = c.in_ok-active.ensures.fits;
+  within = nothing-within c.args.script _ c.in_ok-active.ensures.held;
+  hurts = let room = c.in_ok-logic.ensures.room in omega (arith, room, c.len.ensures);
+  differed = c.in_ok-logic.ensures.differed;
+  banks = c.in_ok-memory.ensures.banks;
+  log = let none = c.in_ok-log.ensures.len in omega (arith, none);
+  log_room = let had = c.in_ok-log.ensures.capacity in omega (arith, had, c.exchanges-exchanges.ensures);
+  repairs = let none = c.in_ok-repairs.ensures.len in omega (arith, none);
+  repairs_room = let had = c.in_ok-repairs.ensures.capacity in omega (arith, had, c.repairs.ensures);
+  steps = omega arith;
+  limit = c.requires.limit;
+  judges = λ e. judges-by c.args.mode (sym c.of-pace.ensures ∙ e);
+  phase = rw c.of-pace.ensures (starts-in-step c.args.mode c.args.start _ c.in_ok-logic.ensures.copies);
+}
+
+pub returns-clause-room : goal.returns-clause-room
+returns-clause-room g c =
+    subst (λ (n : ℕ). HasSpare (λ b. (goal.PortDevice-dyn g (b.vtable, b.value)).spare b.value) n c.prepare_all.new.devices.items)
+    (c.exchanges-exchanges.ensures ∙ ap (λ (p : Pace). exchanges_left p 0 c.args.limit) c.of-pace.ensures) c.in_ok-prepare_all.ensures.ok

@@ -1,0 +1,19 @@
+use Rattle.std.proofs.Common.{◌∙◌}
+use Rattle.lvdc_machine.proofs.Standing.{stands-kept}
+use Rattle.lvdc_machine.proofs.machine.Machine.phase.Goals as goal
+
+pub returns-in-Some-clause-stands : goal.returns-in-Some-clause-stands
+returns-in-Some-clause-stands g c =
+    λ o t h. stands-kept o t 1 _ _ c.in-Some.end (rw (← c.self.view_is) c.in-Some.is) h
+
+pub returns-in-Some-clause-guarded : goal.returns-in-Some-clause-guarded
+returns-in-Some-clause-guarded g c = λ mode o t opens h.
+    c.guarded_follows.ensures o _ _ _ opens mode (returns-in-Some-clause-stands g c o t h)
+
+pub returns-in-Some-advance-clause-guarded : goal.returns-in-Some-advance-clause-guarded
+returns-in-Some-advance-clause-guarded g c = λ mode o t opens h.
+    c.guarded_follows.ensures o _ _ _ opens (c.in-Some-advance.ensures.keeps.mode ∙ mode) (c.in-Some-advance.ensures.stands o t h)
+
+pub returns-in-None-clause-guarded : goal.returns-in-None-clause-guarded
+returns-in-None-clause-guarded g c = λ mode o t opens h.
+    c.guarded_follows.ensures o _ _ _ opens (c.in-None.ensures.keeps.mode ∙ mode) (c.in-None.ensures.stands o t h)

@@ -1,0 +1,22 @@
+-- When a machine and its devices are in a state of the voted machine.
+use Rattle.std.specs.Prelude.{◌≡◌, List}
+use Rattle.lvdc_port.specs.Device as device
+use Rattle.lvdc_model.specs.Trial.{Trial}
+use Rattle.lvdc_model.specs.Voted.{Voted}
+use Rattle.lvdc_memory.specs.Holds.{Holds}
+use Rattle.lvdc_machine.specs.View.{View}
+
+-- the machine is that of the trial, and it and the devices show this state: the same copies, memory, devices, log, repairs,
+-- counts, steps and end
+pub record Shows (o : Trial) (m : View) (devices : List device.Device) (v : Voted) : Type 0 where
+  pub banks : m.banks ≡ o.opening.banks
+  pub script : m.script ≡ o.script
+  pub unplugs : m.unplugs ≡ o.opening.unplugs
+  pub copies : m.copies ≡ v.copies
+  pub memory : Holds o m.active.last m.memory v.twins v.intended
+  pub left : devices ≡ v.devices
+  pub log : m.log ≡ v.log
+  pub repairs : m.repairs ≡ v.repairs
+  pub counts : m.counts ≡ v.counts
+  pub steps : m.steps ≡ v.steps
+  pub end : m.end ≡ v.end

@@ -1,0 +1,246 @@
+//! The voted machine.
+
+ghost use Rattle.std.specs.Prelude.{◌≡◌, ℕ, ◌+◌, ◌-◌, ◌*◌, ◌/◌, ◌≤◌, ◌<◌, length, map, All, true, IsSome, IsNone, OnOk, IfOk, Option, Some, None};
+ghost use Rattle.lvdc_map.specs.Memory.{are_rising, AllThere};
+ghost use Rattle.lvdc_port.specs.Devices.{has_port, count_at, HasSpare, AreDistinct};
+ghost use Rattle.lvdc_model.specs.Trial.{Trial};
+ghost use Rattle.lvdc_script.specs.Events.{IsEvent};
+ghost use Rattle.lvdc_laws.specs.Ends.{IsOpening};
+ghost use Rattle.lvdc_machine.specs.declared.mode.Mode.TheVariants.{Guarded};
+ghost use Rattle.lvdc_machine.specs.Guarded.{GuardedBy};
+ghost use Rattle.lvdc_machine.specs.Causes.{Caused};
+ghost use Rattle.lvdc_machine.specs.Room.{pace_of, exchanges_left};
+ghost use Rattle.lvdc_machine.specs.Stands.{Stands, state_by};
+ghost use Rattle.lvdc_machine.specs.Steps.{Keeps};
+ghost use Rattle.lvdc_machine.specs.View.{answer_of_end};
+
+use crate::laws::guarded_follows;
+use crate::{Mode, Order, Orders, Pace};
+use lvdc_fault::{Active, Script};
+use lvdc_logic::Logic;
+use lvdc_map::{Banks, Hop, Placed};
+use lvdc_memory::VotedMemory;
+use lvdc_model::{Outcome, Repair};
+use lvdc_plain::{Exchange, Unplug};
+use lvdc_port::{PortDevice, prepare_all};
+use lvdc_word::NoMemory;
+use std::alloc::Global;
+use std::marker::Model;
+
+/// The voted machine, without its devices. Steps are counted from 0, three in an instruction time.
+#[derive(Drop)]
+pub struct Machine {
+    pub(crate) banks: Banks,
+    pub(crate) logic: Logic,
+    pub(crate) memory: VotedMemory,
+    pub(crate) script: Script,
+    pub(crate) active: Active,
+    pub(crate) unplugs: Vec<Unplug>,
+    pub(crate) log: Vec<Exchange>,
+    pub(crate) repairs: Vec<Repair>,
+    pub(crate) steps: u64,
+    pub(crate) limit: u64,
+    pub(crate) mode: Mode,
+    pub(crate) pace: Pace,
+    pub(crate) end: Option<Outcome>,
+}
+
+impl Model for Machine {
+    ghost use Rattle.lvdc_machine.specs.View.{View};
+
+    ghost Value = { View };
+
+    ghost use Rattle.lvdc_machine.specs.Sound.{IsSound};
+
+    ghost view = { λ m. record {
+      banks = m.banks;
+      copies = m.logic.copies;
+      counts = m.logic.counts;
+      memory = m.memory;
+      script = m.script;
+      active = m.active;
+      unplugs = m.unplugs.items;
+      log = m.log.items;
+      repairs = m.repairs.items;
+      steps = m.steps;
+      limit = m.limit;
+      mode = m.mode;
+      pace = m.pace;
+      end = m.end;
+    } };
+
+    ghost invariant = { IsSound };
+}
+
+impl Machine {
+    /// The most instruction times that a machine may be made for.
+    pub const LIMIT: u64 = 1_000_000;
+
+    /// The most events that a script may have.
+    pub const EVENTS: usize = 65_536;
+
+    /// A machine before its first step, with the words of the image, which rise by address. It makes room for all that may
+    /// be noted and for the devices' words. After a want of memory no device holds anything else than before.
+    pub fn new(
+        alloc: Global,
+        image: &[Placed],
+        banks: Banks,
+        start: Hop,
+        script: Script,
+        unplugs: Vec<Unplug>,
+        mode: Mode,
+        limit: u64,
+        devices: &mut Vec<Box<dyn PortDevice>>,
+    ) -> Result<Machine, NoMemory>
+        requires limit { limit ≤ Self.LIMIT }
+        requires rising { are_rising image.now ≡ true }
+        requires there { AllThere banks image.now }
+        requires few { length script ≤ Self.EVENTS }
+        requires events { All IsEvent script }
+        requires distinct { AreDistinct (map device_of devices.old.items) }
+
+        // It stands at the start of the trial that these arguments are.
+        ensures stands { IfOk result (λ machine. Stands
+            (record {
+              opening = record { image = image.now; banks = banks; start = start; unplugs = unplugs.items; devices = map device_of devices.old.items };
+              script = script;
+            })
+            0 machine (map device_of devices.new.items)) }
+        ensures banks { IfOk result (λ machine. machine.banks ≡ banks) }
+        ensures script { IfOk result (λ machine. machine.script ≡ script) }
+        ensures unplugs { IfOk result (λ machine. machine.unplugs ≡ unplugs.items) }
+        ensures limit { IfOk result (λ machine. machine.limit ≡ limit) }
+        ensures mode { IfOk result (λ machine. machine.mode ≡ mode) }
+        ensures pace { IfOk result (λ machine. machine.pace ≡ pace_of mode) }
+        ensures steps { IfOk result (λ machine. machine.steps ≡ 0) }
+        ensures end { IfOk result (λ machine. machine.end ≡ None) }
+        ensures room { OnOk result (HasSpare spare (exchanges_left (pace_of mode) 0 limit) devices.new.items) }
+
+        // In every case.
+        ensures devices { map device_of devices.new.items ≡ map device_of devices.old.items }
+        ensures faults { map faults devices.new.items ≡ map faults devices.old.items }
+    {
+        let pace = Pace::of(mode);
+        let exchanges = pace.exchanges(limit);
+        let log = Vec::with_capacity(alloc, exchanges as usize)?;
+        let repairs = Vec::with_capacity(alloc, pace.repairs(limit) as usize)?;
+        let active = Active::for_script(alloc, &script)?;
+        let logic = Logic::new(alloc, start, script.len())?;
+        let memory = VotedMemory::new(alloc, image, banks)?;
+        prepare_all(devices, exchanges)?;
+        Ok(Machine {
+            banks,
+            logic,
+            memory,
+            script,
+            active,
+            unplugs,
+            log,
+            repairs,
+            steps: 0,
+            limit,
+            mode,
+            pace,
+            end: None,
+        })
+    }
+
+    /// Makes one step, in which the copies latch in this order, or answers the end that has come. It takes no memory.
+    pub fn phase(&mut self, order: &Order, devices: &mut Vec<Box<dyn PortDevice>>) -> Outcome
+        requires left { self.old.steps < 3 * self.old.limit }
+        requires distinct { AreDistinct (map device_of devices.old.items) }
+        requires room { HasSpare spare (exchanges_left self.old.pace self.old.steps self.old.limit) devices.old.items }
+
+        // It goes on by one step of its mode's run, for each trial for which it stood, and answers the end that it keeps. The
+        // order doesn't matter.
+        ensures stands { (o : Trial) (t : ℕ) → Stands o t self.old (map device_of devices.old.items)
+            → Stands o (t + 1) self.new (map device_of devices.new.items) }
+        ensures answer { result ≡ answer_of_end self.new.end }
+
+        // A guarded machine follows the plain run up to the first inadmissible step, and has ended there.
+        ensures guarded { self.old.mode ≡ Guarded → (o : Trial) (t : ℕ) → IsOpening o.opening
+            → Stands o t self.old (map device_of devices.old.items)
+            → GuardedBy self.new.end o (t + 1) (state_by self.new.end self.new.mode o (t + 1)) }
+
+        // An end that has come is kept, and nothing is changed.
+        ensures kept { IsSome self.old.end → (self.new ≡ self.old) × (devices.new.items ≡ devices.old.items) }
+
+        // A failed device has failed in this call, and no other that is left has; every other end comes only where no device
+        // that is left has failed.
+        ensures cause { IsNone self.old.end → Caused result
+            (λ port. count_at device_of faults port devices.old.items)
+            (λ port. count_at device_of faults port devices.new.items)
+            (λ port. has_port device_of port devices.new.items) }
+
+        // What stays, and what the next call asks for.
+        ensures keeps { Keeps self.old self.new }
+        ensures steps { self.new.steps ≤ self.old.steps + 1 }
+        ensures distinct { AreDistinct (map device_of devices.new.items) }
+        ensures room { HasSpare spare (exchanges_left self.new.pace self.new.steps self.new.limit) devices.new.items }
+        ensures left { (port : ℕ) → has_port device_of port devices.new.items ≡ true
+            → has_port device_of port devices.old.items ≡ true }
+    {
+        guarded_follows();
+        if let Some(end) = self.end {
+            return end;
+        }
+        match self.advance(order, devices) {
+            Some(end) => end,
+            None => Outcome::Done,
+        }
+    }
+
+    /// Makes so many instruction times, of three steps each, or fewer steps where an end comes. Each step takes the order
+    /// whose turn it is. It takes no memory.
+    pub fn run(
+        &mut self,
+        orders: &Orders,
+        times: u64,
+        devices: &mut Vec<Box<dyn PortDevice>>,
+    ) -> Outcome
+        requires left { self.old.steps + 3 * times ≤ 3 * self.old.limit }
+        requires distinct { AreDistinct (map device_of devices.old.items) }
+        requires room { HasSpare spare (exchanges_left self.old.pace self.old.steps self.old.limit) devices.old.items }
+
+        // It goes on by so many times of its mode's run, for each trial for which it stood, and answers the end that it keeps.
+        // The orders don't matter.
+        ensures stands { (o : Trial) (t : ℕ) → Stands o t self.old (map device_of devices.old.items)
+            → Stands o (t + 3 * times) self.new (map device_of devices.new.items) }
+        ensures answer { result ≡ answer_of_end self.new.end }
+
+        // A guarded machine follows the plain run up to the first inadmissible step, and has ended there.
+        ensures guarded { self.old.mode ≡ Guarded → (o : Trial) (t : ℕ) → IsOpening o.opening
+            → Stands o t self.old (map device_of devices.old.items)
+            → GuardedBy self.new.end o (t + 3 * times) (state_by self.new.end self.new.mode o (t + 3 * times)) }
+
+        // An end that has come is kept, and nothing is changed.
+        ensures kept { IsSome self.old.end → (self.new ≡ self.old) × (devices.new.items ≡ devices.old.items) }
+
+        // A failed device has failed in this call, and no other that is left has; every other end comes only where no device
+        // that is left has failed.
+        ensures cause { IsNone self.old.end → Caused result
+            (λ port. count_at device_of faults port devices.old.items)
+            (λ port. count_at device_of faults port devices.new.items)
+            (λ port. has_port device_of port devices.new.items) }
+
+        // What stays, and what the next call asks for.
+        ensures keeps { Keeps self.old self.new }
+        ensures steps { self.new.steps ≤ self.old.steps + 3 * times }
+        ensures distinct { AreDistinct (map device_of devices.new.items) }
+        ensures room { HasSpare spare (exchanges_left self.new.pace self.new.steps self.new.limit) devices.new.items }
+        ensures left { (port : ℕ) → has_port device_of port devices.new.items ≡ true
+            → has_port device_of port devices.old.items ≡ true }
+    {
+        guarded_follows();
+        if let Some(end) = self.end {
+            return end;
+        }
+        for _made in 0..3 * times {
+            let order = orders.at_step(self.steps);
+            if let Some(end) = self.advance(order, devices) {
+                return end;
+            }
+        }
+        Outcome::Done
+    }
+}

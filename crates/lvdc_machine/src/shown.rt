@@ -1,0 +1,10 @@
+use lvdc_word::Word;
+
+/// What can be told of the word at an address.
+#[derive(Clone, Copy, Debug, PartialEq, Eq)]
+pub enum Shown {
+    /// The intended word, which can be recovered.
+    Known(Word),
+    /// The intended word can't be recovered.
+    Unknown,
+}

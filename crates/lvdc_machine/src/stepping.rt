@@ -1,0 +1,460 @@
+//! One step of the voted machine.
+
+ghost use Rattle.std.specs.Prelude.{◌≡◌, ℕ, ◌+◌, ◌-◌, ◌*◌, ◌/◌, ◌%◌, ◌≤◌, ◌<◌, ◌==◌, if◌then◌else◌, List, map, true, false, IsSome, OnOk, OnErr, IfErr, IfSome, Option, Some, None};
+ghost use Rattle.lvdc_map.specs.Banks.{is_there};
+ghost use Rattle.lvdc_port.specs.Device as device;
+ghost use Rattle.lvdc_port.specs.Devices.{has_port, count_at, HasSpare, AreDistinct};
+ghost use Rattle.lvdc_modules.specs.Wish.{wish, IsThereFor};
+ghost use Rattle.lvdc_plain.specs.Lists.{Since};
+ghost use Rattle.lvdc_plain.specs.Run.{plugged};
+ghost use Rattle.lvdc_fault.specs.Script.{two_wrong};
+ghost use Rattle.lvdc_fault.specs.declared.verdict.Verdict.TheVariants.{Admissible};
+ghost use Rattle.lvdc_model.specs.Exchanges.{damages, stop_of, latches, exchanges, reading, storing, port_reading, port_writing, wished};
+ghost use Rattle.lvdc_model.specs.Runs.{found, found_memory, read_of_wish};
+ghost use Rattle.lvdc_model.specs.Trial.{Trial};
+ghost use Rattle.lvdc_model.specs.Twins.{read_answer};
+ghost use Rattle.lvdc_model.specs.Voted.{Voted};
+ghost use Rattle.lvdc_model.specs.declared.outcome.Outcome.TheVariants.{Device};
+ghost use Rattle.lvdc_machine.specs.declared.mode.Pace.TheVariants.{ByTime};
+ghost use Rattle.lvdc_machine.specs.Causes.{Caused, Fails};
+ghost use Rattle.lvdc_machine.specs.Room.{exchanges_left, MayExchange, MayRepair, IsDue};
+ghost use Rattle.lvdc_machine.specs.Shows.{Shows};
+ghost use Rattle.lvdc_machine.specs.Stands.{Stands};
+ghost use Rattle.lvdc_machine.specs.Steps.{verdict_of, repair_noted, noting, NamesPort, Keeps, IsMade};
+ghost use Rattle.lvdc_machine.specs.View.{bus_of_votes, answer_of_end};
+
+use crate::answers::answer;
+use crate::notes::{log_line, note_repair};
+use crate::{Machine, Mode, Order};
+use lvdc_fault::{Verdict, wrong_now};
+use lvdc_map::Address;
+use lvdc_model::{Outcome, Repair};
+use lvdc_modules::{Wanted, wish};
+use lvdc_plain::{Exchange, Stop, unplug_all};
+use lvdc_port::{PortDevice, PortRequest};
+use lvdc_twin::ReadOut;
+use lvdc_word::Word;
+
+/// What an exchange brings: the words on the bus, and what is noted of it.
+#[derive(Drop)]
+struct Brought {
+    memory: Word,
+    port: Word,
+    line: Option<Exchange>,
+    repair: Option<Repair>,
+}
+
+/// The end that the voted STOP means, by its low two bits.
+fn stop_of(stop: Word, step: u64) -> Option<Outcome>
+    ensures { result ≡ stop_of (stop % 4) step }
+{
+    match stop.value() % 4 {
+        0 => None,
+        1 => Some(Outcome::Stopped {
+            step,
+            stop: Stop::Shift,
+        }),
+        _ => Some(Outcome::Stopped {
+            step,
+            stop: Stop::Exm,
+        }),
+    }
+}
+
+impl Brought {
+    /// Where no word was read and nothing is noted.
+    fn nothing() -> Brought
+        ensures { result ≡ record { memory = 0; port = 0; line = None; repair = None } }
+    {
+        Brought {
+            memory: Word::ZERO,
+            port: Word::ZERO,
+            line: None,
+            repair: None,
+        }
+    }
+}
+
+/// The repair that a read notes.
+fn repair_of(step: u64, at: Address, read: &ReadOut) -> Option<Repair>
+    ensures { result ≡ repair_noted read.now.repaired step at read.now.switched }
+{
+    match read.repaired {
+        None => None,
+        Some(twin) => Some(Repair {
+            step,
+            at,
+            twin,
+            switched: read.switched,
+        }),
+    }
+}
+
+/// The address that is to be read.
+fn read_of(wanted: &Wanted) -> Option<Address>
+    ensures value { result ≡ read_of_wish wanted.now }
+    ensures there { (banks : ℕ) → IsThereFor banks wanted.now → IfSome result (λ at. is_there banks at ≡ true) }
+{
+    match *wanted {
+        Wanted::Fetch(at) | Wanted::Operand(at) => Some(at),
+        _ => None,
+    }
+}
+
+impl Machine {
+    /// Takes away the devices whose time has come with this step.
+    fn unplug_due(&self, devices: &mut Vec<Box<dyn PortDevice>>)
+        requires { AreDistinct (map device_of devices.old.items) }
+        ensures devices { map device_of devices.new.items ≡ (if self.now.steps % 3 == 0
+            then plugged self.now.unplugs (self.now.steps / 3) (map device_of devices.old.items)
+            else map device_of devices.old.items) }
+        ensures distinct { AreDistinct (map device_of devices.new.items) }
+        ensures spare { (n : ℕ) → HasSpare spare n devices.old.items → HasSpare spare n devices.new.items }
+        ensures since { Since device_of faults devices.old.items devices.new.items }
+    {
+        if self.steps % 3 == 0 {
+            unplug_all(&self.unplugs, self.steps / 3, devices);
+        }
+    }
+
+    /// Damages cells, and puts in force what is stuck and dead in this step.
+    fn begin(&mut self)
+        ensures shows { (o : Trial) (v : Voted) (ds : List device.Device) → Shows o self.old ds v
+            → Shows o self.new ds (record v { twins = damages v.steps o.script v.twins }) }
+        ensures new { self.new ≡ record self.old { memory = self.new.memory; active = self.new.active } }
+        ensures last { self.new.active.last ≡ Some self.old.steps }
+    {
+        self.memory.release(&self.script, &self.active);
+        self.script.active(self.steps, &mut self.active);
+        self.memory.begin(&self.script, &self.active, self.steps);
+    }
+
+    /// The exchange that the votes wish for.
+    fn wanted(&self) -> Wanted
+        ensures value { result ≡ wish (bus_of_votes self.now.copies) self.now.banks }
+        ensures there { IsThereFor self.now.banks result }
+        ensures due { IsDue self.now.pace self.now.steps result }
+    {
+        wish(&self.logic.bus(Word::ZERO, Word::ZERO), self.banks)
+    }
+
+    /// What is said of the address that is to be read.
+    fn found_memory(&self, at: Option<Address>) -> Verdict
+        requires begun { self.now.active.last ≡ Some self.now.steps }
+        requires there { IfSome at (λ spot. is_there self.now.banks spot ≡ true) }
+        ensures { (o : Trial) (v : Voted) (ds : List device.Device) → Shows o self.now ds v → result ≡ found_memory o v at }
+    {
+        match at {
+            None => Verdict::Admissible,
+            Some(address) => {
+                if self.memory.recoverable(address) {
+                    Verdict::Admissible
+                } else {
+                    Verdict::Memory {
+                        step: self.steps,
+                        address,
+                    }
+                }
+            }
+        }
+    }
+
+    /// What is said of the step that was begun: a module with two wrong copies comes first.
+    fn found(&self, wanted: &Wanted) -> Verdict
+        requires begun { self.now.active.last ≡ Some self.now.steps }
+        requires there { IsThereFor self.now.banks wanted.now }
+        ensures verdict { (o : Trial) (v : Voted) (ds : List device.Device) → Shows o self.now ds v → wanted.now ≡ wished o v
+            → result ≡ found o v }
+        ensures right { result ≡ Admissible → two_wrong self.now.script self.now.steps 1 ≡ false }
+    {
+        match wrong_now(&self.script, &self.active, self.steps) {
+            Some(number) => Verdict::Logic {
+                step: self.steps,
+                module: number,
+            },
+            None => self.found_memory(read_of(wanted)),
+        }
+    }
+
+    /// What the mode says of the step that was begun.
+    fn verdict(&self, wanted: &Wanted) -> Verdict
+        requires begun { self.now.active.last ≡ Some self.now.steps }
+        requires there { IsThereFor self.now.banks wanted.now }
+        ensures verdict { (o : Trial) (v : Voted) (ds : List device.Device) → Shows o self.now ds v → wanted.now ≡ wished o v
+            → result ≡ verdict_of self.now.mode o v }
+        ensures right { result ≡ Admissible → self.now.pace ≡ ByTime → two_wrong self.now.script self.now.steps 1 ≡ false }
+    {
+        match self.mode {
+            Mode::Guarded => self.found(wanted),
+            Mode::Through => Verdict::Admissible,
+        }
+    }
+
+    /// Notes what an exchange brought, and lets all copies latch.
+    fn make(&mut self, order: &Order, brought: Brought)
+        requires begun { self.old.active.last ≡ Some self.old.steps }
+        requires left { self.old.steps < 3 * self.old.limit }
+        requires right { self.old.pace ≡ ByTime → two_wrong self.old.script self.old.steps 1 ≡ false }
+        requires line { IsSome brought.line → MayExchange self.old.pace self.old.steps }
+        requires repair { IsSome brought.repair → MayRepair self.old.pace self.old.steps }
+        ensures shows { (o : Trial) (v : Voted) (ds : List device.Device) → Shows o self.old ds v
+            → Shows o self.new ds (latches o (noting v brought) brought.memory brought.port) }
+        ensures made { IsMade self.old self.new }
+        ensures steps { self.new.steps ≡ self.old.steps + 1 }
+    {
+        log_line(&mut self.log, brought.line);
+        note_repair(&mut self.repairs, brought.repair);
+        self.logic.step(
+            order,
+            &self.script,
+            &self.active,
+            self.steps,
+            brought.memory,
+            brought.port,
+        );
+        let bus = self.logic.bus(Word::ZERO, Word::ZERO);
+        self.end = stop_of(bus.exchange.stop, self.steps);
+        self.steps += 1;
+    }
+
+    /// Reads an address. Where no twin shows a good cell there the machine stops, and the step isn't made.
+    fn read(&mut self, order: &Order, at: Address)
+        requires begun { self.old.active.last ≡ Some self.old.steps }
+        requires left { self.old.steps < 3 * self.old.limit }
+        requires right { self.old.pace ≡ ByTime → two_wrong self.old.script self.old.steps 1 ≡ false }
+        requires there { is_there self.old.banks at ≡ true }
+        requires due { MayRepair self.old.pace self.old.steps }
+        ensures shows { (o : Trial) (v : Voted) (ds : List device.Device) → Shows o self.old ds v
+            → Shows o self.new ds (reading (read_answer o v.steps v.twins at) o v at) }
+        ensures made { IsMade self.old self.new }
+    {
+        match self.memory.read(at) {
+            Ok(read) => {
+                let repair = repair_of(self.steps, at, &read);
+                self.make(
+                    order,
+                    Brought {
+                        memory: read.word,
+                        port: Word::ZERO,
+                        line: None,
+                        repair,
+                    },
+                );
+            }
+            Err(_) => {
+                self.end = Some(Outcome::Stopped {
+                    step: self.steps,
+                    stop: Stop::Memory(at),
+                });
+            }
+        }
+    }
+
+    /// Stores a word.
+    fn store(&mut self, order: &Order, at: Address, word: Word)
+        requires begun { self.old.active.last ≡ Some self.old.steps }
+        requires left { self.old.steps < 3 * self.old.limit }
+        requires right { self.old.pace ≡ ByTime → two_wrong self.old.script self.old.steps 1 ≡ false }
+        requires there { is_there self.old.banks at ≡ true }
+        ensures shows { (o : Trial) (v : Voted) (ds : List device.Device) → Shows o self.old ds v
+            → Shows o self.new ds (storing o v at word) }
+        ensures made { IsMade self.old self.new }
+    {
+        self.memory.store(at, word);
+        self.make(order, Brought::nothing());
+    }
+
+    /// Reads a port. An error is the port of the device that failed; then nothing has changed.
+    fn read_port(
+        &mut self,
+        order: &Order,
+        port: u8,
+        devices: &mut Vec<Box<dyn PortDevice>>,
+    ) -> Result<(), u8>
+        requires begun { self.old.active.last ≡ Some self.old.steps }
+        requires left { self.old.steps < 3 * self.old.limit }
+        requires right { self.old.pace ≡ ByTime → two_wrong self.old.script self.old.steps 1 ≡ false }
+        requires due { MayExchange self.old.pace self.old.steps }
+        requires distinct { AreDistinct (map device_of devices.old.items) }
+        requires room { HasSpare spare (exchanges_left self.old.pace self.old.steps self.old.limit) devices.old.items }
+        ensures shows { OnOk result ((o : Trial) (v : Voted) → Shows o self.old (map device_of devices.old.items) v
+            → Shows o self.new (map device_of devices.new.items) (port_reading o v port)) }
+        ensures made { OnOk result (IsMade self.old self.new) }
+        ensures since { OnOk result (Since device_of faults devices.old.items devices.new.items) }
+        ensures named { IfErr result (λ failed. port ≡ failed) }
+        ensures fails { IfErr result (λ failed. Fails device_of faults failed devices.old.items devices.new.items) }
+        ensures unchanged { OnErr result (self.new ≡ self.old) }
+        ensures distinct { AreDistinct (map device_of devices.new.items) }
+        ensures room { HasSpare spare (exchanges_left self.new.pace self.new.steps self.new.limit) devices.new.items }
+    {
+        let time = self.steps / 3;
+        match answer(devices, time, PortRequest::Read { port }) {
+            Ok(word) => {
+                let line = Exchange {
+                    time,
+                    port,
+                    reading: true,
+                    word,
+                };
+                self.make(
+                    order,
+                    Brought {
+                        memory: Word::ZERO,
+                        port: line.word,
+                        line: Some(line),
+                        repair: None,
+                    },
+                );
+                Ok(())
+            }
+            Err(failed) => Err(failed),
+        }
+    }
+
+    /// Writes the word to a port. An error is the port of the device that failed; then nothing has changed.
+    fn write_port(
+        &mut self,
+        order: &Order,
+        port: u8,
+        word: Word,
+        devices: &mut Vec<Box<dyn PortDevice>>,
+    ) -> Result<(), u8>
+        requires begun { self.old.active.last ≡ Some self.old.steps }
+        requires left { self.old.steps < 3 * self.old.limit }
+        requires right { self.old.pace ≡ ByTime → two_wrong self.old.script self.old.steps 1 ≡ false }
+        requires due { MayExchange self.old.pace self.old.steps }
+        requires distinct { AreDistinct (map device_of devices.old.items) }
+        requires room { HasSpare spare (exchanges_left self.old.pace self.old.steps self.old.limit) devices.old.items }
+        ensures shows { OnOk result ((o : Trial) (v : Voted) → Shows o self.old (map device_of devices.old.items) v
+            → Shows o self.new (map device_of devices.new.items) (port_writing o v port word)) }
+        ensures made { OnOk result (IsMade self.old self.new) }
+        ensures since { OnOk result (Since device_of faults devices.old.items devices.new.items) }
+        ensures named { IfErr result (λ failed. port ≡ failed) }
+        ensures fails { IfErr result (λ failed. Fails device_of faults failed devices.old.items devices.new.items) }
+        ensures unchanged { OnErr result (self.new ≡ self.old) }
+        ensures distinct { AreDistinct (map device_of devices.new.items) }
+        ensures room { HasSpare spare (exchanges_left self.new.pace self.new.steps self.new.limit) devices.new.items }
+    {
+        let time = self.steps / 3;
+        match answer(devices, time, PortRequest::Write { port, word }) {
+            Ok(_) => {
+                self.make(
+                    order,
+                    Brought {
+                        memory: Word::ZERO,
+                        port: Word::ZERO,
+                        line: Some(Exchange {
+                            time,
+                            port,
+                            reading: false,
+                            word,
+                        }),
+                        repair: None,
+                    },
+                );
+                Ok(())
+            }
+            Err(failed) => Err(failed),
+        }
+    }
+
+    /// Makes the exchange that is wanted, and lets all copies latch. An error is the port of the device that failed; then
+    /// nothing has changed.
+    fn exchange(
+        &mut self,
+        order: &Order,
+        wanted: Wanted,
+        devices: &mut Vec<Box<dyn PortDevice>>,
+    ) -> Result<(), u8>
+        requires begun { self.old.active.last ≡ Some self.old.steps }
+        requires left { self.old.steps < 3 * self.old.limit }
+        requires right { self.old.pace ≡ ByTime → two_wrong self.old.script self.old.steps 1 ≡ false }
+        requires there { IsThereFor self.old.banks wanted }
+        requires due { IsDue self.old.pace self.old.steps wanted }
+        requires distinct { AreDistinct (map device_of devices.old.items) }
+        requires room { HasSpare spare (exchanges_left self.old.pace self.old.steps self.old.limit) devices.old.items }
+        ensures shows { OnOk result ((o : Trial) (v : Voted) → Shows o self.old (map device_of devices.old.items) v
+            → Shows o self.new (map device_of devices.new.items) (exchanges o v wanted)) }
+        ensures made { OnOk result (IsMade self.old self.new) }
+        ensures since { OnOk result (Since device_of faults devices.old.items devices.new.items) }
+        ensures named { IfErr result (λ failed. NamesPort wanted failed) }
+        ensures fails { IfErr result (λ failed. Fails device_of faults failed devices.old.items devices.new.items) }
+        ensures unchanged { OnErr result (self.new ≡ self.old) }
+        ensures distinct { AreDistinct (map device_of devices.new.items) }
+        ensures room { HasSpare spare (exchanges_left self.new.pace self.new.steps self.new.limit) devices.new.items }
+    {
+        match wanted {
+            Wanted::Nothing => {
+                self.make(order, Brought::nothing());
+                Ok(())
+            }
+            Wanted::Fetch(at) | Wanted::Operand(at) => {
+                self.read(order, at);
+                Ok(())
+            }
+            Wanted::Store { at, word } => {
+                self.store(order, at, word);
+                Ok(())
+            }
+            Wanted::PortRead(port) => self.read_port(order, port, devices),
+            Wanted::PortWrite { port, word } => self.write_port(order, port, word, devices),
+        }
+    }
+
+    /// Keeps an end of a step that was begun and isn't made.
+    fn stop(&mut self, end: Outcome) -> Option<Outcome>
+        ensures new { self.new ≡ record self.old { end = Some end } }
+        ensures answer { result ≡ Some end }
+    {
+        self.end = Some(end);
+        self.end
+    }
+
+    /// Keeps the end that a failed device is. The step isn't made.
+    fn fail(&mut self, port: u8) -> Option<Outcome>
+        ensures new { self.new ≡ record self.old { end = Some (Device self.old.steps port) } }
+        ensures answer { result ≡ self.new.end }
+    {
+        self.end = Some(Outcome::Device {
+            step: self.steps,
+            port,
+        });
+        self.end
+    }
+
+    /// Makes the next step of a machine that runs.
+    pub(crate) fn advance(
+        &mut self,
+        order: &Order,
+        devices: &mut Vec<Box<dyn PortDevice>>,
+    ) -> Option<Outcome>
+        requires running { self.old.end ≡ None }
+        requires left { self.old.steps < 3 * self.old.limit }
+        requires distinct { AreDistinct (map device_of devices.old.items) }
+        requires room { HasSpare spare (exchanges_left self.old.pace self.old.steps self.old.limit) devices.old.items }
+        ensures stands { (o : Trial) (t : ℕ) → Stands o t self.old (map device_of devices.old.items)
+            → Stands o (t + 1) self.new (map device_of devices.new.items) }
+        ensures answer { result ≡ self.new.end }
+        ensures keeps { Keeps self.old self.new }
+        ensures steps { self.new.steps ≤ self.old.steps + 1 }
+        ensures distinct { AreDistinct (map device_of devices.new.items) }
+        ensures room { HasSpare spare (exchanges_left self.new.pace self.new.steps self.new.limit) devices.new.items }
+        ensures left { (port : ℕ) → has_port device_of port devices.new.items ≡ true
+            → has_port device_of port devices.old.items ≡ true }
+        ensures cause { Caused (answer_of_end self.new.end)
+            (λ port. count_at device_of faults port devices.old.items)
+            (λ port. count_at device_of faults port devices.new.items)
+            (λ port. has_port device_of port devices.new.items) }
+    {
+        self.unplug_due(devices);
+        self.begin();
+        let wanted = self.wanted();
+        match self.verdict(&wanted) {
+            Verdict::Admissible => match self.exchange(order, wanted, devices) {
+                Ok(()) => self.end,
+                Err(port) => self.fail(port),
+            },
+            verdict => self.stop(Outcome::Inadmissible(verdict)),
+        }
+    }
+}

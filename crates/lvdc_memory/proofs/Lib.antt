@@ -1,0 +1,4 @@
+mod Begins
+mod Carrying
+mod Positions
+mod Releasing

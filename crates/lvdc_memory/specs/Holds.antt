@@ -1,0 +1,29 @@
+-- When the memory that the code keeps is the memory of a trial's voted machine.
+use Rattle.std.specs.Prelude.{◌≡◌, ℕ, ◌<◌, List}
+use Rattle.std.specs.declared.option.Option.{Option}
+use Rattle.lvdc_map.specs.Address.{Spot}
+use Rattle.lvdc_map.specs.Memory.{Memory, word_at, IsMemory}
+use Rattle.lvdc_twin.specs.Store.{Store, IsPlace, stored_in, stuck_in, is_dead}
+use Rattle.lvdc_fault.specs.Ledger.{Intended}
+use Rattle.lvdc_fault.specs.declared.event.Event.{Event}
+use Rattle.lvdc_model.specs.Trial.{Trial}
+use Rattle.lvdc_model.specs.Twins.{Twins}
+use Rattle.lvdc_memory.specs.Faults.{stuck_since, is_dead_since}
+
+-- the two twins, with what is stuck and dead in them now, and the intended words
+pub record Kept : Type 0 where
+  pub twins : Store
+  pub ledger : Intended
+
+-- the twins are these of the voted machine, with what a step of a script puts in force, or with nothing in force
+pub record Carries (in_force : Option ℕ) (script : List Event) (s : Store) (t : Twins) : Type 0 where
+  pub cells : (twin : ℕ) → twin < 2 → (place : Spot) → IsPlace place → stored_in s twin place ≡ word_at (t.cells twin) place
+  pub selected : s.selected ≡ t.selected
+  pub stuck : (twin : ℕ) → twin < 2 → (place : Spot) → IsPlace place → stuck_in s twin place ≡ stuck_since in_force script twin place
+  pub dead : (twin : ℕ) → twin < 2 → (pair : ℕ) → pair < 4 → is_dead s twin pair ≡ is_dead_since in_force script twin pair
+
+-- the memory is that of a trial's voted machine with these twins and intended words, while what a step puts in force is so
+pub record Holds (o : Trial) (in_force : Option ℕ) (m : Kept) (t : Twins) (intended : Memory) : Type 0 where
+  pub banks : m.twins.banks ≡ o.opening.banks
+  pub twins : Carries in_force o.script m.twins t
+  pub words : IsMemory m.ledger.words intended

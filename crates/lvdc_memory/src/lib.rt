@@ -1,0 +1,9 @@
+//! The memory of the voted machine: two twins under a fault script, and the words that are intended there.
+#![tactic(auto)]
+
+mod memory;
+
+pub use memory::VotedMemory;
+
+#[cfg(test)]
+mod tests;
