@@ -9,15 +9,14 @@ use Rattle.lvdc_text.specs.Transfer.{TookCount}
 use Rattle.lvdc_port.specs.Device.{Device}
 use Rattle.lvdc_plain.specs.Run.{Opening, run}
 use Rattle.lvdc_plain.specs.declared.records.Stop.{Stop}
-use Rattle.lvdc_deck.specs.Deck.{deck_of}
 use Rattle.lvdc_deck.specs.declared.deck.Deck.{Deck}
 use Rattle.lvdc_deck.specs.declared.fault.DeckFault.{DeckFault}
-use Rattle.lvdc_deck.specs.declared.fault.DeckFault.TheVariants.{NoMemory, BadSection, BadLine, NoProgram, NoDevice, CountTooLarge, NotBuilt, Image}
+use Rattle.lvdc_deck.specs.declared.fault.DeckFault.TheVariants.{NoMemory, BadSection, BadLine, NoProgram, NoDevice, TooManyEvents, CountTooLarge, NotBuilt, Image}
 use Rattle.lvdc_cli.specs.declared.TheConstants.{LIMIT}
 use Rattle.lvdc_cli.specs.declared.command.Command.{Command}
 use Rattle.lvdc_cli.specs.Words.{command_of}
 use Rattle.lvdc_cli.specs.Texts.{refusal_status}
-use Rattle.lvdc_cli.specs.Answer.{Answer, end_by, end_status, run_answer, opening_of, deck_answer, command_answer, answer, failed_answer, Exchanges, read_fault_answer, too_long_answer, usage_answer}
+use Rattle.lvdc_cli.specs.Answer.{Answer, end_by, end_status, run_answer, opening_of, deck_answer, command_answer, answer, failed_answer, Exchanges, read_fault_answer, too_long_answer, usage_answer, deck_for}
 use Rattle.lvdc_cli.specs.Top.{Quiet, RoseAt, OthersQuiet, IsRun, made, failed, IsReply, refused, ran, IsDue, usage, read_fault, too_long, whole}
 
 -- ---- statuses
@@ -28,6 +27,7 @@ refusal_is (BadSection line) = inl refl
 refusal_is (BadLine line) = inl refl
 refusal_is (NoProgram line) = inl refl
 refusal_is (NoDevice line) = inl refl
+refusal_is (TooManyEvents line) = inl refl
 refusal_is (CountTooLarge line) = inl refl
 refusal_is (NotBuilt line) = inl refl
 refusal_is (Image fault) = inr refl
@@ -54,7 +54,7 @@ some_command None command e = absurd (cc)
 some_command (Some x) command e = refl
 
 answer_small : (o : Option Command) (command : Command) (bytes : List ℕ) (devices : List Device) → o ≡ Some command → length bytes ≤ LIMIT
-    → command_answer o bytes devices ≡ deck_answer command devices (deck_of bytes devices)
+    → command_answer o bytes devices ≡ deck_answer command devices (deck_for command bytes devices)
 answer_small o command bytes devices e l =
     let small : nat_lt LIMIT (length bytes) ≡ false = grind (arith, nat_tests) in
     rw (e, small) refl
@@ -86,7 +86,7 @@ taken_once (Some x) (Some y) one other s h k = omega (arith, ap length h, ap len
 -- a device failed in an exchange of the run of the deck that the bytes are, and this is the answer then
 pub record Fails {B : Type 0} (device_of : B → Device) (faults : B → ℕ) (command : Command) (bytes : List ℕ) (old new : List B) (due : Answer) : Type 0 where
   pub deck : Deck
-  pub means : deck_of bytes (map device_of old) ≡ Ok deck
+  pub means : deck_for command bytes (map device_of old) ≡ Ok deck
   pub time : ℕ
   pub port : ℕ
   pub exchanges : Exchanges (opening_of (map device_of old) deck) deck.count time port
@@ -123,7 +123,7 @@ module _ {B : Type 0} (device_of : B → Device) (faults : B → ℕ) (old new :
   run_quiet command o n due free (made quiet) = quiet
   run_quiet command o n due free (failed time port x r q) = absurd (free refl)
 
-  run_failed : (command : Command) (bytes : List ℕ) (deck : Deck) (means : deck_of bytes (map device_of old) ≡ Ok deck) (due : Answer) → due.status ≡ 10
+  run_failed : (command : Command) (bytes : List ℕ) (deck : Deck) (means : deck_for command bytes (map device_of old) ≡ Ok deck) (due : Answer) → due.status ≡ 10
       → IsRun device_of faults command (opening_of (map device_of old) deck) deck.count old new due → Fails device_of faults command bytes old new due
   run_failed command bytes deck means due e (made quiet) =
       absurd (omega (arith, e, stop_is (run (opening_of (map device_of old) deck) deck.count).plain.stop (run (opening_of (map device_of old) deck) deck.count).plain.times))
@@ -135,7 +135,7 @@ module _ {B : Type 0} (device_of : B → Device) (faults : B → ℕ) (old new :
     reply_status due (ran deck reply means is) = inr (run_status command (opening_of (map device_of old) deck) deck.count reply is)
 
     reply_due : (due : Answer) → due.status ≢ 10 → IsReply device_of faults command bytes old new due
-        → due ≡ deck_answer command (map device_of old) (deck_of bytes (map device_of old))
+        → due ≡ deck_answer command (map device_of old) (deck_for command bytes (map device_of old))
     reply_due due free (refused fault means same) = sym (ap (deck_answer command (map device_of old)) means)
     reply_due due free (ran deck reply means is) =
         run_due command (opening_of (map device_of old) deck) deck.count reply free is ∙ sym (ap (deck_answer command (map device_of old)) means)

@@ -13,6 +13,7 @@ use Rattle.lvdc_plain.specs.declared.records.Stop.{Stop}
 use Rattle.lvdc_deck.specs.Deck.{deck_of}
 use Rattle.lvdc_deck.specs.declared.deck.Deck.{Deck}
 use Rattle.lvdc_deck.specs.declared.fault.DeckFault.{DeckFault}
+use Rattle.lvdc_deck.specs.declared.fault.DeckFault.TheVariants.{NotBuilt}
 use Rattle.lvdc_report.specs.Report.{report_text}
 use Rattle.lvdc_report.specs.declared.title.Title as titles
 use Rattle.lvdc_report.specs.declared.title.Title.TheVariants as title
@@ -94,6 +95,23 @@ pub record Exchanges (o : Opening) (n time port : ℕ) : Type 0 where
   pub free : (run o time).plain.hold ≡ 0
   pub asked : Names (request_at (run o time).plain) port
 
+-- ---- the deck of a command
+
+-- the deck, where no line asks for the voted machine, which isn't joined yet
+abbrev pub without_vote : Option ℕ → Deck → Result Deck DeckFault
+without_vote None deck = Ok deck
+without_vote (Some line) deck = Err (NotBuilt line)
+
+-- what a command takes of what was read: `run --plain` ignores the script and the orders
+abbrev pub taken_by : Command → Result Deck DeckFault → Result Deck DeckFault
+taken_by Run (Ok deck) = without_vote deck.voted deck
+taken_by Run (Err fault) = Err fault
+taken_by RunPlain read = read
+
+-- the deck that a command runs, or its first refusal
+abbrev pub deck_for : Command → List ℕ → List device.Device → Result Deck DeckFault
+deck_for command bytes devices = taken_by command (deck_of bytes devices)
+
 -- ---- the whole
 
 -- the answer to a deck, or to its refusal
@@ -104,7 +122,7 @@ deck_answer command devices (Err fault) = refused_answer devices fault
 abbrev pub command_answer : Option Command → List ℕ → List device.Device → Answer
 command_answer None bytes devices = usage_answer devices
 command_answer (Some command) bytes devices =
-    if nat_lt LIMIT (length bytes) then too_long_answer devices else deck_answer command devices (deck_of bytes devices)
+    if nat_lt LIMIT (length bytes) then too_long_answer devices else deck_answer command devices (deck_for command bytes devices)
 
 -- the answer to these words over these bytes and devices, where no read, no write and no device fails
 abbrev pub answer : List (List ℕ) → List ℕ → List device.Device → Answer

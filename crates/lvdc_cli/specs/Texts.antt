@@ -3,7 +3,7 @@ use Rattle.std.specs.Prelude.{ℕ, List, ◌++◌, codes, decimal}
 use Rattle.lvdc_image.specs.declared.fault.ImageFault.{ImageFault}
 use Rattle.lvdc_image.specs.declared.fault.ImageFault.TheVariants as image
 use Rattle.lvdc_deck.specs.declared.fault.DeckFault.{DeckFault}
-use Rattle.lvdc_deck.specs.declared.fault.DeckFault.TheVariants.{NoMemory, BadSection, BadLine, NoProgram, NoDevice, CountTooLarge, NotBuilt, Image}
+use Rattle.lvdc_deck.specs.declared.fault.DeckFault.TheVariants.{NoMemory, BadSection, BadLine, NoProgram, NoDevice, TooManyEvents, CountTooLarge, NotBuilt, Image}
 
 abbrev pub usage_text : List ℕ
 usage_text =
@@ -43,6 +43,7 @@ cause_of (BadSection line) = codes "BadSection"
 cause_of (BadLine line) = codes "BadLine"
 cause_of (NoProgram line) = codes "NoProgram"
 cause_of (NoDevice line) = codes "NoDevice"
+cause_of (TooManyEvents line) = codes "TooManyEvents"
 cause_of (CountTooLarge line) = codes "CountTooLarge"
 cause_of (NotBuilt line) = codes "NotBuilt"
 cause_of (Image fault) = image_cause fault
@@ -53,6 +54,7 @@ line_of (BadSection line) = line
 line_of (BadLine line) = line
 line_of (NoProgram line) = line
 line_of (NoDevice line) = line
+line_of (TooManyEvents line) = line
 line_of (CountTooLarge line) = line
 line_of (NotBuilt line) = line
 line_of (Image fault) = image_line fault

@@ -8,14 +8,13 @@ use Rattle.lvdc_text.specs.Transfer.{TookCount, TookAtMost}
 use Rattle.lvdc_port.specs.Device.{Device}
 use Rattle.lvdc_port.specs.Devices.{has_port, count_at}
 use Rattle.lvdc_port.specs.Supplies.{supplied}
-use Rattle.lvdc_deck.specs.Deck.{deck_of}
 use Rattle.lvdc_deck.specs.declared.deck.Deck.{Deck}
 use Rattle.lvdc_deck.specs.declared.fault.DeckFault.{DeckFault}
 use Rattle.lvdc_plain.specs.Run.{Opening}
 use Rattle.lvdc_cli.specs.declared.TheConstants.{LIMIT}
 use Rattle.lvdc_cli.specs.declared.command.Command.{Command}
 use Rattle.lvdc_cli.specs.Words.{command_of}
-use Rattle.lvdc_cli.specs.Answer.{Answer, usage_answer, read_fault_answer, too_long_answer, refused_answer, opening_of, run_answer, failed_answer, Exchanges}
+use Rattle.lvdc_cli.specs.Answer.{Answer, usage_answer, read_fault_answer, too_long_answer, refused_answer, opening_of, run_answer, failed_answer, Exchanges, deck_for}
 
 -- ---- the devices' counts of faults
 
@@ -42,9 +41,9 @@ pub data IsRun {B : Type 0} (device_of : B → Device) (faults : B → ℕ) (com
 
 -- How a deck is answered: it is refused, and the devices are the same objects as before; or it is run.
 pub data IsReply {B : Type 0} (device_of : B → Device) (faults : B → ℕ) (command : Command) (bytes : List ℕ) (old new : List B) : Answer → Type 0 where
-  refused : (fault : DeckFault) → deck_of bytes (map device_of old) ≡ Err fault → new ≡ old
+  refused : (fault : DeckFault) → deck_for command bytes (map device_of old) ≡ Err fault → new ≡ old
       → IsReply device_of faults command bytes old new (refused_answer (map device_of old) fault)
-  ran : (deck : Deck) (reply : Answer) → deck_of bytes (map device_of old) ≡ Ok deck
+  ran : (deck : Deck) (reply : Answer) → deck_for command bytes (map device_of old) ≡ Ok deck
       → IsRun device_of faults command (opening_of (map device_of old) deck) deck.count old new reply
       → IsReply device_of faults command bytes old new reply
 
@@ -60,7 +59,7 @@ pub data IsUnreported {B : Type 0} (device_of : B → Device) (faults : B → �
 -- bytes are was begun.
 pub data IsUnanswered {B : Type 0} (device_of : B → Device) (faults : B → ℕ) (command : Command) (bytes : List ℕ) (old new : List B) : Type 0 where
   untouched : new ≡ old → IsUnanswered device_of faults command bytes old new
-  begun : (deck : Deck) → deck_of bytes (map device_of old) ≡ Ok deck → IsUnreported device_of faults command deck old new
+  begun : (deck : Deck) → deck_for command bytes (map device_of old) ≡ Ok deck → IsUnreported device_of faults command deck old new
       → IsUnanswered device_of faults command bytes old new
 
 -- ---- the whole call
@@ -136,7 +135,7 @@ pub record HasFailed {B : Type 0} (device_of : B → Device) (faults : B → ℕ
   pub command : Command
   pub asked : command_of words ≡ Some command
   pub deck : Deck
-  pub means : deck_of bytes (map device_of old) ≡ Ok deck
+  pub means : deck_for command bytes (map device_of old) ≡ Ok deck
   pub time : ℕ
   pub port : ℕ
   pub exchanges : Exchanges (opening_of (map device_of old) deck) deck.count time port

@@ -1,8 +1,8 @@
-ghost use Rattle.std.specs.Prelude.{◌≡◌, ◌≢◌, ◌≤◌, ◌^◌, ◌<◌, length, map, OnOk, OnErr, IfOk};
+ghost use Rattle.std.specs.Prelude.{◌≡◌, ◌≢◌, ◌≤◌, ◌-◌, ◌^◌, ◌<◌, length, map, OnOk, OnErr, IfOk, IfErr, Ok, Err};
 ghost use Rattle.lvdc_deck.specs.declared.fault.DeckFault.TheVariants.{NoMemory as WantsMemory};
 ghost use Rattle.lvdc_map.specs.Memory.{AllThere};
 ghost use Rattle.lvdc_port.specs.Devices.{AreDistinct};
-ghost use Rattle.lvdc_cli.specs.Answer.{answer_with, end_status, opening_of};
+ghost use Rattle.lvdc_cli.specs.Answer.{answer_with, deck_for, end_status, opening_of};
 ghost use Rattle.lvdc_cli.specs.Texts.{refusal_status, refusal_text};
 ghost use Rattle.lvdc_cli.specs.Top.{IsRun, IsReply, IsUnreported, IsUnanswered};
 
@@ -56,6 +56,7 @@ fn run_deck(
         supplies,
         unplugs,
         count,
+        ..
     } = deck;
     supply_all(devices, supplies.items())?;
     let mut plain = Plain::new(
@@ -71,6 +72,29 @@ fn run_deck(
     let status = end_status(&end);
     let text = report_titled(alloc, title_of(command), &plain, end)?;
     Ok(Reply { status, text })
+}
+
+/// Reads the deck that the command runs. `run` refuses the sections that ask for the voted machine, which isn't joined yet.
+fn read_for(
+    alloc: Global,
+    command: Command,
+    bytes: &[u8],
+    devices: &Vec<Box<dyn PortDevice>>,
+) -> Result<Deck, DeckFault>
+    requires { length bytes.now < 2 ^ 32 - 1 }
+    ensures deck { IfOk result (λ deck. deck_for command bytes.now (map device_of devices.now.items) ≡ Ok deck) }
+    ensures refusal { IfErr result (λ fault. fault ≢ WantsMemory → deck_for command bytes.now (map device_of devices.now.items) ≡ Err fault) }
+    ensures count { IfOk result (λ deck. deck.count ≤ 1000000) }
+    ensures there { IfOk result (λ deck. AllThere deck.banks deck.image.words) }
+{
+    let deck = match read_deck(alloc, bytes, devices) {
+        Ok(deck) => deck,
+        Err(fault) => return Err(fault),
+    };
+    match (command, deck.voted) {
+        (Command::Run, Some(line)) => Err(DeckFault::NotBuilt(line)),
+        _ => Ok(deck),
+    }
 }
 
 /// The reply to a refused deck.
@@ -106,7 +130,7 @@ pub(crate) fn make_reply(
     ensures unanswered { OnErr result (IsUnanswered device_of faults command bytes.now devices.old.items devices.new.items) }
     ensures room { IfOk result (λ reply. length reply.text.items ≤ ROOM) }
 {
-    match read_deck(alloc, bytes, devices) {
+    match read_for(alloc, command, bytes, devices) {
         Ok(deck) => {
             let reply = run_deck(alloc, command, deck, devices)?;
             Ok(reply)

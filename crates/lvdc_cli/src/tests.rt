@@ -579,7 +579,9 @@ fn lines_where_run_is_due_are_refused(rt: HostRuntime) -> Result<(), Fail> {
             "PORTS\nUNPLUG 000 5\nTAPE 000 1\nRUN 3\n",
             "REFUSED NoDevice 6\n",
         ),
+        ("FAULTS\nLAG 8 1 0 0\nRUN 3\n", "REFUSED BadLine 5\n"),
         ("FAULTS\nRUN 3\n", "REFUSED NotBuilt 4\n"),
+        ("RUN 3\nDEBUG\n", "REFUSED NotBuilt 5\n"),
     ] {
         let mut devices: Vec<Box<dyn PortDevice>> = Vec::new(alloc);
         devices.push(Box::new(alloc, Tape::new(alloc, 0))?)?;
@@ -588,6 +590,23 @@ fn lines_where_run_is_due_are_refused(rt: HostRuntime) -> Result<(), Fail> {
         let (status, text) = answer(alloc, "run", deck.into_bytes(), &mut devices)?;
         assert_eq!(rt; status, 2, "{lines}");
         assert_eq!(rt; text.as_str(), refusal, "{lines}");
+    }
+    Ok(())
+}
+
+#[test]
+fn a_plain_run_ignores_the_script_and_the_orders(rt: HostRuntime) -> Result<(), Fail> {
+    let alloc = rt.alloc();
+    let sections = "FAULTS\nFLIP 5 1 3 3 0 000000001\nORDER\nUTSRQPONMLKJIHGFEDCBA\n";
+    for (words, status, start) in [
+        ("run --plain", 0, "LVDC PLAIN\nEND DONE\nTIMES 3\n"),
+        ("run", 2, "REFUSED NotBuilt 4\n"),
+    ] {
+        let mut devices: Vec<Box<dyn PortDevice>> = Vec::new(alloc);
+        let deck = format!(in alloc; "IMAGE\nLVDC 1\nEND\n{sections}RUN 3\n")?;
+        let (told, text) = answer(alloc, words, deck.into_bytes(), &mut devices)?;
+        assert_eq!(rt; told, status, "{words}");
+        assert_eq!(rt; text.as_str().starts_with(start), true, "{words}");
     }
     Ok(())
 }

@@ -5,8 +5,9 @@ use Rattle.std.specs.Option.{SomeIff}
 use Rattle.std.proofs.Math.Nat.{pow-le-pow_right, pow-suc}
 use Rattle.std.proofs.lemmas.List.{drop_more, drop_all}
 use Rattle.lvdc_text.specs.declared.cutting.Line.{Line}
+use Rattle.lvdc_text.specs.Numbers.{word_in}
 use Rattle.lvdc_port.specs.declared.requests.Supply.{Supply}
-use Rattle.lvdc_deck.specs.Sections.{pairs_with, pairs_from, words_with, words_in, word_in, supply_of}
+use Rattle.lvdc_deck.specs.Sections.{pairs_with, pairs_from, words_with, words_in, supply_of}
 
 -- the texts of the parts from an index on begin with that of the part there
 pub texts-more : (text_of : Line → List ℕ) (lines : List Line) (i : ℕ) (d : Line) → i < length lines →

@@ -55,6 +55,9 @@ made_of (Ok image) s count =
       banks = bit_or image.banks s.simplex;
       supplies = s.supplies;
       unplugs = s.unplugs;
+      script = s.script;
+      orders = s.orders;
+      voted = s.voted;
       count = count;
     })
 

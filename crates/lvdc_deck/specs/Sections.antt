@@ -1,36 +1,54 @@
 -- The sections of a deck after its program, line by line.
-use Rattle.std.specs.Prelude.{◌≡◌, ◌≢◌, ℕ, ◌+◌, ◌^◌, ◌-◌, nat_lt, nat_le, Bool, true, false, not, ◌&&◌, ◌||◌, ◌==◌, List, [], ◌∷◌, ◌++◌, map, length, codes, if◌then◌else◌, Result, Ok, Err}
+use Rattle.std.specs.Prelude.{◌≡◌, ◌≢◌, ℕ, ◌+◌, ◌^◌, ◌-◌, nat_lt, nat_le, Bool, true, false, ◌&&◌, ◌||◌, ◌==◌, List, [], ◌∷◌, ◌++◌, map, length, codes, if◌then◌else◌, Result, Ok, Err}
 use Rattle.std.specs.List.{list_all, list_any}
 use Rattle.std.specs.Str.{bytes_eq}
+use Rattle.std.specs.Option.{option_or}
 use Rattle.std.specs.declared.option.Option.{Option}
 use Rattle.std.specs.declared.option.Option.TheVariants.{None, Some}
 use Rattle.lvdc_map.specs.Hop.{HopConstant, hop_of}
 use Rattle.lvdc_text.specs.Lines.{words_of, part_of, is_blank}
-use Rattle.lvdc_text.specs.Numbers.{number_of}
+use Rattle.lvdc_text.specs.Numbers.{number_of, plain_number_of, below, word_in}
 use Rattle.lvdc_port.specs.Device.{Device}
 use Rattle.lvdc_port.specs.Supplies.{kind_at}
 use Rattle.lvdc_port.specs.declared.device.Kind.{Kind}
 use Rattle.lvdc_port.specs.declared.device.Kind.TheVariants.{Tape}
 use Rattle.lvdc_port.specs.declared.requests.Supply.{Supply}
 use Rattle.lvdc_plain.specs.declared.records.Unplug.{Unplug}
+use Rattle.lvdc_fault.specs.declared.event.Event.{Event}
+use Rattle.lvdc_script.specs.Lines.{fault_in, order_in}
 use Rattle.lvdc_deck.specs.declared.fault.DeckFault.{DeckFault}
-use Rattle.lvdc_deck.specs.declared.fault.DeckFault.TheVariants.{NoMemory as WantsMemory, BadSection, BadLine, NoDevice, CountTooLarge, NotBuilt}
+use Rattle.lvdc_deck.specs.declared.fault.DeckFault.TheVariants.{NoMemory as WantsMemory, BadSection, BadLine, NoDevice, TooManyEvents, CountTooLarge, NotBuilt}
 use Rattle.lvdc_deck.specs.declared.section.Section.{Section}
 use Rattle.lvdc_deck.specs.declared.section.Section.TheVariants.{Program, Start, Simplex, Ports, Faults, Order, Run, Debug}
 
 -- what the sections have said so far: the section in force, START's constant, SIMPLEX's pairs as a bit each, the words
--- for tapes and the unplug lines in their order, and RUN's count
+-- for tapes and the unplug lines in their order, the events of FAULTS, the orders of ORDER, the line of the first of these
+-- two sections, and RUN's count
 pub record Sections : Type 0 where
   pub section : Section
   pub start : Option HopConstant
   pub simplex : ℕ
   pub supplies : List Supply
   pub unplugs : List Unplug
+  pub script : List Event
+  pub orders : List (List ℕ)
+  pub voted : Option ℕ
   pub count : Option ℕ
 
 -- before any section
 abbrev pub nothing_said : Sections
-nothing_said = record { section = Program; start = None; simplex = 0; supplies = []; unplugs = []; count = None }
+nothing_said =
+    record {
+      section = Program;
+      start = None;
+      simplex = 0;
+      supplies = [];
+      unplugs = [];
+      script = [];
+      orders = [];
+      voted = None;
+      count = None;
+    }
 
 -- ---- lines outside the program's text
 
@@ -76,36 +94,20 @@ section_of word =
     else (if bytes_eq word (codes "RUN") then Some Run
     else (if bytes_eq word (codes "DEBUG") then Some Debug else None))))))
 
--- the sections that aren't built yet: their word alone on a line is refused as such
+-- the section that isn't built yet: its word alone on a line is refused as such
 abbrev pub is_unbuilt : Section → Bool
-is_unbuilt Faults = true
-is_unbuilt Order = true
 is_unbuilt Debug = true
 is_unbuilt section = false
 
 -- ---- numbers of lines
 
--- the number, where it is below the limit
-abbrev pub below : ℕ → Option ℕ → Option ℕ
-below limit None = None
-below limit (Some n) = if nat_lt n limit then Some n else None
-
--- a word: one to nine octal digits below 2 ^ 26
-abbrev pub word_in : List ℕ → Option ℕ
-word_in token = below (2 ^ 26) (number_of 8 9 token)
-
 -- a port: one to three octal digits up to 377
 abbrev pub port_in : List ℕ → Option ℕ
 port_in token = below (2 ^ 8) (number_of 8 3 token)
 
--- a decimal number without a leading zero
-abbrev pub is_plain : List ℕ → Bool
-is_plain (d ∷ e ∷ ds) = not (d == 48)
-is_plain digits = true
-
--- an instruction time: a decimal number up to 1,000,000
+-- an instruction time: a decimal number up to 1,000,000, without a needless zero
 abbrev pub time_in : List ℕ → Option ℕ
-time_in token = if is_plain token then below 1000001 (number_of 10 7 token) else None
+time_in token = below 1000001 (plain_number_of 7 token)
 
 -- a word before others, where all were found
 abbrev pub words_with : Option ℕ → Option (List ℕ) → Option (List ℕ)
@@ -157,6 +159,16 @@ abbrev pub ports_line : Sections → ℕ → List (List ℕ) → Result Sections
 ports_line s number [] = Ok (record s { section = Ports })
 ports_line s number tokens = Err (BadLine number)
 
+-- FAULTS alone
+abbrev pub faults_line : Sections → ℕ → List (List ℕ) → Result Sections DeckFault
+faults_line s number [] = Ok (record s { section = Faults; voted = Some number })
+faults_line s number tokens = Err (BadLine number)
+
+-- ORDER alone
+abbrev pub order_line : Sections → ℕ → List (List ℕ) → Result Sections DeckFault
+order_line s number [] = Ok (record s { section = Order; voted = option_or s.voted (Some number) })
+order_line s number tokens = Err (BadLine number)
+
 -- RUN's count, where it has its form, up to 1,000,000
 abbrev pub with_count : Sections → ℕ → Option ℕ → Result Sections DeckFault
 with_count s number None = Err (BadLine number)
@@ -168,11 +180,13 @@ abbrev pub run_line : Sections → ℕ → List (List ℕ) → Result Sections D
 run_line s number (token ∷ []) = with_count s number (number_of 10 9 token)
 run_line s number tokens = Err (BadLine number)
 
--- a section word in its place: an unbuilt section's has more on its line here
+-- a section word in its place: that of the unbuilt section has more on its line here
 abbrev pub opens : Section → Sections → ℕ → List (List ℕ) → Result Sections DeckFault
 opens Start s number tokens = start_line s number tokens
 opens Simplex s number tokens = simplex_line s number tokens
 opens Ports s number tokens = ports_line s number tokens
+opens Faults s number tokens = faults_line s number tokens
+opens Order s number tokens = order_line s number tokens
 opens Run s number tokens = run_line s number tokens
 opens section s number tokens = Err (BadLine number)
 
@@ -226,11 +240,27 @@ port_line devices s number first tokens =
     if bytes_eq first (codes "TAPE") then tape_line devices s number tokens
     else (if bytes_eq first (codes "UNPLUG") then unplug_line devices s number tokens else Err (BadLine number))
 
+-- ---- lines of FAULTS and ORDER
+
+-- an event, where the line has its form; there are at most 65,536
+abbrev pub with_event : Sections → ℕ → Option Event → Result Sections DeckFault
+with_event s number None = Err (BadLine number)
+with_event s number (Some event) =
+    if nat_lt (length s.script) 65536 then Ok (record s { script = s.script ++ event ∷ [] }) else Err (TooManyEvents number)
+
+-- an order, where the line has its form; there are at most sixteen, and one more is a line out of form
+abbrev pub with_order : Sections → ℕ → Option (List ℕ) → Result Sections DeckFault
+with_order s number None = Err (BadLine number)
+with_order s number (Some order) =
+    if nat_lt (length s.orders) 16 then Ok (record s { orders = s.orders ++ order ∷ [] }) else Err (BadLine number)
+
 -- ---- one line
 
--- a line whose first word is no section's belongs to PORTS, where that is in force
+-- a line whose first word is no section's belongs to PORTS, FAULTS or ORDER, where that is in force
 abbrev pub belongs : List Device → Section → Sections → ℕ → List ℕ → List (List ℕ) → Result Sections DeckFault
 belongs devices Ports s number first tokens = port_line devices s number first tokens
+belongs devices Faults s number first tokens = with_event s number (fault_in (first ∷ tokens))
+belongs devices Order s number first tokens = with_order s number (order_in (first ∷ tokens))
 belongs devices section s number first tokens = Err (BadSection number)
 
 -- a section word stands in its place where it comes after the section in force

@@ -1,7 +1,9 @@
+use lvdc_fault::Script;
 use lvdc_image::Image;
 use lvdc_map::{Banks, Hop};
 use lvdc_plain::Unplug;
 use lvdc_port::Supply;
+use lvdc_script::Orders;
 use lvdc_word::Seq;
 
 /// What a deck asks for.
@@ -16,6 +18,13 @@ pub struct Deck {
     pub supplies: Seq<Supply>,
     /// The UNPLUG lines, in their order.
     pub unplugs: Seq<Unplug>,
+    /// The events of the FAULTS lines, in their order; at most 65,536.
+    pub script: Script,
+    /// The orders of the ORDER lines; without one the order A to U.
+    pub orders: Orders,
+    /// The line of FAULTS or ORDER, the first of the two. Both ask for the voted machine, which isn't joined to the top
+    /// call yet.
+    pub voted: Option<u32>,
     /// The instruction times asked for, at most 1,000,000.
     pub count: u64,
 }

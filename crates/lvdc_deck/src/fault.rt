@@ -24,6 +24,9 @@ pub enum DeckFault {
     /// No device of the kind that is asked for is at that port, or an earlier line unplugs it.
     #[error("line {0} names no device")]
     NoDevice(u32),
+    /// The script has more than 65,536 events.
+    #[error("the event on line {0} is one too many")]
+    TooManyEvents(u32),
     /// More than 1,000,000 instruction times are asked for.
     #[error("the count on line {0} is too large")]
     CountTooLarge(u32),

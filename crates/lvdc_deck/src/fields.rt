@@ -1,25 +1,15 @@
 ghost use Rattle.std.specs.Prelude.{◌≡◌, ℕ, ◌+◌, ◌<◌, ◌≤◌, List, [], ◌∷◌, map, None, option_map, IfSome, IfNone, IfOk, All};
 ghost use Rattle.lvdc_text.specs.Lines.{IsWithin, part_of};
-ghost use Rattle.lvdc_deck.specs.Sections.{word_in, port_in, is_plain, time_in, words_in, supply_of, pairs_from};
+ghost use Rattle.lvdc_deck.specs.Sections.{port_in, time_in, words_in, supply_of, pairs_from};
 
 use lvdc_map::Banks;
 use lvdc_port::Supply;
-use lvdc_text::{Line, decimal, octal, part};
-use lvdc_word::{NoMemory, Word};
+use lvdc_text::{Line, octal, octal_word, part, plain_decimal};
+use lvdc_word::NoMemory;
 use std::alloc::Global;
 
 /// The greatest count of instruction times (this project's profile).
 pub(crate) const MOST_TIMES: u64 = 1_000_000;
-
-/// A word: one to nine octal digits below 2^26.
-pub(crate) fn word_in(token: &[u8]) -> Option<Word>
-    ensures { result ≡ word_in token.now }
-{
-    match octal(token, 9) {
-        Some(value) if value < 1 << 26 => Some(Word::within(value as u32)),
-        _ => None,
-    }
-}
 
 /// A port: one to three octal digits up to 377.
 pub(crate) fn port_in(token: &[u8]) -> Option<u8>
@@ -31,24 +21,11 @@ pub(crate) fn port_in(token: &[u8]) -> Option<u8>
     }
 }
 
-/// Does the number begin without a needless zero?
-fn is_plain(token: &[u8]) -> bool
-    ensures { result ≡ is_plain token.now }
-{
-    match token {
-        [first, _, ..] => *first != b'0',
-        _ => true,
-    }
-}
-
-/// An instruction time: a decimal number up to 1,000,000.
+/// An instruction time: a decimal number up to 1,000,000, without a needless zero.
 pub(crate) fn time_in(token: &[u8]) -> Option<u64>
     ensures { result ≡ time_in token.now }
 {
-    if !is_plain(token) {
-        return None;
-    }
-    match decimal(token, 7) {
+    match plain_decimal(token, 7) {
         Some(time) if time <= MOST_TIMES => Some(time),
         _ => None,
     }
@@ -67,7 +44,7 @@ pub(crate) fn supplies_in(
 {
     let mut supplies = Vec::new(alloc);
     for token in tokens {
-        match word_in(part(text, token)) {
+        match octal_word(part(text, token)) {
             Some(word) => supplies.push(Supply { port, word })?,
             None => return Ok(None),
         }

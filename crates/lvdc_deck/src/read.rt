@@ -1,6 +1,7 @@
 ghost use Rattle.std.specs.Prelude.{◌≡◌, ◌≢◌, ◌+◌, ◌-◌, ◌^◌, ◌<◌, ◌≤◌, length, map, true, IfOk, IfErr, All, Ok, Err};
 ghost use Rattle.lvdc_map.specs.Memory.{are_rising, AllThere};
 ghost use Rattle.lvdc_text.specs.Lines.{IsWithin};
+ghost use Rattle.lvdc_script.specs.Events.{IsEvent};
 ghost use Rattle.lvdc_deck.specs.Deck.{end_of, by_end, deck_of};
 ghost use Rattle.lvdc_deck.specs.declared.fault.DeckFault.TheVariants.{NoMemory as WantsMemory};
 
@@ -30,6 +31,8 @@ fn read_program(
     ensures count { IfOk result (λ deck. deck.count ≤ 1000000) }
     ensures rising { IfOk result (λ deck. are_rising deck.image.words ≡ true) }
     ensures there { IfOk result (λ deck. AllThere deck.banks deck.image.words) }
+    ensures few { IfOk result (λ deck. length deck.script ≤ 65536) }
+    ensures events { IfOk result (λ deck. All IsEvent deck.script) }
 {
     let Some(at) = end_of(alloc, bytes, lines)? else {
         return Err(DeckFault::BadSection(number));
@@ -55,6 +58,8 @@ pub fn read_deck(
     ensures count { IfOk result (λ deck. deck.count ≤ 1000000) }
     ensures rising { IfOk result (λ deck. are_rising deck.image.words ≡ true) }
     ensures there { IfOk result (λ deck. AllThere deck.banks deck.image.words) }
+    ensures few { IfOk result (λ deck. length deck.script ≤ 65536) }
+    ensures events { IfOk result (λ deck. All IsEvent deck.script) }
 {
     let found = lines(alloc, bytes)?;
     let all = found.as_slice();

@@ -1,23 +1,30 @@
 ghost use Rattle.std.specs.Prelude.{◌≡◌, ◌≢◌, ◌+◌, ◌-◌, ◌^◌, ◌<◌, ◌≤◌, ◌∷◌, length, map, true, IfOk, IfErr, All, Ok, Err};
 ghost use Rattle.lvdc_map.specs.Memory.{are_rising, AllThere};
-ghost use Rattle.lvdc_text.specs.Lines.{IsWithin, part_of};
-ghost use Rattle.lvdc_deck.specs.Sections.{nothing_said, start_line, simplex_line, ports_line, run_line, opens, in_order, is_unplugged, kind_left, tape_line, unplug_line, port_line, belongs, by_word, by_tokens, after_line, Makes};
+ghost use Rattle.lvdc_text.specs.Lines.{IsWithin, part_of, word_texts_of};
+ghost use Rattle.lvdc_script.specs.Events.{IsEvent};
+ghost use Rattle.lvdc_script.specs.Lines.{fault_in, order_in};
+ghost use Rattle.lvdc_deck.specs.Sections.{nothing_said, start_line, simplex_line, ports_line, faults_line, order_line, run_line, opens, in_order, is_unplugged, kind_left, tape_line, unplug_line, port_line, with_event, with_order, belongs, by_word, by_tokens, after_line, Makes};
 ghost use Rattle.lvdc_deck.specs.Deck.{sections_from, with_program};
 ghost use Rattle.lvdc_deck.specs.declared.fault.DeckFault.TheVariants.{NoMemory as WantsMemory};
 
 use crate::banks::in_either;
-use crate::fields::{MOST_TIMES, pairs_in, port_in, supplies_in, time_in, word_in};
+use crate::fields::{MOST_TIMES, pairs_in, port_in, supplies_in, time_in};
 use crate::layout::{is_long, is_skipped, section_of};
 use crate::section::Section;
 use crate::{Deck, DeckFault};
+use lvdc_fault::Script;
 use lvdc_image::{ImageFault, read_image};
 use lvdc_map::{Banks, Hop};
 use lvdc_plain::Unplug;
 use lvdc_port::{Kind, PortDevice, Supply, kind_at};
-use lvdc_text::{Line, decimal, part, tokens};
+use lvdc_script::{Orders, read_fault, read_order};
+use lvdc_text::{Line, decimal, octal_word, part, tokens};
 use lvdc_word::{Seq, Word};
 use std::alloc::Global;
 use std::marker::Model;
+
+/// The most events of a script (this project's profile).
+const MOST_EVENTS: usize = 65_536;
 
 /// What the sections have said so far.
 #[derive(Debug, Drop)]
@@ -27,18 +34,32 @@ pub(crate) struct Said {
     simplex: Banks,
     supplies: Vec<Supply>,
     unplugs: Vec<Unplug>,
+    script: Script,
+    orders: Orders,
+    voted: Option<u32>,
     count: Option<u64>,
 }
 
 impl Model for Said {
-    ghost use Rattle.std.specs.Prelude.{◌≤◌, IfSome};
+    ghost use Rattle.std.specs.Prelude.{◌≤◌, length, IfSome, All};
+    ghost use Rattle.lvdc_script.specs.Events.{IsEvent};
     ghost use Rattle.lvdc_deck.specs.Sections.{Sections};
 
     ghost Value = { Sections };
 
-    ghost view = { λ s. record { section = s.section; start = s.start; simplex = s.simplex; supplies = s.supplies.items; unplugs = s.unplugs.items; count = s.count } };
+    ghost view = { λ s. record {
+      section = s.section;
+      start = s.start;
+      simplex = s.simplex;
+      supplies = s.supplies.items;
+      unplugs = s.unplugs.items;
+      script = s.script;
+      orders = s.orders;
+      voted = s.voted;
+      count = s.count;
+    } };
 
-    ghost invariant = { λ s. IfSome s.count (λ count. count ≤ 1000000) };
+    ghost invariant = { λ s. IfSome s.count (λ count. count ≤ 1000000) × (length s.script ≤ 65536) × All IsEvent s.script };
 }
 
 impl Said {
@@ -52,6 +73,9 @@ impl Said {
             simplex: Banks::DUPLEX,
             supplies: Vec::new(alloc),
             unplugs: Vec::new(alloc),
+            script: Script::new(alloc),
+            orders: Orders::plain(),
+            voted: None,
             count: None,
         }
     }
@@ -63,7 +87,7 @@ impl Said {
         let [token] = tokens else {
             return Err(DeckFault::BadLine(number));
         };
-        let Some(word) = word_in(part(text, token)) else {
+        let Some(word) = octal_word(part(text, token)) else {
             return Err(DeckFault::BadLine(number));
         };
         self.section = Section::Start;
@@ -93,6 +117,28 @@ impl Said {
             return Err(DeckFault::BadLine(number));
         }
         self.section = Section::Ports;
+        Ok(())
+    }
+
+    fn faults_line(&mut self, number: u32, text: &[u8], tokens: &[Line]) -> Result<(), DeckFault>
+        ensures { Makes result self.new (faults_line self.old number (map (part_of text.now) tokens.now)) }
+    {
+        if !tokens.is_empty() {
+            return Err(DeckFault::BadLine(number));
+        }
+        self.section = Section::Faults;
+        self.voted = Some(number);
+        Ok(())
+    }
+
+    fn order_line(&mut self, number: u32, text: &[u8], tokens: &[Line]) -> Result<(), DeckFault>
+        ensures { Makes result self.new (order_line self.old number (map (part_of text.now) tokens.now)) }
+    {
+        if !tokens.is_empty() {
+            return Err(DeckFault::BadLine(number));
+        }
+        self.section = Section::Order;
+        self.voted = self.voted.or(Some(number));
         Ok(())
     }
 
@@ -132,6 +178,8 @@ impl Said {
             Section::Start => self.start_line(number, text, tokens),
             Section::Simplex => self.simplex_line(number, text, tokens),
             Section::Ports => self.ports_line(number, text, tokens),
+            Section::Faults => self.faults_line(number, text, tokens),
+            Section::Order => self.order_line(number, text, tokens),
             Section::Run => self.run_line(number, text, tokens),
             _ => Err(DeckFault::BadLine(number)),
         }
@@ -233,6 +281,59 @@ impl Said {
         }
     }
 
+    /// Takes a line of FAULTS.
+    fn take_event(&mut self, number: u32, text: &[u8]) -> Result<(), DeckFault>
+        requires { length text.now < 2 ^ 32 - 1 }
+        ensures { Makes result self.new (with_event self.old number (fault_in (word_texts_of text.now))) }
+    {
+        let Some(event) = read_fault(text) else {
+            return Err(DeckFault::BadLine(number));
+        };
+        if self.script.len() >= MOST_EVENTS {
+            return Err(DeckFault::TooManyEvents(number));
+        }
+        self.script.push(event)?;
+        Ok(())
+    }
+
+    /// Takes a line of ORDER.
+    fn take_order(&mut self, number: u32, text: &[u8]) -> Result<(), DeckFault>
+        requires { length text.now < 2 ^ 32 - 1 }
+        ensures { Makes result self.new (with_order self.old number (order_in (word_texts_of text.now))) }
+    {
+        let Some(order) = read_order(text) else {
+            return Err(DeckFault::BadLine(number));
+        };
+        if self.orders.add(order).is_err() {
+            return Err(DeckFault::BadLine(number));
+        }
+        Ok(())
+    }
+
+    /// Takes a line whose first word is no section's.
+    fn take_other(
+        &mut self,
+        alloc: Global,
+        devices: &Vec<Box<dyn PortDevice>>,
+        number: u32,
+        first: &[u8],
+        text: &[u8],
+        tokens: &[Line],
+    ) -> Result<(), DeckFault>
+        requires size { length text.now < 2 ^ 32 - 1 }
+        requires within { All (IsWithin text.now) tokens.now }
+        requires whole { first.now ∷ map (part_of text.now) tokens.now ≡ word_texts_of text.now }
+        ensures { Makes result self.new
+            (belongs (map device_of devices.now.items) self.old.section self.old number first.now (map (part_of text.now) tokens.now)) }
+    {
+        match self.section {
+            Section::Ports => self.port_line(alloc, devices, number, first, text, tokens),
+            Section::Faults => self.take_event(number, text),
+            Section::Order => self.take_order(number, text),
+            _ => Err(DeckFault::BadSection(number)),
+        }
+    }
+
     fn take_tokens(
         &mut self,
         alloc: Global,
@@ -241,7 +342,9 @@ impl Said {
         text: &[u8],
         tokens: &[Line],
     ) -> Result<(), DeckFault>
-        requires { All (IsWithin text.now) tokens.now }
+        requires size { length text.now < 2 ^ 32 - 1 }
+        requires within { All (IsWithin text.now) tokens.now }
+        requires whole { map (part_of text.now) tokens.now ≡ word_texts_of text.now }
         ensures { Makes result self.new (by_tokens (map device_of devices.now.items) self.old number (map (part_of text.now) tokens.now)) }
     {
         let [first, rest @ ..] = tokens else {
@@ -253,10 +356,7 @@ impl Said {
                 number,
             )),
             Some(section) => self.open(section, number, text, rest),
-            None if self.section == Section::Ports => self.port_line(
-                alloc, devices, number, word, text, rest,
-            ),
-            None => Err(DeckFault::BadSection(number)),
+            None => self.take_other(alloc, devices, number, word, text, rest),
         }
     }
 
@@ -317,6 +417,8 @@ impl Said {
         ensures count { IfOk result (λ deck. deck.count ≤ 1000000) }
         ensures rising { IfOk result (λ deck. are_rising deck.image.words ≡ true) }
         ensures there { IfOk result (λ deck. AllThere deck.banks deck.image.words) }
+        ensures few { IfOk result (λ deck. length deck.script ≤ 65536) }
+        ensures events { IfOk result (λ deck. All IsEvent deck.script) }
     {
         let Some(count) = self.count else {
             return Err(DeckFault::BadSection(next));
@@ -337,6 +439,9 @@ impl Said {
             banks,
             supplies: Seq::from_vec(self.supplies),
             unplugs: Seq::from_vec(self.unplugs),
+            script: self.script,
+            orders: self.orders,
+            voted: self.voted,
             count,
         })
     }

@@ -43,10 +43,10 @@ impl Section {
         }
     }
 
-    /// Is the section one that isn't built yet?
+    /// Is the section the one that isn't built yet?
     pub(crate) fn is_unbuilt(self) -> bool
         ensures { result ≡ is_unbuilt self }
     {
-        matches!(self, Section::Faults | Section::Order | Section::Debug)
+        matches!(self, Section::Debug)
     }
 }

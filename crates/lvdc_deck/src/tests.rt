@@ -9,8 +9,8 @@ use std::test::Fail;
 
 /// The deck of the text over a tape at port 000 and a latch at port 014.
 fn deck(alloc: Global, text: &[u8]) -> Result<Result<Deck, DeckFault>, Fail> {
-    if text.len() > 1000 {
-        return Err("a short text".into());
+    if text.len() > 1_000_000 {
+        return Err("a text of at most a million bytes".into());
     }
     let mut devices: Vec<Box<dyn PortDevice>> = Vec::new(alloc);
     devices.push(Box::new(alloc, Tape::new(alloc, 0))?)?;
@@ -36,7 +36,7 @@ fn refusals_name_their_lines(rt: HostRuntime) -> Result<(), Fail> {
             b"IMAGE\nLVDC 1\nEND\nPORTS\nTAPE 016 1\n",
             DeckFault::NoDevice(5),
         ),
-        (b"IMAGE\nLVDC 1\nEND\nORDER\n", DeckFault::NotBuilt(4)),
+        (b"IMAGE\nLVDC 1\nEND\nDEBUG\n", DeckFault::NotBuilt(4)),
         (
             b"IMAGE\nLVDC 3\nEND\nRUN 3",
             DeckFault::Image(ImageFault::BadImageLine(2)),
@@ -50,7 +50,7 @@ fn refusals_name_their_lines(rt: HostRuntime) -> Result<(), Fail> {
 #[test]
 fn sections_are_kept_in_a_deck(rt: HostRuntime) -> Result<(), Fail> {
     let text =
-        b"IMAGE\r\nLVDC 1\r\n0 00 000 000017000\r\nEND\r\nSTART 216\r\nSIMPLEX 0 3\r\nPORTS\r\nTAPE 0 5\r\nUNPLUG 014 3\r\nRUN 0004\r\n";
+        b"IMAGE\r\nLVDC 1\r\n0 00 000 000017000\r\nEND\r\nSTART 216\r\nSIMPLEX 0 3\r\nPORTS\r\nTAPE 0 5\r\nUNPLUG 014 3\r\nFAULTS\r\nLAG 2 3 0 8\r\nORDER\r\nUTSRQPONMLKJIHGFEDCBA\r\nRUN 0004\r\n";
     let deck = deck(rt.alloc(), text)??;
     let supply = Supply {
         port: 0,
@@ -68,7 +68,39 @@ fn sections_are_kept_in_a_deck(rt: HostRuntime) -> Result<(), Fail> {
         }]
         .as_slice()
     );
+    assert_eq!(rt; (deck.script.len(), deck.orders.count()), (1, 1));
+    assert_eq!(rt; deck.orders.at_step(2).at(0), 20);
+    assert_eq!(rt; deck.voted, Some(10));
     assert_eq!(rt; deck.count, 4);
+    Ok(())
+}
+
+/// A deck whose section of this word has so many lines of this text.
+fn with_lines(alloc: Global, word: &[u8], line: &[u8], count: usize) -> Result<Vec<u8>, Fail> {
+    let mut text = Vec::new(alloc);
+    text.extend_from_slice(b"IMAGE\nLVDC 1\nEND\n")?;
+    text.extend_from_slice(word)?;
+    for _line in 0..count {
+        text.extend_from_slice(line)?;
+    }
+    text.extend_from_slice(b"RUN 1\n")?;
+    Ok(text)
+}
+
+#[test]
+fn events_and_orders_have_their_limits(rt: HostRuntime) -> Result<(), Fail> {
+    let alloc = rt.alloc();
+    for (count, refused) in [
+        (65_536, None),
+        (65_537, Some(DeckFault::TooManyEvents(65_541))),
+    ] {
+        let text = with_lines(alloc, b"FAULTS\n", b"LAG 1 1 0 0\n", count)?;
+        assert_eq!(rt; deck(alloc, text.as_slice())?.err(), refused);
+    }
+    for (count, refused) in [(16, None), (17, Some(DeckFault::BadLine(21)))] {
+        let text = with_lines(alloc, b"ORDER\n", b"UTSRQPONMLKJIHGFEDCBA\n", count)?;
+        assert_eq!(rt; deck(alloc, text.as_slice())?.err(), refused);
+    }
     Ok(())
 }
 

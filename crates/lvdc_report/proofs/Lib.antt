@@ -1,3 +1,6 @@
-pub mod LogLines
-pub mod MemoryLines
+pub mod Counts
+pub mod Lines
+pub mod Noted
+pub mod Shown
 pub mod Sizes
+pub mod ToldLines

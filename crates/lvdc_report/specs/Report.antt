@@ -1,5 +1,5 @@
 -- The texts of a run. Each line ends with LF.
-use Rattle.std.specs.Prelude.{ℕ, zero, suc, Bool, true, not, ◌&&◌, ◌==◌, List, [], ◌∷◌, ◌++◌, codes, decimal, if◌then◌else◌}
+use Rattle.std.specs.Prelude.{ℕ, zero, suc, Bool, true, false, ◌==◌, List, [], ◌∷◌, ◌++◌, codes, decimal, if◌then◌else◌}
 use Rattle.lvdc_map.specs.Address.{Spot, spot_at}
 use Rattle.lvdc_map.specs.Banks.{is_there}
 use Rattle.lvdc_map.specs.Hop.{HopConstant}
@@ -7,10 +7,14 @@ use Rattle.lvdc_map.specs.Memory.{Memory, word_at}
 use Rattle.lvdc_plain.specs.Plain.{PlainState}
 use Rattle.lvdc_plain.specs.declared.records.Exchange.{Exchange}
 use Rattle.lvdc_plain.specs.declared.records.PlainEnd.{PlainEnd}
-use Rattle.lvdc_plain.specs.declared.records.PlainEnd.TheVariants.{Done, Stopped, Device}
+use Rattle.lvdc_plain.specs.declared.records.PlainEnd.TheVariants as plain
 use Rattle.lvdc_plain.specs.declared.records.Stop.{Stop}
 use Rattle.lvdc_plain.specs.declared.records.Stop.TheVariants as stops
 use Rattle.lvdc_plain.specs.declared.records.Visible.{Visible}
+use Rattle.lvdc_fault.specs.declared.verdict.Verdict.{Verdict}
+use Rattle.lvdc_fault.specs.declared.verdict.Verdict.TheVariants as verdicts
+use Rattle.lvdc_model.specs.declared.outcome.Outcome.{Outcome}
+use Rattle.lvdc_model.specs.declared.outcome.Outcome.TheVariants.{Done, Stopped, Inadmissible, Device}
 use Rattle.lvdc_text.specs.Numbers.{octal_text}
 use Rattle.lvdc_report.specs.declared.title.Title.{Title}
 use Rattle.lvdc_report.specs.declared.title.Title.TheVariants.{Run, Plain, Through}
@@ -33,11 +37,36 @@ stop_text stops.Shift = codes "SHIFT"
 stop_text stops.Exm = codes "EXM"
 stop_text (stops.Memory at) = codes "MEMORY " ++ spot_text at
 
--- the END line: steps are decimal, ports octal
-abbrev pub end_text : PlainEnd → List ℕ
+-- which step was inadmissible, and its cause: a module with two wrong copies, or an address
+abbrev pub verdict_text : Verdict → List ℕ
+verdict_text verdicts.Admissible = []
+verdict_text (verdicts.Logic step number) = decimal step ++ codes " LOGIC " ++ decimal number
+verdict_text (verdicts.Memory step at) = decimal step ++ codes " MEMORY " ++ spot_text at
+
+-- the END line: steps and modules are decimal, ports octal
+abbrev pub end_text : Outcome → List ℕ
 end_text Done = codes "END DONE\n"
 end_text (Stopped step stop) = codes "END STOPPED " ++ decimal step ++ codes " " ++ stop_text stop ++ codes "\n"
+end_text (Inadmissible verdict) = codes "END INADMISSIBLE " ++ verdict_text verdict ++ codes "\n"
 end_text (Device step port) = codes "END DEVICE " ++ decimal step ++ codes " " ++ octal_text 3 port ++ codes "\n"
+
+-- the end of the plain machine as one of the voted machine's
+abbrev pub outcome_of : PlainEnd → Outcome
+outcome_of plain.Done = Done
+outcome_of (plain.Stopped step stop) = Stopped step stop
+outcome_of (plain.Device step port) = Device step port
+
+-- ---- lines one after another
+
+-- the lines of the items of a list, in its order
+unfoldable pub lines_of : {A : Type 0} → (A → List ℕ) → List A → List ℕ
+lines_of line [] = []
+lines_of line (item ∷ items) = line item ++ lines_of line items
+
+-- the lines of the first so many numbers, from 0
+unfoldable pub lines_below : (ℕ → List ℕ) → ℕ → List ℕ
+lines_below line zero = []
+lines_below line (suc number) = lines_below line number ++ line number
 
 -- ---- the registers
 
@@ -81,28 +110,34 @@ exchange_line e =
     direction e.reading ++ decimal e.time ++ codes " " ++ octal_text 3 e.port ++ codes " " ++ octal_text 9 e.word ++ codes "\n"
 
 -- the lines of the log in its order
-unfoldable pub log_text : List Exchange → List ℕ
-log_text [] = []
-log_text (exchange ∷ log) = exchange_line exchange ++ log_text log
+abbrev pub log_text : List Exchange → List ℕ
+log_text log = lines_of exchange_line log
 
 -- ---- the words of memory
 
 abbrev pub memory_line : Spot → ℕ → List ℕ
 memory_line at word = codes "MEM " ++ spot_text at ++ codes " " ++ octal_text 9 word ++ codes "\n"
 
--- the line of an address, where its bank is there and its word isn't 0
-abbrev pub line_at : ℕ → Memory → Spot → List ℕ
-line_at banks memory at =
-    if is_there banks at && not (word_at memory at == 0) then memory_line at (word_at memory at) else []
+-- the line of an address whose word can't be told
+abbrev pub unknown_line : Spot → List ℕ
+unknown_line at = codes "MEM " ++ spot_text at ++ codes " ?\n"
 
--- the lines of the first so many addresses, in their order
-unfoldable pub lines_below : ℕ → Memory → ℕ → List ℕ
-lines_below banks memory zero = []
-lines_below banks memory (suc number) = lines_below banks memory number ++ line_at banks memory (spot_at number)
+-- the line of a word, which has none where it is 0; a word that can't be told has one always
+abbrev pub told_line : Bool → Spot → ℕ → List ℕ
+told_line true at word = if word == 0 then [] else memory_line at word
+told_line false at word = unknown_line at
 
--- the lines of all addresses
-abbrev pub memory_text : ℕ → Memory → List ℕ
-memory_text banks memory = lines_below banks memory 32768
+-- the line of an address, where its bank is there and its word has one
+abbrev pub line_at : ℕ → Memory → (Spot → Bool) → Spot → List ℕ
+line_at banks memory known at = if is_there banks at then told_line (known at) at (word_at memory at) else []
+
+-- the lines of all addresses in their order
+abbrev pub memory_text : ℕ → Memory → (Spot → Bool) → List ℕ
+memory_text banks memory known = lines_below (λ number. line_at banks memory known (spot_at number)) 32768
+
+-- every word of the plain machine is known
+abbrev pub all_known : Spot → Bool
+all_known at = true
 
 -- ---- the whole
 
@@ -112,4 +147,5 @@ visible_in p = record { place = p.place; a = p.a; pq = p.pq; saver = p.saver; ti
 -- the report of a plain state, reached with this end
 abbrev pub report_text : Title → PlainEnd → PlainState → List ℕ
 report_text title end p =
-    title_line title ++ end_text end ++ registers_text (visible_in p) ++ log_text p.log ++ memory_text p.banks p.memory
+    title_line title ++ end_text (outcome_of end) ++ registers_text (visible_in p) ++ log_text p.log
+    ++ memory_text p.banks p.memory all_known

@@ -6,7 +6,8 @@ use lvdc_plain::Visible;
 use lvdc_text::{put_decimal, put_octal};
 use lvdc_word::{NoMemory, Word};
 
-fn put_times_line(out: &mut Vec<u8>, times: u64) -> Result<(), NoMemory>
+/// Adds the line of the whole instruction times made.
+pub(crate) fn put_times_line(out: &mut Vec<u8>, times: u64) -> Result<(), NoMemory>
     ensures text { OnOk result (out.new.items ≡ out.old.items ++ times_line times) }
     ensures short { OnOk result (length out.new.items ≤ length out.old.items + 27) }
 {
@@ -59,7 +60,8 @@ fn put_dup_line(out: &mut Vec<u8>, place: Hop) -> Result<(), NoMemory>
     Ok(())
 }
 
-fn put_word_line(out: &mut Vec<u8>, name: &[u8], word: Word) -> Result<(), NoMemory>
+/// Adds the line of a register with this name.
+pub(crate) fn put_word_line(out: &mut Vec<u8>, name: &[u8], word: Word) -> Result<(), NoMemory>
     ensures { OnOk result (out.new.items ≡ out.old.items ++ word_line name.now word) }
 {
     out.extend_from_slice(name)?;

@@ -4,7 +4,7 @@ ghost use Rattle.lvdc_plain.specs.Stands.{Shows};
 ghost use Rattle.lvdc_plain.specs.View.{answer_of_end};
 ghost use Rattle.lvdc_report.specs.Report.{report_text};
 
-use crate::end::put_end;
+use crate::end::{outcome_of, put_end};
 use crate::exchanges::put_log;
 use crate::registers::put_registers;
 use crate::title::{Title, title_line};
@@ -30,7 +30,7 @@ pub fn report_titled(
 {
     let mut out = Vec::new(alloc);
     out.extend_from_slice(title_line(title))?;
-    put_end(&mut out, end)?;
+    put_end(&mut out, outcome_of(end))?;
     put_registers(&mut out, &plain.visible())?;
     put_log(&mut out, plain.log())?;
     put_memory(&mut out, plain)?;

@@ -1,8 +1,13 @@
-ghost use Rattle.std.specs.Prelude.{◌≡◌, ◌+◌, ◌*◌, ◌≤◌, ◌++◌, length, OnOk};
+ghost use Rattle.std.specs.Prelude.{◌≡◌, ℕ, ◌+◌, ◌*◌, ◌≤◌, ◌++◌, length, OnOk, true, false, List};
 ghost use Rattle.lvdc_map.specs.Memory.{Memory, IsMemory};
-ghost use Rattle.lvdc_report.specs.Report.{memory_line, line_at, memory_text};
+ghost use Rattle.lvdc_port.specs.Device.{Device};
+ghost use Rattle.lvdc_model.specs.Known.{is_known};
+ghost use Rattle.lvdc_model.specs.Trial.{Trial};
+ghost use Rattle.lvdc_machine.specs.Stands.{Stands, state_by};
+ghost use Rattle.lvdc_report.specs.Report.{memory_line, unknown_line, told_line, line_at, memory_text, all_known};
 
 use crate::end::put_address;
+use lvdc_machine::{Machine, Shown};
 use lvdc_map::Address;
 use lvdc_plain::Plain;
 use lvdc_text::put_octal;
@@ -21,16 +26,22 @@ fn put_memory_line(out: &mut Vec<u8>, at: Address, word: Word) -> Result<(), NoM
     Ok(())
 }
 
-/// Adds the line of an address, where its bank is there and its word isn't 0.
-fn put_line_at(out: &mut Vec<u8>, plain: &Plain, at: Address) -> Result<(), NoMemory>
-    ensures line { OnOk result ((m : Memory) → IsMemory plain.now.words m →
-        out.new.items ≡ out.old.items ++ line_at plain.now.banks m at) }
+/// Adds the line of a word that can't be told.
+fn put_unknown_line(out: &mut Vec<u8>, at: Address) -> Result<(), NoMemory>
+    ensures line { OnOk result (out.new.items ≡ out.old.items ++ unknown_line at) }
     ensures short { OnOk result (length out.new.items ≤ length out.old.items + 23) }
 {
-    if !plain.banks().has(at) {
-        return Ok(());
-    }
-    let word = plain.word(at);
+    out.extend_from_slice(b"MEM ")?;
+    put_address(out, at)?;
+    out.extend_from_slice(b" ?\n")?;
+    Ok(())
+}
+
+/// Adds the line of a word that can be told, unless it is 0.
+fn put_known_line(out: &mut Vec<u8>, at: Address, word: Word) -> Result<(), NoMemory>
+    ensures line { OnOk result (out.new.items ≡ out.old.items ++ told_line true at word) }
+    ensures short { OnOk result (length out.new.items ≤ length out.old.items + 23) }
+{
     if word.value() == 0 {
         return Ok(());
     }
@@ -38,14 +49,58 @@ fn put_line_at(out: &mut Vec<u8>, plain: &Plain, at: Address) -> Result<(), NoMe
     Ok(())
 }
 
-/// Adds the lines of the words of memory, by rising address.
+/// Adds the line of an address of the plain machine, where its bank is there and its word isn't 0.
+fn put_line_at(out: &mut Vec<u8>, plain: &Plain, at: Address) -> Result<(), NoMemory>
+    ensures line { OnOk result ((m : Memory) → IsMemory plain.now.words m →
+        out.new.items ≡ out.old.items ++ line_at plain.now.banks m all_known at) }
+    ensures short { OnOk result (length out.new.items ≤ length out.old.items + 23) }
+{
+    if !plain.banks().has(at) {
+        return Ok(());
+    }
+    put_known_line(out, at, plain.word(at))?;
+    Ok(())
+}
+
+/// Adds the lines of the words of the plain machine's memory, by rising address.
 pub(crate) fn put_memory(out: &mut Vec<u8>, plain: &Plain) -> Result<(), NoMemory>
     ensures lines { OnOk result ((m : Memory) → IsMemory plain.now.words m →
-        out.new.items ≡ out.old.items ++ memory_text plain.now.banks m) }
+        out.new.items ≡ out.old.items ++ memory_text plain.now.banks m all_known) }
     ensures short { OnOk result (length out.new.items ≤ length out.old.items + 23 * 32768) }
 {
     for number in 0..Address::COUNT {
         put_line_at(out, plain, Address::numbered(number))?;
+    }
+    Ok(())
+}
+
+/// Adds the line of an address of the voted machine, where its bank is there: its word, unless it is 0, or that it can't be
+/// told.
+fn put_shown_line(out: &mut Vec<u8>, machine: &Machine, at: Address) -> Result<(), NoMemory>
+    ensures line { OnOk result ((o : Trial) (t : ℕ) (ds : List Device) → Stands o t machine.now ds → out.new.items ≡ out.old.items
+        ++ line_at machine.now.banks (state_by machine.now.end machine.now.mode o t).intended
+        (λ spot. is_known o (state_by machine.now.end machine.now.mode o t) spot) at) }
+    ensures short { OnOk result (length out.new.items ≤ length out.old.items + 23) }
+{
+    if !machine.banks().has(at) {
+        return Ok(());
+    }
+    match machine.shown(at) {
+        Shown::Known(word) => put_known_line(out, at, word)?,
+        Shown::Unknown => put_unknown_line(out, at)?,
+    }
+    Ok(())
+}
+
+/// Adds the lines of the words of the voted machine's memory, by rising address.
+pub(crate) fn put_shown_memory(out: &mut Vec<u8>, machine: &Machine) -> Result<(), NoMemory>
+    ensures lines { OnOk result ((o : Trial) (t : ℕ) (ds : List Device) → Stands o t machine.now ds → out.new.items ≡ out.old.items
+        ++ memory_text machine.now.banks (state_by machine.now.end machine.now.mode o t).intended
+        (λ spot. is_known o (state_by machine.now.end machine.now.mode o t) spot)) }
+    ensures short { OnOk result (length out.new.items ≤ length out.old.items + 23 * 32768) }
+{
+    for number in 0..Address::COUNT {
+        put_shown_line(out, machine, Address::numbered(number))?;
     }
     Ok(())
 }

@@ -1,4 +1,4 @@
-use Rattle.std.proofs.Common.{◌+◌, ◌≤◌, length, codes, arith}
+use Rattle.std.proofs.Common.{codes, arith}
 use Rattle.lvdc_report.specs.Report.{place_line, data_line, dup_line, word_line}
 use Rattle.lvdc_report.proofs.Sizes.{grown_by, length-place_line, length-data_line, length-dup_line, length-word_line}
 use Rattle.lvdc_report.proofs.registers.put_registers.Goals as goal

@@ -1,0 +1,15 @@
+use Rattle.std.proofs.Common.{ℕ, ap, length, arith, length-append}
+use Rattle.lvdc_report.proofs.Sizes.{decimal_short}
+use Rattle.lvdc_report.proofs.soak.put_number_line.Goals as goal
+
+pub returns-clause-short : goal.returns-clause-short
+returns-clause-short c =
+    omega (
+      arith,
+      length-append {A = ℕ},
+      decimal_short c.args.number (omega arith),
+      ap length c.in_ok-extend_from_slice.ensures.items,
+      ap length c.in_ok-extend_from_slice-2.ensures.items,
+      ap length c.in_ok-put_decimal.ensures.ok,
+      ap length c.in_ok-extend_from_slice-3.ensures.items,
+    )

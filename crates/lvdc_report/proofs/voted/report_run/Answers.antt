@@ -1,0 +1,68 @@
+use Rattle.std.proofs.Common.{◌^◌, ◌++◌, ap, ◌∙◌, length, [], arith, length-append}
+use Rattle.lvdc_plain.specs.declared.records.Visible.{Visible}
+use Rattle.lvdc_model.specs.Known.{is_known}
+use Rattle.lvdc_machine.specs.Stands.{state_by}
+use Rattle.lvdc_machine.specs.View.{answer_of_end, visible_of}
+use Rattle.lvdc_report.specs.Report.{title_line, end_text, registers_text, log_text, memory_text}
+use Rattle.lvdc_report.specs.Voted.{title_of, wrong_text, repairs_text}
+use Rattle.lvdc_report.proofs.Lines.{onward}
+use Rattle.lvdc_report.proofs.Noted.{state_by_noted, below_more}
+use Rattle.lvdc_report.proofs.Shown.{voted_text_shown}
+use Rattle.lvdc_report.proofs.Sizes.{length-title_line}
+use Rattle.lvdc_report.proofs.voted.report_run.Goals as goal
+
+pub returns-clause-text : goal.returns-clause-text
+returns-clause-text c = λ o t ds s.
+    let m = c.args.machine.now in
+    let v = state_by m.end m.mode o t in
+    let title = title_line (title_of c.args.mode) in
+    let end = title ++ end_text (answer_of_end m.end) in
+    let registers = end ++ registers_text (visible_of m) in
+    let log = registers ++ log_text m.log in
+    let memory = log ++ memory_text m.banks v.intended (λ at. is_known o v at) in
+    let wrong = memory ++ wrong_text m.counts in
+    onward [] wrong (repairs_text m.repairs) _ _
+    (onward [] memory (wrong_text m.counts) _ _
+    (onward [] log (memory_text m.banks v.intended (λ at. is_known o v at)) _ _
+    (onward [] registers (log_text m.log) _ _
+    (onward [] end (registers_text (visible_of m)) _ _
+    (onward [] title (end_text (answer_of_end m.end)) _ _
+    (c.in_ok-extend_from_slice.ensures.items ∙ ap (λ t. t ++ c.title_line.result.now) c.new-out.ensures.items
+    ∙ c.title_line.ensures ∙ ap title_line c.title_of.ensures)
+    (c.in_ok-put_end.ensures.text ∙ ap (λ e. c.extend_from_slice.new.self.items ++ end_text e) c.requires.end))
+    (c.in_ok-put_registers.ensures.text ∙ ap (λ r. c.put_end.new.out.items ++ registers_text r) c.visible.ensures.registers))
+    (c.in_ok-put_log.ensures.log ∙ ap (λ l. c.put_registers.new.out.items ++ log_text l) c.log.ensures.log))
+    (c.in_ok-put_shown_memory.ensures.lines o t ds s))
+    c.in_ok-put_wrong.ensures.lines)
+    (c.in_ok-put_repairs.ensures.lines ∙ ap (λ r. c.put_wrong.new.out.items ++ repairs_text r) c.repairs.ensures.repairs)
+    ∙ voted_text_shown (title_of c.args.mode) o m ds v s.shows
+
+pub returns-clause-size : goal.returns-clause-size
+returns-clause-size c = λ o t ds s.
+    let m = c.args.machine.now in
+    let v = state_by m.end m.mode o t in
+    let noted = state_by_noted m.end m.mode o t in
+    let times = ap (λ (r : Visible). r.times) c.visible.ensures.registers in
+    let early = below_more v.steps (10 ^ 7) v.repairs (omega (arith, times, c.visible.ensures.few, s.shows.steps)) noted.dated in
+    omega (
+      arith,
+      times,
+      c.visible.ensures.few,
+      s.shows.steps,
+      noted.few,
+      ap length s.shows.log,
+      ap length s.shows.repairs,
+      ap length c.log.ensures.log,
+      ap length c.repairs.ensures.repairs,
+      ap length c.new-out.ensures.items,
+      ap length c.in_ok-extend_from_slice.ensures.items,
+      length-append c.new-out.result.items c.title_line.result.now,
+      ap length c.title_line.ensures,
+      length-title_line c.title_of.result,
+      c.in_ok-put_end.ensures.short,
+      c.in_ok-put_registers.ensures.short,
+      c.in_ok-put_log.ensures.short,
+      c.in_ok-put_shown_memory.ensures.short,
+      c.in_ok-put_wrong.ensures.short,
+      c.in_ok-put_repairs.ensures.short (rw (c.repairs.ensures.repairs, s.shows.repairs) early),
+    )

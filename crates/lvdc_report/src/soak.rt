@@ -1,0 +1,73 @@
+//! The text of a soak run.
+
+ghost use Rattle.std.specs.Prelude.{◌≡◌, ◌+◌, ◌*◌, ◌≤◌, ◌++◌, ℕ, List, length, OnOk, IfOk};
+ghost use Rattle.lvdc_port.specs.Device.{Device};
+ghost use Rattle.lvdc_model.specs.Trial.{Trial};
+ghost use Rattle.lvdc_machine.specs.Stands.{Stands, state_by};
+ghost use Rattle.lvdc_machine.specs.View.{answer_of_end};
+ghost use Rattle.lvdc_report.specs.Voted.{three_counts, all_counts, number_line, soak_text};
+
+use crate::end::put_end;
+use crate::registers::{put_times_line, put_word_line};
+use crate::report::LONGEST_REPORT;
+use lvdc_machine::{Machine, Outcome};
+use lvdc_text::put_decimal;
+use lvdc_word::NoMemory;
+use std::alloc::Global;
+
+/// In how many steps the three copies of a module, 1 to 7, differed from the vote, together.
+fn three_counts(machine: &Machine, number: u8) -> u64
+    requires first { 1 ≤ number }
+    requires last { number ≤ 7 }
+    ensures sum { result ≡ three_counts machine.now.counts number }
+    ensures few { result ≤ 9 * Machine.LIMIT }
+{
+    machine.differed(number, 1) + machine.differed(number, 2) + machine.differed(number, 3)
+}
+
+/// The same of all 21 copies.
+fn all_counts(machine: &Machine) -> u64
+    ensures { result ≡ all_counts machine.now.counts }
+{
+    let mut sum = 0;
+    for before in 0..7 {
+        sum += three_counts(machine, before + 1);
+    }
+    sum
+}
+
+/// Adds a line of a name and a decimal number.
+fn put_number_line(out: &mut Vec<u8>, name: &[u8], number: u64) -> Result<(), NoMemory>
+    ensures line { OnOk result (out.new.items ≡ out.old.items ++ number_line name.now number) }
+    ensures short { OnOk result (length out.new.items ≤ length out.old.items + length name.now + 22) }
+{
+    out.extend_from_slice(name)?;
+    out.extend_from_slice(b" ")?;
+    put_decimal(out, number)?;
+    out.extend_from_slice(b"\n")?;
+    Ok(())
+}
+
+/// The text of the soak run of this number, made by this machine. The end is the one that the machine keeps, or `Done` where
+/// it keeps none.
+pub fn report_soak(
+    alloc: Global,
+    machine: &Machine,
+    number: u32,
+    end: Outcome,
+) -> Result<Vec<u8>, NoMemory>
+    requires { end ≡ answer_of_end machine.now.end }
+    ensures text { IfOk result (λ text. (o : Trial) (t : ℕ) (ds : List Device) → Stands o t machine.now ds
+        → text.items ≡ soak_text number (state_by machine.now.end machine.now.mode o t)) }
+    ensures size { IfOk result (λ text. length text.items ≤ LONGEST_REPORT) }
+{
+    let visible = machine.visible();
+    let mut out = Vec::new(alloc);
+    put_number_line(&mut out, b"LVDC SOAK", u64::from(number))?;
+    put_end(&mut out, end)?;
+    put_times_line(&mut out, visible.times)?;
+    put_word_line(&mut out, b"A", visible.a)?;
+    put_number_line(&mut out, b"WRONG", all_counts(machine))?;
+    put_number_line(&mut out, b"REPAIRS", machine.repairs().len() as u64)?;
+    Ok(out)
+}
