@@ -1,6 +1,0 @@
-use Rattle.std.proofs.Common.{arith}
-use Rattle.std.proofs.lemmas.Grind.{common_steps}
-use Rattle.lvdc_plain.proofs.plain.unplug_all.Goals as goal
-
-pub returns : goal.returns
-returns g c = record { is = grind (arith, common_steps) }
