@@ -2,5 +2,6 @@ pub mod Actives
 mod FaultRows
 pub mod Lowest
 pub mod Moves
+pub mod Placing
 pub mod Rising
 pub mod Starts

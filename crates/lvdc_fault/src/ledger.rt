@@ -2,7 +2,7 @@ ghost use Rattle.std.specs.Prelude.{◌≡◌, ◌<◌, true, IfOk, slice_set};
 ghost use Rattle.lvdc_map.specs.Address.{number_of};
 ghost use Rattle.lvdc_map.specs.Banks.{is_there};
 ghost use Rattle.lvdc_map.specs.Memory.{Memory, AllThere, IsMemory, word_at, stored, memory_of};
-ghost use Rattle.lvdc_fault.specs.Ledger.{intended_at};
+ghost use Rattle.lvdc_fault.specs.Ledger.{intended_at, ArePlaced};
 ghost use Rattle.lvdc_fault.specs.Recoverable.{recovers_by, is_recovered, shown_by};
 ghost use Rattle.lvdc_twin.specs.Store.{survives};
 
@@ -25,6 +25,10 @@ impl Model for Ledger {
     ghost Value = { Intended };
 
     ghost view = { λ l. record { banks = l.banks; words = l.words } };
+
+    ghost use Rattle.lvdc_fault.specs.Ledger.{NoneElsewhere};
+
+    ghost invariant = { λ l. NoneElsewhere l.banks l.words };
 }
 
 impl Ledger {
@@ -55,6 +59,21 @@ impl Ledger {
         ensures words { (m : Memory) → IsMemory self.now.words m → result ≡ word_at m at }
     {
         self.words.word(at)
+    }
+
+    /// The intended words other than 0, rising by address.
+    pub fn placed(&self, alloc: Global) -> Result<Vec<Placed>, NoMemory>
+        ensures { IfOk result (λ placed. ArePlaced self.now placed.items) }
+    {
+        let mut placed = Vec::new(alloc);
+        for number in 0..Address::COUNT {
+            let at = Address::numbered(number);
+            let word = self.words.word(at);
+            if word != Word::ZERO {
+                placed.push(Placed { at, word })?;
+            }
+        }
+        Ok(placed)
     }
 
     /// Can the intended word be recovered from what twin 0 and twin 1 show? In a duplex pair a twin shows its cell, and each

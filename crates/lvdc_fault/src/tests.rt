@@ -161,3 +161,22 @@ fn a_word_is_recovered_from_the_twins_that_hold_it(rt: HostRuntime) -> Result<()
     assert!(rt; !ledger.recoverable(HERE, bad, code));
     Ok(())
 }
+
+#[test]
+fn words_other_than_zero_are_listed_by_address(rt: HostRuntime) -> Result<(), Fail> {
+    let first = Placed {
+        at: HERE,
+        word: Word::within(5),
+    };
+    let last = Placed {
+        at: Address { pair: 3, ..HERE },
+        word: Word::within(6),
+    };
+    let mut ledger = Ledger::new(rt.alloc(), &[last, first], Banks::DUPLEX)?;
+    ledger.wrote(Address { pair: 2, ..HERE }, Word::ZERO);
+    let placed = ledger.placed(rt.alloc())?;
+    assert_eq!(rt; placed.len(), 2);
+    assert_eq!(rt; (placed[0].at.pair, placed[0].word), (0, Word::within(5)));
+    assert_eq!(rt; (placed[1].at.pair, placed[1].word), (3, Word::within(6)));
+    Ok(())
+}

@@ -1,4 +1,5 @@
 pub mod ActiveEvents
 pub mod Differing
+pub mod Listed
 pub mod Numbers
 pub mod Commits

@@ -1,3 +1,4 @@
 pub mod Counts
 pub mod Latching
+pub mod Listing
 pub mod Logic

@@ -4,6 +4,7 @@
 
 mod counts;
 mod hits;
+mod listing;
 mod logic;
 mod triples;
 

@@ -23,9 +23,9 @@ use std::marker::Model;
 /// the lists of both, and the room for what is wrong with one copy.
 #[derive(Drop)]
 pub struct Logic {
-    triples: Triples,
-    counts: Counts,
-    hurts: SmallVec<Hurt, 8>,
+    pub(crate) triples: Triples,
+    pub(crate) counts: Counts,
+    pub(crate) hurts: SmallVec<Hurt, 8>,
 }
 
 impl Model for Logic {

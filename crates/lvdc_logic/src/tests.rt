@@ -186,3 +186,19 @@ fn the_order_leaves_no_trace(rt: HostRuntime) -> Result<(), Fail> {
     }
     Ok(())
 }
+
+#[test]
+fn a_logic_is_made_again_of_its_latches(rt: HostRuntime) -> Result<(), Fail> {
+    let logic = run(rt.alloc(), &lag_and_force(), &Order::default(), 3)?;
+    let latches = logic.latches(rt.alloc())?;
+    let counts = logic.counts(rt.alloc())?;
+    assert_eq!(rt; latches[20].value(), 1);
+    assert_eq!(rt; counts[13], 1);
+    let again = Logic::from_latches(rt.alloc(), &latches, &counts, 4)?;
+    for number in 1..=7u8 {
+        assert_eq!(rt; shown(&again, number), shown(&logic, number));
+    }
+    assert_eq!(rt; again.copy_word(5, 3, 0), logic.copy_word(5, 3, 0));
+    assert_eq!(rt; again.latches(rt.alloc())?.as_slice(), latches.as_slice());
+    Ok(())
+}

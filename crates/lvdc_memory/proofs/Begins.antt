@@ -158,16 +158,22 @@ damages-active step (e ∷ es) t = damages-step step (is_active step e) e es (ac
 pub carries-none : (step : ℕ) (script : List Event) (s : Store) (t : Twins) → Carries None script s t → Carries (Some step) [] s t
 carries-none step script s t h = record { cells = h.cells; selected = h.selected; stuck = h.stuck; dead = h.dead }
 
+-- what the active events put in force, the script does
+pub forced-all : (step : ℕ) (script es : List Event) (s : Store) (t : Twins)
+    → ((twin : ℕ) (place : Spot) (bits : Stuck) → stuck_after step twin place es bits ≡ stuck_after step twin place script bits)
+    → ((twin pair : ℕ) → is_dead es step twin pair ≡ is_dead script step twin pair)
+    → Carries (Some step) es s t → Carries (Some step) script s t
+forced-all step script es s t bits twins h = record {
+  cells = h.cells;
+  selected = h.selected;
+  stuck = λ twin two place here. h.stuck twin two place here ∙ bits twin place nothing;
+  dead = λ twin two pair small. h.dead twin two pair small ∙ twins twin pair;
+}
+
 -- what the active events do, the script does
 pub carries-all : (step : ℕ) (script es : List Event) (s : Store) (t : Twins)
     → ((twin : ℕ) (place : Spot) (bits : Stuck) → stuck_after step twin place es bits ≡ stuck_after step twin place script bits)
     → ((twin pair : ℕ) → is_dead es step twin pair ≡ is_dead script step twin pair)
     → damages step es t ≡ damages step script t → Carries (Some step) es s (damages step es t) → Carries (Some step) script s (damages step script t)
 carries-all step script es s t bits twins same h =
-    subst (Carries (Some step) script s) same
-    (record {
-      cells = h.cells;
-      selected = h.selected;
-      stuck = λ twin two place here. h.stuck twin two place here ∙ bits twin place nothing;
-      dead = λ twin two pair small. h.dead twin two pair small ∙ twins twin pair;
-    })
+    subst (Carries (Some step) script s) same (forced-all step script es s (damages step es t) bits twins h)

@@ -1,8 +1,11 @@
 -- When the memory that the code keeps is the memory of a trial's voted machine.
 use Rattle.std.specs.Prelude.{◌≡◌, ℕ, ◌<◌, List}
 use Rattle.std.specs.declared.option.Option.{Option}
-use Rattle.lvdc_map.specs.Address.{Spot}
-use Rattle.lvdc_map.specs.Memory.{Memory, word_at, IsMemory}
+use Rattle.lvdc_map.specs.Address.{Spot, IsAddress}
+use Rattle.lvdc_map.specs.Memory.{Memory, word_at, memory_of, IsMemory}
+use Rattle.lvdc_map.specs.declared.placed.Placed.{Placed}
+use Rattle.lvdc_twin.specs.Cells.{cells_of}
+use Rattle.lvdc_twin.specs.declared.held.Held.{Held}
 use Rattle.lvdc_twin.specs.Store.{Store, IsPlace, stored_in, stuck_in, is_dead}
 use Rattle.lvdc_fault.specs.Ledger.{Intended}
 use Rattle.lvdc_fault.specs.declared.event.Event.{Event}
@@ -27,3 +30,11 @@ pub record Holds (o : Trial) (in_force : Option ℕ) (m : Kept) (t : Twins) (int
   pub banks : m.twins.banks ≡ o.opening.banks
   pub twins : Carries in_force o.script m.twins t
   pub words : IsMemory m.ledger.words intended
+
+-- the twins store the cells that a list means
+abbrev pub StoreCells : List Held → Twins → Type 0
+StoreCells held t = (twin : ℕ) → twin < 2 → (place : Spot) → IsPlace place → word_at (t.cells twin) place ≡ word_at (cells_of held twin) place
+
+-- the words of a list are intended, and 0 at every other address
+abbrev pub AreIntended : List Placed → Memory → Type 0
+AreIntended words intended = (at : Spot) → IsAddress at → word_at intended at ≡ word_at (memory_of words) at

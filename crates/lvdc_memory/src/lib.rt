@@ -2,6 +2,7 @@
 #![tactic(auto)]
 
 mod memory;
+mod resume;
 
 pub use memory::VotedMemory;
 

@@ -1,6 +1,6 @@
 //! The memory of the voted machine.
 
-ghost use Rattle.std.specs.Prelude.{◌≡◌, ℕ, ◌<◌, true, All, List, [], ◌∷◌, ◌++◌, length, Option, None, Some, IfOk, OnErr};
+ghost use Rattle.std.specs.Prelude.{◌≡◌, ℕ, ◌<◌, true, All, List, [], ◌∷◌, ◌++◌, length, Option, None, Some, IfOk, IfSome, OnErr};
 ghost use Rattle.lvdc_map.specs.Banks.{is_there};
 ghost use Rattle.lvdc_map.specs.Memory.{Memory, word_at, stored, memory_of, AllThere};
 ghost use Rattle.lvdc_twin.specs.Store.{IsStore, IsPlace, stuck_in, with_stuck_bits};
@@ -26,8 +26,8 @@ use std::marker::Model;
 /// stays so until it is released.
 #[derive(Drop)]
 pub struct VotedMemory {
-    twins: Twins,
-    ledger: Ledger,
+    pub(crate) twins: Twins,
+    pub(crate) ledger: Ledger,
 }
 
 impl Model for VotedMemory {
@@ -103,6 +103,7 @@ impl VotedMemory {
         ensures answer { (o : Trial) (step : ℕ) (t : model.Twins) (i : Memory) → Holds o (Some step) self.old t i → result ≡ read_answer o step t at }
         ensures after { IfOk result (λ r. (o : Trial) (step : ℕ) (t : model.Twins) (i : Memory) → Holds o (Some step) self.old t i
             → Holds o (Some step) self.new (after_read o step t at r) i) }
+        ensures repaired { IfOk result (λ r. IfSome r.repaired (λ twin. twin < 2)) }
         ensures unchanged { OnErr result (self.new ≡ self.old) }
         ensures banks { self.new.twins.banks ≡ self.old.twins.banks }
     {
@@ -156,7 +157,7 @@ impl VotedMemory {
     }
 
     /// Sticks these bits beside those that are stuck there. Where they meet, these count.
-    fn stick(&mut self, twin: u8, at: Address, mask: Cell, value: Cell)
+    pub(crate) fn stick(&mut self, twin: u8, at: Address, mask: Cell, value: Cell)
         requires twin { twin < 2 }
         requires pair { at.pair < 4 }
         ensures twins { self.new ≡ record self.old { twins = with_stuck_bits self.old.twins twin at (stuck_beside (stuck_in self.old.twins twin at) mask value) } }

@@ -164,3 +164,36 @@ fn a_bank_of_a_simplex_pair_stands_alone(rt: HostRuntime) -> Result<(), Fail> {
     assert!(rt; memory.recoverable(other));
     Ok(())
 }
+
+#[test]
+fn a_memory_goes_on_from_its_cells_and_words(rt: HostRuntime) -> Result<(), Fail> {
+    let mut memory = five(&rt, HERE, Banks::DUPLEX)?;
+    let dead = Event::Dead {
+        twin: 0,
+        pair: 1,
+        first: 3,
+        last: 4,
+    };
+    let damage = Event::Damage {
+        twin: 1,
+        at: HERE,
+        step: 3,
+        mask: Cell::within(1),
+    };
+    let script = two(&rt, dead, damage)?;
+    let mut active = Active::for_script(rt.alloc(), &script)?;
+    let held = memory.held(rt.alloc())?;
+    let words = memory.placed(rt.alloc())?;
+    let mut again = VotedMemory::from_cells(rt.alloc(), &held, &[0; 4], &words, Banks::DUPLEX)?;
+    script.active(3, &mut active);
+    again.put_in_force(&script, &active, 3);
+    assert_eq!(rt; again.read(HERE), found(Some(0), true));
+    assert_eq!(rt;
+        again.selected(rt.alloc())?.as_slice(),
+        [0, 1, 0, 0].as_slice()
+    );
+    assert_eq!(rt; again.intended(HERE).value(), 5);
+    memory.begin(&script, &active, 3);
+    assert_eq!(rt; memory.read(HERE), Err(BothBad));
+    Ok(())
+}

@@ -1,3 +1,4 @@
+pub mod Holding
 pub mod Loading
 pub mod Mending
 pub mod Places

@@ -12,7 +12,7 @@ use Rattle.lvdc_twin.specs.Calls.{Begins, after_write, with_held}
 use Rattle.lvdc_twin.proofs.Writes.{and_false, kept-with_held, stored-after_write}
 
 -- one word more
-loaded-push : (image : List Placed) (p : Placed) (memory : Memory) → loaded (image ++ p ∷ []) memory ≡ stored (loaded image memory) p.at p.word
+pub loaded-push : (image : List Placed) (p : Placed) (memory : Memory) → loaded (image ++ p ∷ []) memory ≡ stored (loaded image memory) p.at p.word
 loaded-push [] p memory = refl
 loaded-push (q ∷ image) p memory = loaded-push image p (stored memory q.at q.word)
 

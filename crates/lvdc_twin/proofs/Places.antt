@@ -45,13 +45,13 @@ entry_set xs i j x d true there other small = ap (λ (n : ℕ). get_or (set xs i
 entry_set xs i j x d false there other small = get_or-set_other xs i j x d (other refl)
 
 -- the slot of a place, and of no other place
-slot_of_place : (w twin : ℕ) (a b : Spot) → (w == twin && is_same a b) ≡ true → slot_of w a ≡ slot_of twin b
+pub slot_of_place : (w twin : ℕ) (a b : Spot) → (w == twin && is_same a b) ≡ true → slot_of w a ≡ slot_of twin b
 slot_of_place w twin a b e =
     let parts = and_parts (w == twin) (is_same a b) e in
     ap (λ (n : ℕ). slot_of n a) (eqb-true w twin parts.0) ∙ ap (slot_of twin) (same-spot a b parts.1)
 
 -- an entry of a table by twin and place once one is set
-slot_set : {X : Type 0} (xs : List X) (w twin : ℕ) (a b : Spot) (x d : X) → w < 2 → twin < 2 → IsPlace a → IsPlace b → length xs ≡ 32768
+pub slot_set : {X : Type 0} (xs : List X) (w twin : ℕ) (a b : Spot) (x d : X) → w < 2 → twin < 2 → IsPlace a → IsPlace b → length xs ≡ 32768
     → get_or (set xs (slot_of twin b) x) (slot_of w a) d ≡ cond (w == twin && is_same a b) x (get_or xs (slot_of w a) d)
 slot_set xs w twin a b x d hw ht ha hb e =
     entry_set xs (slot_of twin b) (slot_of w a) x d (w == twin && is_same a b) (slot_of_place w twin a b)

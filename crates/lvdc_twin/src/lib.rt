@@ -3,11 +3,13 @@
 #![tactic(auto)]
 
 mod both_bad;
+mod held;
 mod read_out;
 mod stuck;
 mod twins;
 
 pub use both_bad::BothBad;
+pub use held::Held;
 pub use read_out::ReadOut;
 pub use stuck::Stuck;
 pub use twins::{Twins, changes_are_local, home, survivor_is_read};

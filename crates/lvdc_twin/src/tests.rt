@@ -80,3 +80,23 @@ fn one_twin_holds_a_bank_of_a_simplex_pair(rt: HostRuntime) -> Result<(), Fail> 
     assert_eq!(rt; twins.read(other), found(None, false));
     Ok(())
 }
+
+#[test]
+fn a_memory_is_made_again_of_its_cells(rt: HostRuntime) -> Result<(), Fail> {
+    let mut twins = one_word(&rt, Banks::DUPLEX)?;
+    twins.damage(1, HERE, Cell::within(1));
+    let held = twins.held(rt.alloc())?;
+    assert_eq!(rt; held.len(), 2);
+    assert_eq!(rt; held[0].cell, Cell::encode(Word::within(0o17)));
+    assert_eq!(rt; (held[1].twin, held[1].at), (1, HERE));
+    assert_eq!(rt; held[1].cell, twins.stored(1, HERE));
+    let mut again = Twins::from_cells(rt.alloc(), &held, &[0, 1, 0, 1], Banks::DUPLEX)?;
+    assert_eq!(rt; again.stored(1, HERE), twins.stored(1, HERE));
+    assert_eq!(rt; again.all_selected(), [0, 1, 0, 1]);
+    assert_eq!(rt;
+        again.view(0, Address { pair: 2, ..HERE }).decode(),
+        Some(Word::ZERO)
+    );
+    assert_eq!(rt; again.read(HERE), found(Some(1), true));
+    Ok(())
+}

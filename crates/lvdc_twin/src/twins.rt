@@ -12,17 +12,17 @@ use std::alloc::Global;
 use std::marker::Model;
 
 /// How many places a twin has: four modules of 4,096 words.
-const PLACES: usize = 16384;
+pub(crate) const PLACES: usize = 16384;
 
 /// The memory modules of four pairs, each with its twin. Every cell has parity (the published duplex memory; its rules of
 /// repair are this project's profile).
 #[derive(Drop)]
 pub struct Twins {
-    banks: Banks,
-    cells: Vec<Cell>,
-    stuck: Vec<Stuck>,
-    dead: [bool; 8],
-    selected: [u8; 4],
+    pub(crate) banks: Banks,
+    pub(crate) cells: Vec<Cell>,
+    pub(crate) stuck: Vec<Stuck>,
+    pub(crate) dead: [bool; 8],
+    pub(crate) selected: [u8; 4],
 }
 
 impl Model for Twins {
@@ -256,7 +256,7 @@ impl Twins {
 }
 
 /// A cell of 0 for each place of both twins.
-fn zeros(alloc: Global) -> Result<Vec<Cell>, NoMemory>
+pub(crate) fn zeros(alloc: Global) -> Result<Vec<Cell>, NoMemory>
     ensures length { IfOk result (λ v. length v.items ≡ 32768) }
     ensures zero { IfOk result (λ v. (slot : ℕ) → slot < 32768 → slice_index v.items slot ≡ code_of 0) }
 {
@@ -266,7 +266,7 @@ fn zeros(alloc: Global) -> Result<Vec<Cell>, NoMemory>
 }
 
 /// Nothing stuck at each place of both twins.
-fn nothing_stuck(alloc: Global) -> Result<Vec<Stuck>, NoMemory>
+pub(crate) fn nothing_stuck(alloc: Global) -> Result<Vec<Stuck>, NoMemory>
     ensures length { IfOk result (λ v. length v.items ≡ 32768) }
     ensures nothing { IfOk result (λ v. (slot : ℕ) → slice_index_or v.items slot nothing ≡ nothing) }
 {
@@ -332,7 +332,7 @@ pub fn changes_are_local()
 {}
 
 /// Where a physical place of a twin stands in a table.
-fn slot(twin: u8, place: Address) -> usize
+pub(crate) fn slot(twin: u8, place: Address) -> usize
     requires twin { twin < 2 }
     requires pair { place.pair < 4 }
     ensures value { result ≡ slot_of twin place }

@@ -1,0 +1,117 @@
+//! A memory that was saved: made again from its cells and intended words, and what it has of them.
+
+ghost use Rattle.std.specs.Prelude.{◌≡◌, ℕ, ◌<◌, true, All, List, [], ◌∷◌, ◌++◌, length, Option, None, Some, IfOk};
+ghost use Rattle.lvdc_map.specs.Memory.{Memory, AllThere};
+ghost use Rattle.lvdc_twin.specs.Cells.{NamesPlace, AreHeld};
+ghost use Rattle.lvdc_fault.specs.Ledger.{ArePlaced};
+ghost use Rattle.lvdc_fault.specs.declared.event.Event.{Event};
+ghost use Rattle.lvdc_fault.specs.Script.{is_active, active_at};
+ghost use Rattle.lvdc_model.specs.Trial.{Trial};
+ghost use Rattle.lvdc_model.specs.Twins as model;
+ghost use Rattle.lvdc_memory.specs.Faults.{NamesMemory};
+ghost use Rattle.lvdc_memory.specs.Holds.{Carries, Holds, StoreCells, AreIntended};
+
+use crate::VotedMemory;
+use lvdc_fault::{Active, Event, Ledger, Script, active_suffice};
+use lvdc_map::{Banks, Placed, same_address};
+use lvdc_twin::{Held, Twins, changes_are_local};
+use lvdc_word::NoMemory;
+use std::alloc::Global;
+
+impl VotedMemory {
+    /// The memory with these cells and these intended words, and those of the word 0 at all other places, in which these twins
+    /// are selected. Nothing is in force.
+    pub fn from_cells(
+        alloc: Global,
+        held: &[Held],
+        selected: &[u8],
+        words: &[Placed],
+        banks: Banks,
+    ) -> Result<VotedMemory, NoMemory>
+        requires places { All NamesPlace held.now }
+        requires pairs { length selected.now ≡ 4 }
+        requires twins { All (λ twin. twin < 2) selected.now }
+        requires there { AllThere banks words.now }
+        ensures holds { IfOk result (λ m. (o : Trial) (t : model.Twins) (i : Memory) → o.opening.banks ≡ banks → StoreCells held.now t
+            → t.selected ≡ selected.now → AreIntended words.now i → Holds o None m t i) }
+        ensures banks { IfOk result (λ m. m.twins.banks ≡ banks) }
+    {
+        Ok(VotedMemory {
+            twins: Twins::from_cells(alloc, held, selected, banks)?,
+            ledger: Ledger::new(alloc, words, banks)?,
+        })
+    }
+
+    /// Puts in force what a step of the script sticks and kills, by the events active at it. Nothing is damaged. What was in
+    /// force before must have been released.
+    pub fn put_in_force(&mut self, script: &Script, active: &Active, step: u64)
+        requires names { All NamesMemory script.now }
+        requires active { active.now.held ≡ active_at script.now step }
+        ensures forced { (o : Trial) (t : model.Twins) (i : Memory) → o.script ≡ script.now
+            → Holds o None self.old t i → Holds o (Some step) self.new t i }
+        ensures banks { self.new.twins.banks ≡ self.old.twins.banks }
+    {
+        active_suffice(script, step);
+        for position in active.positions() {
+            self.put_one(script.event(*position));
+        }
+    }
+
+    /// The stored cells but for those of the word 0, rising by twin and place.
+    pub fn held(&self, alloc: Global) -> Result<Vec<Held>, NoMemory>
+        ensures held { IfOk result (λ held. AreHeld self.now.twins held.items) }
+        ensures cells { IfOk result (λ held. (o : Trial) (in_force : Option ℕ) (t : model.Twins) (i : Memory) → Holds o in_force self.now t i
+            → StoreCells held.items t) }
+    {
+        self.twins.held(alloc)
+    }
+
+    /// The twins that are selected in the four pairs.
+    pub fn selected(&self, alloc: Global) -> Result<Vec<u8>, NoMemory>
+        ensures pairs { IfOk result (λ selected. length selected.items ≡ 4) }
+        ensures twins { IfOk result (λ selected. All (λ twin. twin < 2) selected.items) }
+        ensures selected { IfOk result (λ selected. selected.items ≡ self.now.twins.selected) }
+    {
+        let mut selected = Vec::with_capacity(alloc, 4)?;
+        selected.extend_from_slice(&self.twins.all_selected())?;
+        Ok(selected)
+    }
+
+    /// The intended words other than 0, rising by address.
+    pub fn placed(&self, alloc: Global) -> Result<Vec<Placed>, NoMemory>
+        ensures placed { IfOk result (λ placed. ArePlaced self.now.ledger placed.items) }
+        ensures there { IfOk result (λ placed. AllThere self.now.twins.banks placed.items) }
+        ensures words { IfOk result (λ placed. (o : Trial) (in_force : Option ℕ) (t : model.Twins) (i : Memory) → Holds o in_force self.now t i
+            → AreIntended placed.items i) }
+    {
+        let placed = self.ledger.placed(alloc)?;
+        Ok(placed)
+    }
+
+    /// Puts in force what an active event sticks or kills.
+    fn put_one(&mut self, event: &Event)
+        requires { NamesMemory event.now }
+        ensures carries { (step : ℕ) (before : List Event) (t : model.Twins) → is_active step event.now ≡ true
+            → Carries (Some step) before self.old.twins t → Carries (Some step) (before ++ event.now ∷ []) self.new.twins t }
+        ensures banks { self.new.twins.banks ≡ self.old.twins.banks }
+        ensures ledger { self.new.ledger ≡ self.old.ledger }
+    {
+        same_address();
+        changes_are_local();
+        match *event {
+            Event::Stick {
+                twin,
+                at,
+                mask,
+                value,
+                ..
+            } => self.stick(twin, at, mask, value),
+            Event::Dead { twin, pair, .. } => self.twins.dead(twin, pair, true),
+            Event::Damage { .. }
+            | Event::Flip { .. }
+            | Event::Force { .. }
+            | Event::Lag { .. }
+            | Event::Deaf { .. } => {}
+        }
+    }
+}
