@@ -29,7 +29,8 @@ NamedLaw = (script : List Event) (step : ℕ) → wrong_module script step ≡ N
 
 -- ---- the votes
 
-two_by : (p q r : Bool) (a b c s : List ℕ) → ((p && q) || (p && r) || (q && r)) ≡ false
+-- two of three that are not wrong equal the state
+pub two_by : (p q r : Bool) (a b c s : List ℕ) → ((p && q) || (p && r) || (q && r)) ≡ false
     → (p ≡ false → a ≡ s) → (q ≡ false → b ≡ s) → (r ≡ false → c ≡ s) → TwoAre a b c s
 two_by false false r a b c s two pa qb rc = inl (pa refl, qb refl)
 two_by false true false a b c s two pa qb rc = inr (inl (pa refl, rc refl))
@@ -94,12 +95,12 @@ heard step m c (e ∷ es) h =
     rw (heard_by step m c e parts.0, heard step m c es parts.1) refl
 
 -- it latches its row of the voted bus
-right_copy : (script : List Event) (step m c : ℕ) (row : Bus → List ℕ) (old : List ℕ) (copies : List Copies) (bus : Bus)
+pub right_copy : (script : List Event) (step m c : ℕ) (row : Bus → List ℕ) (old : List ℕ) (copies : List Copies) (bus : Bus)
     → is_wrong script step m c ≡ false → next_copy script step m c row old copies bus ≡ row bus
 right_copy script step m c row old copies bus h = rw (unhurt step m c script h, heard step m c script h) refl
 
 -- every copy keeps the row's length
-length-next_copy : (script : List Event) (step m c n : ℕ) (row : Bus → List ℕ) (old : List ℕ) (copies : List Copies) (bus : Bus)
+pub length-next_copy : (script : List Event) (step m c n : ℕ) (row : Bus → List ℕ) (old : List ℕ) (copies : List Copies) (bus : Bus)
     → ((b : Bus) → length (row b) ≡ n) → length old ≡ n → length (next_copy script step m c row old copies bus) ≡ n
 length-next_copy script step m c n row old copies bus fits sized =
     length-latched old _ (hurts_on step m c script) n sized (fits (inputs (is_deaf script step m c) copies c bus))

@@ -223,6 +223,11 @@ kept-made Stands o v next stop law k a later first stands = by_stop stop
     shows_now : ShowsRegisters new (step p devices).plain → ShowsPlain o (suc v.steps) next new
     shows_now r = record { agree = agree; registers = subst (λ (x : World). ShowsRegisters new x.plain) (sym world) r }
 
+    counted : (plain_in o (suc v.steps)).times ≡ suc v.steps / 3
+    counted =
+        ap (λ (x : World). x.plain.times) world
+        ∙ (let before : p.times ≡ v.steps / 3 = times in let count : (step p devices).plain.times ≡ p.times + 1 = leaves.times in omega arith)
+
     small : p.a < 2 ^ 26
     small = (law.phases.words 2 k.states p stands).a
 
@@ -247,6 +252,7 @@ kept-made Stands o v next stop law k a later first stands = by_stop stop
           whole = first;
           ended = ended ∙ ap (λ (n : ℕ). stop_of (n % 4) v.steps) stop.number ∙ stop-ends s v.steps stop.cause;
           stopped = ap (λ (x : World). x.plain.stop) world ∙ e;
+          times = counted;
           cause = stop.cause;
           states = new;
           shows = shows_now stop.registers;

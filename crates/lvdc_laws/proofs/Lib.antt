@@ -9,3 +9,4 @@ pub mod Join
 pub mod Run
 pub mod Whole
 pub mod Known
+pub mod Unhurt

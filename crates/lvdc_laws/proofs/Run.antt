@@ -174,7 +174,7 @@ kept-ended o n e h (suc m) =
     let same = kept-ended o n e h m in
     ap (guarded o) (suc-add m n) ∙ guarded-stays (guarded o (m + n)).end o (guarded o (m + n)) e (ap (λ (v : Voted). v.end) same ∙ h) ∙ same
 
-or_else-first : (a b : Verdict) → a ≡ verdicts.Admissible → or_else a b ≡ b
+pub or_else-first : (a b : Verdict) → a ≡ verdicts.Admissible → or_else a b ≡ b
 or_else-first a b e = rw e refl
 
 judged-ends : (o : Trial) (v : Voted) (b : Verdict) → (b ≡ verdicts.Admissible → ⊥) → judged_by b o v ≡ ended v (outcomes.Inadmissible b)

@@ -11,6 +11,7 @@ use Rattle.lvdc_map.specs.declared.placed.Placed.{Placed}
 use Rattle.lvdc_modules.specs.Rows.{start_latches}
 use Rattle.lvdc_plain.specs.Plain.{PlainState, World, started}
 use Rattle.lvdc_plain.specs.Run.{run}
+use Rattle.lvdc_plain.specs.declared.records.Stop.{Stop}
 use Rattle.lvdc_fault.specs.declared.verdict.Verdict.{Verdict}
 use Rattle.lvdc_fault.specs.declared.verdict.Verdict.TheVariants as verdicts
 use Rattle.lvdc_phases.specs.States.{ShowsRegisters}
@@ -24,8 +25,8 @@ use Rattle.lvdc_model.specs.Runs.{judged_by, guarded_by, guarded, found, alone_b
 use Rattle.lvdc_laws.specs.Copies.{wrong_before}
 use Rattle.lvdc_laws.specs.Laws.{StepLaws}
 use Rattle.lvdc_laws.specs.Relation.{devices_by, Matches, ShowsPlain, Follows, Goes, Halts}
-use Rattle.lvdc_laws.specs.Ends.{IsOpening, Opens, ShowsTimes, IsBegun, Comes, Good, Bad, HasRoom}
-use Rattle.lvdc_laws.proofs.PlainRuns.{stays-world, plain-log}
+use Rattle.lvdc_laws.specs.Ends.{IsOpening, Opens, ShowsTimes, stop_end, IsBegun, Comes, Good, Bad, HasRoom}
+use Rattle.lvdc_laws.proofs.PlainRuns.{times-count, stays-world, plain-log}
 use Rattle.lvdc_laws.proofs.Run.{found-judged, begun-at, kept-here, follows, comes, ends-inadmissible}
 
 -- ---- an opening of words
@@ -83,6 +84,33 @@ times-by law o k v (Halts le d) =
 pub guarded-times : (Stands : ℕ → List (List ℕ) → PlainState → Type 0) → StepLaws Stands → (o : Trial) → Opens Stands o
     → (k : ℕ) → first_bad o k ≡ verdicts.Admissible → ShowsTimes o k (guarded o (3 * k))
 guarded-times Stands law o opens k h = times-by law o k (guarded o (3 * k)) (follows Stands o law opens (3 * k) h)
+
+-- ---- the end after whole times
+
+ends-by : {Stands : ℕ → List (List ℕ) → PlainState → Type 0} → StepLaws Stands → (o : Trial) (k : ℕ) (v : Voted) → Follows Stands o (3 * k) v
+    → (v.end ≡ stop_end (plain_at o k).stop (plain_at o k).times) × (v.steps ≡ 3 * (plain_at o k).times)
+ends-by law o k v (Goes e s) =
+    let time : 3 * k / 3 ≡ k = omega arith in
+    let going : (plain_at o k).stop ≡ None = sym (ap (λ (i : ℕ). (plain_at o i).stop) time) ∙ s.running in
+    let count : (plain_at o k).times ≡ k = times-count law.ports o.opening k going in
+    (s.going ∙ sym (ap (λ (stop : Option Stop). stop_end stop (plain_at o k).times) going), e ∙ sym (ap (λ (t : ℕ). 3 * t) count))
+ends-by law o k v (Halts le d) =
+    let same : run o.opening k ≡ run o.opening (v.steps / 3) = stays-world law.stopped o.opening (v.steps / 3) d.why d.stopped k (omega arith) in
+    let stop : (plain_at o k).stop ≡ Some d.why = ap (λ (w : World). w.plain.stop) same ∙ d.stopped in
+    let count : (plain_at o k).times ≡ v.steps / 3 = ap (λ (w : World). w.plain.times) same ∙ d.times in
+    let whole : v.steps % 3 ≡ 0 = d.whole in
+    let next : v.steps ≡ suc d.last = d.is_last in
+    let last : d.last ≡ 3 * (plain_at o k).times - 1 = omega arith in (
+      d.ended ∙ ap (λ (n : ℕ). Some (outcomes.Stopped n d.why)) last ∙ sym (ap (λ (s : Option Stop). stop_end s (plain_at o k).times) stop),
+      omega arith,
+    )
+
+pub guarded-ends : (Stands : ℕ → List (List ℕ) → PlainState → Type 0) → StepLaws Stands → (o : Trial) → Opens Stands o
+    → (k : ℕ) → first_bad o k ≡ verdicts.Admissible
+    → ((guarded o (3 * k)).end ≡ stop_end (plain_at o k).stop (plain_at o k).times) × ((guarded o (3 * k)).steps ≡ 3 * (plain_at o k).times)
+guarded-ends Stands law o opens k h = ends-by law o k (guarded o (3 * k)) (follows Stands o law opens (3 * k) h)
+
+-- ---- the verdict
 
 verdict-by : {Stands : ℕ → List (List ℕ) → PlainState → Type 0} (o : Trial) (n : ℕ) → Comes Stands o n → (first_bad_below o n ≡ verdicts.Admissible → ⊥)
     → (guarded o n).end ≡ Some (outcomes.Inadmissible (first_bad_below o n))

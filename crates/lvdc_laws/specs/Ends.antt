@@ -1,15 +1,18 @@
 -- What whole runs of the guarded machine come to.
-use Rattle.std.specs.Prelude.{◌≡◌, ◌≢◌, ℕ, suc, length, ◌+◌, ◌-◌, ◌/◌, ◌%◌, ◌<◌, ◌≤◌, ◌^◌, List, All}
-use Rattle.std.specs.declared.option.Option.TheVariants.{None}
+use Rattle.std.specs.Prelude.{◌≡◌, ◌≢◌, ℕ, suc, length, ◌+◌, ◌-◌, ◌*◌, ◌/◌, ◌%◌, ◌<◌, ◌≤◌, ◌^◌, List, All}
+use Rattle.std.specs.declared.option.Option.{Option}
+use Rattle.std.specs.declared.option.Option.TheVariants.{None, Some}
 use Rattle.lvdc_map.specs.Hop.{IsHopConstant}
 use Rattle.lvdc_port.specs.Devices.{HoldWords}
 use Rattle.lvdc_modules.specs.Rows.{start_latches}
 use Rattle.lvdc_plain.specs.Plain.{PlainState}
 use Rattle.lvdc_plain.specs.Run.{Opening, run}
+use Rattle.lvdc_plain.specs.declared.records.Stop.{Stop}
 use Rattle.lvdc_fault.specs.declared.verdict.Verdict.TheVariants.{Admissible}
 use Rattle.lvdc_phases.specs.Exchanges.{exchange_in}
 use Rattle.lvdc_phases.specs.States.{ShowsRegisters}
-use Rattle.lvdc_model.specs.declared.outcome.Outcome.TheVariants.{Inadmissible}
+use Rattle.lvdc_model.specs.declared.outcome.Outcome.{Outcome}
+use Rattle.lvdc_model.specs.declared.outcome.Outcome.TheVariants.{Inadmissible, Stopped}
 use Rattle.lvdc_model.specs.Trial.{Trial, plain_at, plain_in}
 use Rattle.lvdc_model.specs.Voted.{Voted, votes}
 use Rattle.lvdc_model.specs.Exchanges.{prepared, ended, wished}
@@ -35,6 +38,12 @@ pub record ShowsTimes (o : Trial) (times : ℕ) (v : Voted) : Type 0 where
   pub intended : v.intended ≡ (plain_at o times).memory
   pub log : v.log ≡ (plain_at o times).log
   pub devices : v.devices ≡ (run o.opening times).devices
+
+-- the end of the voted machine by the stop of the plain run, which made so many times: it comes in the last step of the last
+-- of them
+abbrev pub stop_end : Option Stop → ℕ → Option Outcome
+stop_end None times = None
+stop_end (Some why) times = Some (Stopped (3 * times - 1) why)
 
 -- a step is begun: its devices are unplugged and its cells damaged, and all else is the plain run's
 pub record IsBegun (o : Trial) (step : ℕ) (v : Voted) : Type 0 where

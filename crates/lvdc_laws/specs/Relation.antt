@@ -58,6 +58,7 @@ pub record Halted (o : Trial) (step : ℕ) (v : Voted) : Type 0 where
   pub whole : step % 3 ≡ 0
   pub ended : v.end ≡ Some (Stopped last why)
   pub stopped : (plain_in o step).stop ≡ Some why
+  pub times : (plain_in o step).times ≡ step / 3
   pub cause : ByInstruction (Some why)
   pub states : List (List ℕ)
   pub shows : ShowsPlain o step v states

@@ -3,17 +3,18 @@
 //! the heart of what the simulator promises. The laws of whole runs rest on those of one step, which come after them.
 #![tactic(auto)]
 
-ghost use Rattle.std.specs.Prelude.{◌≡◌, ◌≢◌, ℕ, suc, ◌*◌, ◌<◌, None, Some};
+ghost use Rattle.std.specs.Prelude.{◌≡◌, ◌≢◌, ℕ, suc, ◌*◌, ◌<◌, None, Some, []};
 ghost use Rattle.lvdc_map.specs.Address.{Spot};
 ghost use Rattle.lvdc_map.specs.Banks.{HasBank};
 ghost use Rattle.lvdc_map.specs.Memory.{word_at};
+ghost use Rattle.lvdc_plain.specs.Run.{Opening, run};
 ghost use Rattle.lvdc_fault.specs.Recoverable.{is_recovered};
 ghost use Rattle.lvdc_fault.specs.declared.verdict.Verdict.{Verdict};
 ghost use Rattle.lvdc_fault.specs.declared.verdict.Verdict.TheVariants.{Admissible};
 ghost use Rattle.lvdc_phases.specs.Standing.{Standing};
 ghost use Rattle.lvdc_model.specs.declared.outcome.Outcome.{Outcome};
 ghost use Rattle.lvdc_model.specs.declared.outcome.Outcome.TheVariants.{Inadmissible};
-ghost use Rattle.lvdc_model.specs.Trial.{Trial, plain_in};
+ghost use Rattle.lvdc_model.specs.Trial.{Trial, plain_at, plain_in};
 ghost use Rattle.lvdc_model.specs.Twins.{shows};
 ghost use Rattle.lvdc_model.specs.Voted.{Voted};
 ghost use Rattle.lvdc_model.specs.Judging.{is_recoverable, is_recoverable_after, first_bad, first_bad_below};
@@ -22,7 +23,7 @@ ghost use Rattle.lvdc_model.specs.Runs.{guarded, alone};
 ghost use Rattle.lvdc_model.specs.Known.{last_begun, is_known};
 ghost use Rattle.lvdc_laws.specs.Relation.{Matches};
 ghost use Rattle.lvdc_laws.specs.Laws.{VotesLaw, CopiesLaw, DamageLaw, ReadLaw, HoldersLaw, StoreLaw, IdleLaw, PortLaw, StepLaws};
-ghost use Rattle.lvdc_laws.specs.Ends.{IsOpening, Opens, ShowsTimes, IsBegun, EndsAt, Comes, HasRoom};
+ghost use Rattle.lvdc_laws.specs.Ends.{IsOpening, Opens, ShowsTimes, stop_end, IsBegun, EndsAt, Comes, HasRoom};
 
 /// The headline's law: as long as no step was inadmissible, the guarded machine of 21 copies shows after whole times the
 /// registers, the words, the log and the devices of the plain run, a stop's own time included.
@@ -39,6 +40,24 @@ pub fn guarded_verdict()
         → (guarded o (3 * times)).end ≡ Some (Inadmissible (first_bad o times)) }
     ensures only { (o : Trial) → IsOpening o.opening → (n : ℕ) (verdict : Verdict) → (guarded o n).end ≡ Some (Inadmissible verdict)
         → (verdict ≡ first_bad_below o n) × (first_bad_below o n ≢ Admissible) }
+{
+    laws_of_a_step();
+}
+
+/// An admissible run has ended exactly where the plain run has stopped, in the last step of its last time, and it has made the
+/// steps of the times that the plain run made.
+pub fn guarded_ends()
+    ensures end { (o : Trial) → IsOpening o.opening → (times : ℕ) → first_bad o times ≡ Admissible
+        → (guarded o (3 * times)).end ≡ stop_end (plain_at o times).stop (plain_at o times).times }
+    ensures steps { (o : Trial) → IsOpening o.opening → (times : ℕ) → first_bad o times ≡ Admissible
+        → (guarded o (3 * times)).steps ≡ 3 * (plain_at o times).times }
+{
+    laws_of_a_step();
+}
+
+/// Under a script without events no step is inadmissible, so the guarded run is the plain run throughout.
+pub fn no_faults_no_verdict()
+    ensures { (o : Trial) → IsOpening o.opening → o.script ≡ [] → (n : ℕ) → first_bad_below o n ≡ Admissible }
 {
     laws_of_a_step();
 }
@@ -90,6 +109,13 @@ pub fn guarded_room()
     ensures { (o : Trial) → IsOpening o.opening → (n : ℕ) → HasRoom n (guarded o n) }
 {
     laws_of_a_step();
+}
+
+/// A plain run that has not stopped has made as many times as it was asked for.
+pub fn all_times_made()
+    ensures { (o : Opening) (n : ℕ) → (run o n).plain.stop ≡ None → (run o n).plain.times ≡ n }
+{
+    ports_match();
 }
 
 /// All laws of one step, and that an opening of words opens a run.

@@ -1,5 +1,5 @@
 -- Causes over a step, and over several.
-use Rattle.std.proofs.Common.{◌≡◌, ℕ, List, true, refl, sym, ◌∙◌, ap, subst}
+use Rattle.std.proofs.Common.{◌≡◌, ◌≢◌, ℕ, List, true, refl, sym, ◌∙◌, ap, subst}
 use Rattle.std.specs.declared.option.Option.{Option}
 use Rattle.std.specs.declared.option.Option.TheVariants.{None, Some}
 use Rattle.lvdc_port.specs.Causes.{Rose}
@@ -8,6 +8,7 @@ use Rattle.lvdc_port.specs.Devices.{has_port, count_at}
 use Rattle.lvdc_port.proofs.Lists.{has-map, rose-has}
 use Rattle.lvdc_plain.specs.Lists.{Since}
 use Rattle.lvdc_plain.specs.Stands.{FailedAlone}
+use Rattle.lvdc_fault.specs.declared.verdict.Verdict.{Verdict}
 use Rattle.lvdc_model.specs.declared.outcome.Outcome.{Outcome}
 use Rattle.lvdc_model.specs.declared.outcome.Outcome.TheVariants.{Done, Stopped, Inadmissible, Device}
 use Rattle.lvdc_machine.specs.Causes.{Caused, Fails}
@@ -33,6 +34,14 @@ made-caused h (Some (Stopped step stop)) before after made = h.counts
 made-caused h (Some Done) before after made = absurd made
 made-caused h (Some (Inadmissible w)) before after made = absurd made
 made-caused h (Some (Device step port)) before after made = absurd made
+
+-- nor is it a verdict
+pub made-unjudged : (end : Option Outcome) (before after : ℕ) → MadeAs end before after → (verdict : Verdict) → end ≢ Some (Inadmissible verdict)
+made-unjudged None before after made verdict is = absurd (cc)
+made-unjudged (Some (Stopped step stop)) before after made verdict is = absurd (cc)
+made-unjudged (Some Done) before after made verdict is = absurd made
+made-unjudged (Some (Inadmissible w)) before after made verdict is = absurd made
+made-unjudged (Some (Device step port)) before after made verdict is = absurd made
 
 -- a device that failed keeps its port
 pub fails-has : {B : Type 0} {device_of : B → device.Device} {count : B → ℕ} {port : ℕ} {old new : List B} → Fails device_of count port old new

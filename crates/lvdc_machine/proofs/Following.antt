@@ -29,7 +29,7 @@ end-bad : (o : Trial) (n m : ℕ) → guarded o n ≡ guarded o (suc m) → Ends
 end-bad o n m same h = ap (λ (v : Voted). v.end) same ∙ ap (λ (v : Voted). v.end) h.ends
 
 -- no end: no step was inadmissible
-going-good : (o : Trial) (n : ℕ) → Comes Standing o n → (guarded o n).end ≡ None → first_bad_below o n ≡ Admissible
+pub going-good : (o : Trial) (n : ℕ) → Comes Standing o n → (guarded o n).end ≡ None → first_bad_below o n ≡ Admissible
 going-good o n (Good good follows) none = good
 going-good o n (Bad m less first same ends) none = let bad = end-bad o n m same ends in absurd (cc (bad, none))
 

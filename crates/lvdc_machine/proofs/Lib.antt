@@ -3,6 +3,9 @@ pub mod Begun
 pub mod Judging
 pub mod Making
 pub mod Arms
+pub mod Again
+pub mod Noting
+pub mod Resuming
 pub mod Standing
 pub mod Blame
 pub mod Ports
@@ -10,3 +13,5 @@ pub mod Frames
 pub mod Telling
 pub mod Starting
 pub mod Following
+pub mod Exchanged
+pub mod Plainly

@@ -1,262 +1,157 @@
--- A machine goes on by one step of its mode's run.
-use Rattle.std.proofs.Common.{◌≡◌, ◌≢◌, ℕ, zero, suc, ◌+◌, ◌-◌, ◌/◌, ◌%◌, ◌<◌, ◌==◌, List, refl, sym, ap, ◌∙◌, subst, arith, add-zero, add-suc}
-use Rattle.std.proofs.Math.Numerals.{add-one}
-use Rattle.std.specs.Bool.{if◌then◌else◌}
+-- The run of a trial is the run from its start, and a run goes on from any of its states.
+use Rattle.std.proofs.Common.{◌≡◌, ℕ, zero, suc, ◌+◌, ◌-◌, ◌*◌, ◌≤◌, List, refl, sym, ap, ◌∙◌, subst, arith, add-zero, add-suc}
 use Rattle.std.specs.declared.option.Option.{Option}
 use Rattle.std.specs.declared.option.Option.TheVariants.{None, Some}
 use Rattle.lvdc_port.specs.Device as device
-use Rattle.lvdc_modules.specs.Wish.{wish}
-use Rattle.lvdc_modules.specs.declared.wanted.Wanted.{Wanted}
-use Rattle.lvdc_plain.specs.Run.{plugged}
-use Rattle.lvdc_fault.specs.declared.verdict.Verdict.{Verdict}
-use Rattle.lvdc_fault.specs.declared.verdict.Verdict.TheVariants.{Admissible, Logic, Memory}
-use Rattle.lvdc_model.specs.Exchanges.{damages, prepared, ended, exchanges, wished, voted_step}
-use Rattle.lvdc_model.specs.Known.{last_begun}
-use Rattle.lvdc_model.specs.Runs.{judged_by, alone, alone_by, through, through_by, found}
+use Rattle.lvdc_model.specs.Exchanges.{prepared, ended, wished}
+use Rattle.lvdc_model.specs.Runs.{alone_by, through_by}
 use Rattle.lvdc_model.specs.Trial.{Trial}
-use Rattle.lvdc_model.specs.Voted.{Voted}
+use Rattle.lvdc_model.specs.Voted.{Voted, voted_start}
+use Rattle.lvdc_fault.specs.declared.verdict.Verdict.TheVariants.{Admissible}
 use Rattle.lvdc_model.specs.declared.outcome.Outcome.{Outcome}
 use Rattle.lvdc_model.specs.declared.outcome.Outcome.TheVariants.{Done, Stopped, Inadmissible, Device}
 use Rattle.lvdc_machine.specs.declared.mode.Mode.{Mode}
 use Rattle.lvdc_machine.specs.declared.mode.Mode.TheVariants.{Guarded, Through}
+use Rattle.lvdc_machine.specs.Resumed.{step_of, run_from, state_from, FailedFrom, EndsFrom, StandsFrom}
 use Rattle.lvdc_machine.specs.Shows.{Shows}
-use Rattle.lvdc_machine.specs.Stands.{Stands, EndsAs, state_by}
-use Rattle.lvdc_machine.specs.Steps.{run_of, verdict_of, NamesPort, MadeAs, IsMade}
-use Rattle.lvdc_machine.specs.View.{View, bus_of_votes}
+use Rattle.lvdc_machine.specs.Stands.{Stands, EndsAs, HasFailed, state_by}
+use Rattle.lvdc_machine.specs.Steps.{run_of, verdict_of, NamesPort}
+use Rattle.lvdc_machine.specs.View.{View}
 
--- ---- the run of a mode
+-- ---- from the start
 
-alone-goes : (end : Option Outcome) (o : Trial) (v : Voted) → end ≡ None → alone_by end o v ≡ judged_by (found o (prepared o v)) o (prepared o v)
-alone-goes end o v e = rw e refl
+pub run-start : (mode : Mode) (o : Trial) (t : ℕ) → run_from mode o (voted_start o) t ≡ run_of mode o t
+run-start Guarded o zero = refl
+run-start Through o zero = refl
+run-start Guarded o (suc t) = ap (λ (v : Voted). alone_by v.end o v) (run-start Guarded o t)
+run-start Through o (suc t) = ap (λ (v : Voted). through_by v.end o v) (run-start Through o t)
 
-through-goes : (end : Option Outcome) (o : Trial) (v : Voted) → end ≡ None → through_by end o v ≡ voted_step o (prepared o v)
-through-goes end o v e = rw e refl
+run-since : (mode : Mode) (o : Trial) (step : ℕ) → run_from mode o (voted_start o) (step - 0) ≡ run_of mode o step
+run-since mode o step =
+    let same : step - 0 ≡ step = omega arith in
+    run-start mode o (step - 0) ∙ ap (λ (k : ℕ). run_of mode o k) same
 
--- where no end has come, the next step is prepared, judged and made
-run-next : (mode : Mode) (o : Trial) (t : ℕ) → (run_of mode o t).end ≡ None
-    → run_of mode o (suc t) ≡ judged_by (verdict_of mode o (prepared o (run_of mode o t))) o (prepared o (run_of mode o t))
-run-next Guarded o t e = alone-goes (alone o t).end o (alone o t) e
-run-next Through o t e = through-goes (through o t).end o (through o t) e
+pub state-start : (end : Option Outcome) (mode : Mode) (o : Trial) (t : ℕ) → state_from end mode o (voted_start o) t ≡ state_by end mode o t
+state-start None mode o t = run-start mode o t
+state-start (Some Done) mode o t = run-start mode o t
+state-start (Some (Stopped step stop)) mode o t = run-start mode o t
+state-start (Some (Inadmissible w)) mode o t = run-start mode o t
+state-start (Some (Device step port)) mode o t = ap (λ (v : Voted). ended (prepared o v) (Device step port)) (run-since mode o step)
 
-alone-stays : (end : Option Outcome) (o : Trial) (v : Voted) (e : Outcome) → end ≡ Some e → alone_by end o v ≡ v
-alone-stays end o v e is = rw is refl
-
-through-stays : (end : Option Outcome) (o : Trial) (v : Voted) (e : Outcome) → end ≡ Some e → through_by end o v ≡ v
-through-stays end o v e is = rw is refl
-
-run-stays-one : (mode : Mode) (o : Trial) (t : ℕ) (e : Outcome) → (run_of mode o t).end ≡ Some e → run_of mode o (suc t) ≡ run_of mode o t
-run-stays-one Guarded o t e is = alone-stays (alone o t).end o (alone o t) e is
-run-stays-one Through o t e is = through-stays (through o t).end o (through o t) e is
-
--- after an end nothing changes
-run-stays : (mode : Mode) (o : Trial) (t n : ℕ) (e : Outcome) → (run_of mode o t).end ≡ Some e → run_of mode o (t + n) ≡ run_of mode o t
-run-stays mode o t zero e is = ap (λ k. run_of mode o k) (add-zero t)
-run-stays mode o t (suc n) e is =
-    let before = run-stays mode o t n e is in
-    ap (λ k. run_of mode o k) (add-suc t n)
-    ∙ run-stays-one mode o (t + n) e (ap (λ (v : Voted). v.end) before ∙ is) ∙ before
-
-judged-bad : (w : Verdict) (o : Trial) (v : Voted) → w ≢ Admissible → judged_by w o v ≡ ended v (Inadmissible w)
-judged-bad Admissible o v bad = absurd (bad refl)
-judged-bad (Logic step m) o v bad = refl
-judged-bad (Memory step at) o v bad = refl
-
--- ---- a step that is prepared
-
-pub shows-prepared : {o : Trial} {m : View} {ds : List device.Device} (v : Voted) → Shows o m ds (record v { twins = damages v.steps o.script v.twins })
-    → (left : List device.Device) → left ≡ (if m.steps % 3 == 0 then plugged m.unplugs (m.steps / 3) ds else ds) → Shows o m left (prepared o v)
-shows-prepared v s left is =
+ends-start : (end : Option Outcome) (o : Trial) (t : ℕ) (mode : Mode) (steps : ℕ) → EndsAs end o t mode steps → EndsFrom end o (voted_start o) t mode steps
+ends-start None o t mode steps h = omega (arith, h)
+ends-start (Some Done) o t mode steps h = h
+ends-start (Some (Stopped step stop)) o t mode steps h = omega (arith, h)
+ends-start (Some (Inadmissible w)) o t mode steps h = omega (arith, h)
+ends-start (Some (Device step port)) o t mode steps h =
+    let same = sym (run-since mode o step) in
     record {
-      banks = s.banks;
-      script = s.script;
-      unplugs = s.unplugs;
-      copies = s.copies;
-      memory = s.memory;
-      left = is ∙ (λ i. if s.steps i % 3 == 0 then plugged (s.unplugs i) (s.steps i / 3) (s.left i) else s.left i);
-      log = s.log;
-      repairs = s.repairs;
-      counts = s.counts;
-      steps = s.steps;
-      end = s.end;
+      later = omega arith;
+      early = let early = h.early in omega (arith, early);
+      going = subst (λ (v : Voted). v.end ≡ None) same h.going;
+      steps = subst (λ (v : Voted). v.steps ≡ step) same h.steps;
+      admitted = subst (λ (v : Voted). verdict_of mode o (prepared o v) ≡ Admissible) same h.admitted;
+      asked = subst (λ (v : Voted). NamesPort (wished o (prepared o v)) port) same h.asked;
     }
 
-pub wanted-wished : {o : Trial} {m : View} {ds : List device.Device} {v : Voted} → Shows o m ds v → (w : Wanted)
-    → w ≡ wish (bus_of_votes m.copies) m.banks → w ≡ wished o v
-wanted-wished s w is = is ∙ (λ i. wish (bus_of_votes (s.copies i)) (s.banks i))
-
--- a machine that runs has come to a step, and the step is prepared
-pub record IsPrepared (o : Trial) (t : ℕ) (m : View) (ds : List device.Device) : Type 0 where
-  pub shows : Shows o m ds (prepared o (run_of m.mode o t))
-  pub going : (run_of m.mode o t).end ≡ None
-  pub steps : m.steps ≡ t
-  pub begun : m.active.last ≡ Some m.steps
-
-running-by : (o : Trial) (t : ℕ) (m : View) (ds : List device.Device) (end : Option Outcome) → end ≡ None → Shows o m ds (state_by end m.mode o t) → Shows o m ds (run_of m.mode o t)
-running-by o t m ds end e s = rw e at s
-
-steps-by : (o : Trial) (t : ℕ) (mode : Mode) (steps : ℕ) (end : Option Outcome) → end ≡ None → EndsAs end o t mode steps → steps ≡ t
-steps-by o t mode steps end e s = rw e at s
-
--- what is left of a machine that runs, once its step is begun
-pub is-prepared : (o : Trial) (t : ℕ) (old mid : View) (ds left : List device.Device) → Stands o t old ds → old.end ≡ None
-    → mid ≡ record old { memory = mid.memory; active = mid.active } → mid.active.last ≡ Some old.steps
-    → ((v : Voted) → Shows o old ds v → Shows o mid ds (record v { twins = damages v.steps o.script v.twins }))
-    → left ≡ (if old.steps % 3 == 0 then plugged old.unplugs (old.steps / 3) ds else ds) → IsPrepared o t mid left
-is-prepared o t old mid ds left h none same begun shown is =
-    let s = running-by o t old ds old.end none h.shows in
-    let mode : mid.mode ≡ old.mode = ap (λ (m : View). m.mode) same in
-    let steps : mid.steps ≡ old.steps = ap (λ (m : View). m.steps) same in
-    let unplugs : mid.unplugs ≡ old.unplugs = ap (λ (m : View). m.unplugs) same in
+ends-back : (end : Option Outcome) (o : Trial) (t : ℕ) (mode : Mode) (steps : ℕ) → EndsFrom end o (voted_start o) t mode steps → EndsAs end o t mode steps
+ends-back None o t mode steps h = omega (arith, h)
+ends-back (Some Done) o t mode steps h = h
+ends-back (Some (Stopped step stop)) o t mode steps h = omega (arith, h)
+ends-back (Some (Inadmissible w)) o t mode steps h = omega (arith, h)
+ends-back (Some (Device step port)) o t mode steps h =
+    let same = run-since mode o step in
     record {
-      shows = subst (λ (k : Mode). Shows o mid left (prepared o (run_of k o t))) (sym mode)
-          (shows-prepared (run_of old.mode o t) (shown (run_of old.mode o t) s) left
-          (is ∙ (λ i. if sym steps i % 3 == 0 then plugged (sym unplugs i) (sym steps i / 3) ds else ds)));
-      going = subst (λ (k : Mode). (run_of k o t).end ≡ None) (sym mode) (sym s.end ∙ none);
-      steps = steps ∙ steps-by o t old.mode old.steps old.end none h.ends;
-      begun = begun ∙ ap Some (sym steps);
+      early = let early = h.early in omega (arith, early);
+      going = subst (λ (v : Voted). v.end ≡ None) same h.going;
+      steps = subst (λ (v : Voted). v.steps ≡ step) same h.steps;
+      admitted = subst (λ (v : Voted). verdict_of mode o (prepared o v) ≡ Admissible) same h.admitted;
+      asked = subst (λ (v : Voted). NamesPort (wished o (prepared o v)) port) same h.asked;
     }
 
--- ---- where it then stands
+-- what stands in the run of a trial stands in the run from its start
+pub stands-start : (o : Trial) (t : ℕ) (m : View) (ds : List device.Device) → Stands o t m ds → StandsFrom o (voted_start o) t m ds
+stands-start o t m ds h = record {
+  shows = subst (λ (v : Voted). Shows o m ds v) (sym (state-start m.end m.mode o t)) h.shows;
+  begun = h.begun;
+  ends = ends-start m.end o t m.mode m.steps h.ends;
+}
 
--- nothing is made of a step that isn't admissible
-pub stands-judged : (o : Trial) (t : ℕ) (m new : View) (ds : List device.Device) (w : Verdict) → IsPrepared o t m ds
-    → w ≡ verdict_of m.mode o (prepared o (run_of m.mode o t)) → w ≢ Admissible → new ≡ record m { end = Some (Inadmissible w) }
-    → Stands o (t + 1) new ds
-stands-judged o t m new ds w h is bad same =
-    let s = h.shows in
-    let next : run_of m.mode o (suc t) ≡ ended (prepared o (run_of m.mode o t)) (Inadmissible w) =
-    run-next m.mode o t h.going ∙ ap (λ x. judged_by x o (prepared o (run_of m.mode o t))) (sym is) ∙ judged-bad w o (prepared o (run_of m.mode o t)) bad in
-    let steps = h.steps in
-    rw (same, add-one) (record {
-      shows = rw next (record {
-        banks = s.banks;
-        script = s.script;
-        unplugs = s.unplugs;
-        copies = s.copies;
-        memory = s.memory;
-        left = s.left;
-        log = s.log;
-        repairs = s.repairs;
-        counts = s.counts;
-        steps = s.steps;
-        end = refl;
-      });
-      begun = h.begun;
-      ends = omega (arith, steps);
-    })
+-- and the other way
+pub stands-back : (o : Trial) (t : ℕ) (m : View) (ds : List device.Device) → StandsFrom o (voted_start o) t m ds → Stands o t m ds
+stands-back o t m ds h = record {
+  shows = subst (λ (v : Voted). Shows o m ds v) (state-start m.end m.mode o t) h.shows;
+  begun = h.begun;
+  ends = ends-back m.end o t m.mode m.steps h.ends;
+}
 
-stands-by : (o : Trial) (t before : ℕ) (new : View) (ds : List device.Device) (end : Option Outcome) → new.end ≡ end → before ≡ t
-    → new.active.last ≡ last_begun new.end new.steps → MadeAs end before new.steps → Shows o new ds (run_of new.mode o (suc t)) → Stands o (suc t) new ds
-stands-by o t before new ds None is at begun made s =
+-- ---- on from a state
+
+pub run-on : (mode : Mode) (o : Trial) (r : Voted) (t n : ℕ) → run_from mode o (run_from mode o r t) n ≡ run_from mode o r (t + n)
+run-on mode o r t zero = ap (run_from mode o r) (sym (add-zero t))
+run-on mode o r t (suc n) = ap (step_of mode o) (run-on mode o r t n) ∙ ap (run_from mode o r) (sym (add-suc t n))
+
+-- how far a step is from the first state
+since-on : (mode : Mode) (o : Trial) (r : Voted) (t step : ℕ) → (run_from mode o r t).steps ≡ r.steps + t → (run_from mode o r t).steps ≤ step
+    → run_from mode o (run_from mode o r t) (step - (run_from mode o r t).steps) ≡ run_from mode o r (step - r.steps)
+since-on mode o r t step steps later =
+    let same : t + (step - (run_from mode o r t).steps) ≡ step - r.steps = omega (arith, steps, later) in
+    run-on mode o r t (step - (run_from mode o r t).steps) ∙ ap (run_from mode o r) same
+
+shows-on : (end : Option Outcome) (mode : Mode) (o : Trial) (r : Voted) (t n : ℕ) (steps : ℕ) → (run_from mode o r t).steps ≡ r.steps + t
+    → EndsFrom end o (run_from mode o r t) n mode steps → state_from end mode o (run_from mode o r t) n ≡ state_from end mode o r (t + n)
+shows-on None mode o r t n steps is ends = run-on mode o r t n
+shows-on (Some Done) mode o r t n steps is ends = absurd ends
+shows-on (Some (Stopped step stop)) mode o r t n steps is ends = run-on mode o r t n
+shows-on (Some (Inadmissible w)) mode o r t n steps is ends = run-on mode o r t n
+shows-on (Some (Device step port)) mode o r t n steps is ends =
+    ap (λ (v : Voted). ended (prepared o v) (Device step port)) (since-on mode o r t step is ends.later)
+
+ends-on : (end : Option Outcome) (mode : Mode) (o : Trial) (r : Voted) (t n : ℕ) (steps : ℕ) → (run_from mode o r t).steps ≡ r.steps + t
+    → EndsFrom end o (run_from mode o r t) n mode steps → EndsFrom end o r (t + n) mode steps
+ends-on None mode o r t n steps is ends = omega (arith, is, ends)
+ends-on (Some Done) mode o r t n steps is ends = absurd ends
+ends-on (Some (Stopped step stop)) mode o r t n steps is ends = omega (arith, is, ends)
+ends-on (Some (Inadmissible w)) mode o r t n steps is ends = omega (arith, is, ends)
+ends-on (Some (Device step port)) mode o r t n steps is ends =
+    let same = since-on mode o r t step is ends.later in
+    let later = ends.later in
+    let early = ends.early in
     record {
-      shows = subst (λ (e : Option Outcome). Shows o new ds (state_by e new.mode o (suc t))) (sym is) s;
-      begun = begun;
-      ends = subst (λ (e : Option Outcome). EndsAs e o (suc t) new.mode new.steps) (sym is) (made ∙ add-one before ∙ ap suc at);
-    }
-stands-by o t before new ds (Some (Stopped step stop)) is at begun made s =
-    record {
-      shows = subst (λ (e : Option Outcome). Shows o new ds (state_by e new.mode o (suc t))) (sym is) s;
-      begun = begun;
-      ends = subst (λ (e : Option Outcome). EndsAs e o (suc t) new.mode new.steps) (sym is) (let most = made.1 in omega (arith, at, most));
-    }
-stands-by o t before new ds (Some Done) is at begun made s = absurd made
-stands-by o t before new ds (Some (Inadmissible w)) is at begun made s = absurd made
-stands-by o t before new ds (Some (Device step port)) is at begun made s = absurd made
-
--- a step is made
-pub stands-made : (o : Trial) (t : ℕ) (m new : View) (ds left : List device.Device) (w : Verdict) (x : Wanted) → IsPrepared o t m ds
-    → w ≡ verdict_of m.mode o (prepared o (run_of m.mode o t)) → w ≡ Admissible → x ≡ wished o (prepared o (run_of m.mode o t))
-    → ((v : Voted) → Shows o m ds v → Shows o new left (exchanges o v x)) → IsMade m new → Stands o (t + 1) new left
-stands-made o t m new ds left w x h is good wish-is shown made =
-    let p = prepared o (run_of m.mode o t) in
-    let next : run_of m.mode o (suc t) ≡ exchanges o p x =
-    run-next m.mode o t h.going ∙ ap (λ y. judged_by y o p) (sym is ∙ good) ∙ ap (λ y. exchanges o p y) (sym wish-is) in
-    rw add-one (stands-by o t m.steps new left new.end refl h.steps made.begun made.ends
-    (subst (λ (k : Mode). Shows o new left (run_of k o (suc t))) (sym made.keeps.mode) (rw next (shown p h.shows))))
-
--- a device failed, and the step isn't made
-pub stands-failed : (o : Trial) (t : ℕ) (m new : View) (ds left : List device.Device) (w : Verdict) (x : Wanted) (port : ℕ) → IsPrepared o t m ds
-    → w ≡ verdict_of m.mode o (prepared o (run_of m.mode o t)) → w ≡ Admissible → x ≡ wished o (prepared o (run_of m.mode o t))
-    → NamesPort x port → left ≡ ds → new ≡ record m { end = Some (Device m.steps port) } → Stands o (t + 1) new left
-stands-failed o t m new ds left w x port h is good wish-is named kept same =
-    let s = subst (λ (k : ℕ). Shows o m ds (prepared o (run_of m.mode o k))) (sym h.steps) h.shows in
-    let steps = h.steps in
-    rw (same, add-one, kept) (record {
-      shows = record {
-        banks = s.banks;
-        script = s.script;
-        unplugs = s.unplugs;
-        copies = s.copies;
-        memory = s.memory;
-        left = s.left;
-        log = s.log;
-        repairs = s.repairs;
-        counts = s.counts;
-        steps = s.steps;
-        end = refl;
-      };
-      begun = h.begun;
-      ends = record {
-        early = omega (arith, steps);
-        going = subst (λ (k : ℕ). (run_of m.mode o k).end ≡ None) (sym h.steps) h.going;
-        steps = sym s.steps;
-        admitted = subst (λ (k : ℕ). verdict_of m.mode o (prepared o (run_of m.mode o k)) ≡ Admissible) (sym h.steps) (sym is ∙ good);
-        asked = subst (λ (k : ℕ). NamesPort (wished o (prepared o (run_of m.mode o k))) port) (sym h.steps)
-            (subst (λ (y : Wanted). NamesPort y port) wish-is named);
-      };
-    })
-
--- ---- a kept end
-
-kept-by : (o : Trial) (t n : ℕ) (m : View) (ds : List device.Device) (e : Outcome) → m.end ≡ Some e
-    → Shows o m ds (state_by (Some e) m.mode o t) → m.active.last ≡ last_begun m.end m.steps → EndsAs (Some e) o t m.mode m.steps → Stands o (t + n) m ds
-kept-by o t n m ds Done is s begun ends = absurd ends
-kept-by o t n m ds (Stopped step stop) is s begun ends =
-    record {
-      shows = subst (λ (x : Option Outcome). Shows o m ds (state_by x m.mode o (t + n))) (sym is)
-          (subst (λ (v : Voted). Shows o m ds v) (sym (run-stays m.mode o t n (Stopped step stop) (sym s.end ∙ is))) s);
-      begun = begun;
-      ends = subst (λ (x : Option Outcome). EndsAs x o (t + n) m.mode m.steps) (sym is) (omega (arith, ends));
-    }
-kept-by o t n m ds (Inadmissible w) is s begun ends =
-    record {
-      shows = subst (λ (x : Option Outcome). Shows o m ds (state_by x m.mode o (t + n))) (sym is)
-          (subst (λ (v : Voted). Shows o m ds v) (sym (run-stays m.mode o t n (Inadmissible w) (sym s.end ∙ is))) s);
-      begun = begun;
-      ends = subst (λ (x : Option Outcome). EndsAs x o (t + n) m.mode m.steps) (sym is) (omega (arith, ends));
-    }
-kept-by o t n m ds (Device step port) is s begun ends =
-    record {
-      shows = subst (λ (x : Option Outcome). Shows o m ds (state_by x m.mode o (t + n))) (sym is) s;
-      begun = begun;
-      ends = subst (λ (x : Option Outcome). EndsAs x o (t + n) m.mode m.steps) (sym is) (record {
-        early = let early = ends.early in omega (arith, early);
-        going = ends.going;
-        steps = ends.steps;
-        admitted = ends.admitted;
-        asked = ends.asked;
-      });
+      later = omega (arith, is, later);
+      early = omega (arith, is, early);
+      going = subst (λ (v : Voted). v.end ≡ None) same ends.going;
+      steps = subst (λ (v : Voted). v.steps ≡ step) same ends.steps;
+      admitted = subst (λ (v : Voted). verdict_of mode o (prepared o v) ≡ Admissible) same ends.admitted;
+      asked = subst (λ (v : Voted). NamesPort (wished o (prepared o v)) port) same ends.asked;
     }
 
--- it stands for every later step too
-pub stands-kept : (o : Trial) (t n : ℕ) (m : View) (ds : List device.Device) (e : Outcome) → m.end ≡ Some e → Stands o t m ds → Stands o (t + n) m ds
-stands-kept o t n m ds e is h =
-    kept-by o t n m ds e is (subst (λ (x : Option Outcome). Shows o m ds (state_by x m.mode o t)) is h.shows) h.begun
-    (subst (λ (x : Option Outcome). EndsAs x o t m.mode m.steps) is h.ends)
+-- what stands in the run from a state of a run stands in that run
+pub stands-on : (o : Trial) (r : Voted) (t n : ℕ) (m : View) (ds : List device.Device) → (run_from m.mode o r t).steps ≡ r.steps + t
+    → StandsFrom o (run_from m.mode o r t) n m ds → StandsFrom o r (t + n) m ds
+stands-on o r t n m ds is h = record {
+  shows = subst (λ (v : Voted). Shows o m ds v) (shows-on m.end m.mode o r t n m.steps is h.ends) h.shows;
+  begun = h.begun;
+  ends = ends-on m.end m.mode o r t n m.steps is h.ends;
+}
 
--- ---- several steps
+-- a machine that runs has made as many steps as its run
+steps-made : (o : Trial) (t : ℕ) (m : View) (ds : List device.Device) (end : Option Outcome) → end ≡ None → Shows o m ds (state_by end m.mode o t)
+    → EndsAs end o t m.mode m.steps → (run_of m.mode o t).steps ≡ t
+steps-made o t m ds None none s ends = sym s.steps ∙ ends
+steps-made o t m ds (Some e) none s ends = absurd (cc none)
 
--- one more step of a loop
-pub stands-next : (o : Trial) (t n : ℕ) (m : View) (ds : List device.Device) → Stands o (t + n + 1) m ds → Stands o (t + (n + 1)) m ds
-stands-next o t n m ds h = let same : t + n + 1 ≡ t + (n + 1) = omega arith in subst (λ (k : ℕ). Stands o k m ds) same h
+-- what stands in the run from the state of a machine that runs stands in its run
+pub stands-goes_on : (o : Trial) (t n : ℕ) (before after : View) (ds left : List device.Device) → Stands o t before ds → before.end ≡ None
+    → after.mode ≡ before.mode → StandsFrom o (run_of before.mode o t) n after left → Stands o (t + n) after left
+stands-goes_on o t n before after ds left h none mode g =
+    let made = steps-made o t before ds before.end none h.shows h.ends in
+    let same : run_of before.mode o t ≡ run_from after.mode o (voted_start o) t =
+    ap (λ (k : Mode). run_of k o t) (sym mode) ∙ sym (run-start after.mode o t) in
+    let steps : (run_from after.mode o (voted_start o) t).steps ≡ t = ap (λ (v : Voted). v.steps) (sym same) ∙ made in
+    stands-back o (t + n) after left
+    (stands-on o (voted_start o) t n after left (omega (arith, steps)) (subst (λ (v : Voted). StandsFrom o v n after left) same g))
 
--- the end came in an earlier step than the last one asked for
-pub stands-early : (o : Trial) (t n all : ℕ) (m : View) (ds : List device.Device) (e : Outcome) → Some e ≡ m.end → n < all
-    → Stands o (t + n + 1) m ds → Stands o (t + all) m ds
-stands-early o t n all m ds e is less h =
-    let same : t + n + 1 + (all - (n + 1)) ≡ t + all = omega arith in
-    subst (λ (k : ℕ). Stands o k m ds) same (stands-kept o (t + n + 1) (all - (n + 1)) m ds e (sym is) h)
-
--- all steps were made
-pub stands-at : (o : Trial) (t n all : ℕ) (m : View) (ds : List device.Device) → n ≡ all → Stands o (t + n) m ds → Stands o (t + all) m ds
-stands-at o t n all m ds is h = subst (λ (k : ℕ). Stands o (t + k) m ds) is h
+-- so many times are three times as many steps
+pub stands-times : (o : Trial) (t times : ℕ) (m : View) (ds : List device.Device) → Stands o (3 * t + 3 * times) m ds → Stands o (3 * (t + times)) m ds
+stands-times o t times m ds h = let same : 3 * t + 3 * times ≡ 3 * (t + times) = omega arith in subst (λ (k : ℕ). Stands o k m ds) same h

@@ -1,5 +1,5 @@
 -- A machine before its first step.
-use Rattle.std.proofs.Common.{◌≡◌, ℕ, ◌<◌, List, [], ◌∷◌, All, length, map, refl, sym, ap, ◌∙◌, subst, arith}
+use Rattle.std.proofs.Common.{◌≡◌, ℕ, ◌%◌, ◌<◌, List, [], ◌∷◌, All, length, map, refl, sym, ap, ◌∙◌, subst, arith}
 use Rattle.std.specs.Prelude.{slice_index}
 use Rattle.std.specs.declared.option.Option.{Option}
 use Rattle.std.specs.declared.option.Option.TheVariants.{None}
@@ -16,11 +16,11 @@ use Rattle.lvdc_model.specs.declared.outcome.Outcome.{Outcome}
 use Rattle.lvdc_machine.specs.declared.mode.Mode.{Mode}
 use Rattle.lvdc_machine.specs.declared.mode.Mode.TheVariants.{Guarded, Through}
 use Rattle.lvdc_machine.specs.declared.mode.Pace.TheVariants.{ByTime}
-use Rattle.lvdc_machine.specs.Room.{pace_of, IsInStep}
+use Rattle.lvdc_machine.specs.Room.{pace_of, IsInStep, IsInTime}
 use Rattle.lvdc_machine.specs.Shows.{Shows}
 use Rattle.lvdc_machine.specs.Stands.{Stands, EndsAs, state_by}
 use Rattle.lvdc_machine.specs.Steps.{run_of}
-use Rattle.lvdc_machine.specs.View.{View}
+use Rattle.lvdc_machine.specs.View.{View, bus_of_votes}
 
 run-start : (mode : Mode) (o : Trial) → run_of mode o 0 ≡ voted_start o
 run-start Guarded o = refl
@@ -54,3 +54,15 @@ starts-in-step Through start copies is = tt
 pub judges-by : (mode : Mode) → pace_of mode ≡ ByTime → mode ≡ Guarded
 judges-by Guarded e = refl
 judges-by Through e = absurd (cc e)
+
+pub starts-in-time : (mode : Mode) (start : HopConstant) (copies : List Copies) → copies ≡ map thrice (start_latches start) → IsInTime mode copies 0
+starts-in-time Guarded start copies is =
+    rw is (record {
+      sized = record { one = refl; two = refl; three = refl };
+      votes = ap (λ ws. slice_index ws 0 % 4) (majority_of-first (0 ∷ 0 ∷ []) (0 ∷ 0 ∷ []) refl);
+    })
+starts-in-time Through start copies is = tt
+
+-- the vote is against a stop
+pub starts-going : (start : HopConstant) (copies : List Copies) → copies ≡ map thrice (start_latches start) → (bus_of_votes copies).exchange.stop % 4 ≡ 0
+starts-going start copies is = rw is (ap (λ ws. slice_index ws 0 % 4) (majority_of-first (0 ∷ 0 ∷ []) (0 ∷ 0 ∷ []) refl))

@@ -6,3 +6,6 @@ pub mod Stands
 pub mod Causes
 pub mod Sound
 pub mod Guarded
+pub mod Resumed
+pub mod Snapshot
+pub mod Notes

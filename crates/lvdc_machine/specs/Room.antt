@@ -52,3 +52,14 @@ abbrev pub IsInStep : Pace → List Copies → ℕ → Type 0
 IsInStep ByStep copies steps = Unit {0}
 IsInStep ByTime [] steps = ⊥
 IsInStep ByTime (t ∷ ts) steps = IsTimerAt (steps % 3) t
+
+-- the copies of TIMER have their two latches each, and the vote of PHASE, of which the low two bits count, goes with the steps
+pub record IsTimed (steps : ℕ) (t : Copies) : Type 0 where
+  pub sized : IsSized 2 t
+  pub votes : slice_index (vote_of t) 0 % 4 ≡ steps % 3
+
+-- where a machine judges, the voted PHASE goes with the steps
+abbrev pub IsInTime : Mode → List Copies → ℕ → Type 0
+IsInTime Through copies steps = Unit {0}
+IsInTime Guarded [] steps = ⊥
+IsInTime Guarded (t ∷ ts) steps = IsTimed steps t

@@ -1,15 +1,19 @@
 -- What is true of every machine.
-use Rattle.std.specs.Prelude.{◌≡◌, ◌+◌, ◌*◌, ◌≤◌, ◌<◌, length, All, vec_len, vec_capacity}
+use Rattle.std.specs.Prelude.{◌≡◌, ◌+◌, ◌*◌, ◌/◌, ◌%◌, ◌≤◌, ◌<◌, length, All, vec_len, vec_capacity}
+use Rattle.std.specs.declared.option.Option.TheVariants.{None}
 use Rattle.lvdc_fault.specs.Activity.{Fits}
 use Rattle.lvdc_script.specs.Events.{IsEvent}
 use Rattle.lvdc_logic.specs.Logic.{DifferedAtMost}
 use Rattle.lvdc_machine.specs.declared.machine.Machine.TheInside.{Inside}
 use Rattle.lvdc_machine.specs.declared.mode.Mode.TheVariants.{Guarded}
 use Rattle.lvdc_machine.specs.declared.mode.Pace.TheVariants.{ByTime}
-use Rattle.lvdc_machine.specs.Room.{exchanges_left, repairs_left, IsInStep}
+use Rattle.lvdc_machine.specs.Room.{pace_of, exchanges_left, repairs_left, IsInStep, IsInTime}
+use Rattle.lvdc_machine.specs.Notes.{IsLog, AreRepairs}
+use Rattle.lvdc_machine.specs.View.{bus_of_votes}
 
 -- the script is in range, what is in force fits it, there is room for what may still come, and by times it judges and its
--- phases go with the steps
+-- phases go with the steps; the log of a machine with the room of its mode is of its own steps alone; a machine that judges has
+-- phases that go with the steps; where no end has come the vote is against a stop; and what is noted is of steps that were made
 pub record IsSound (m : Inside) : Type 0 where
   pub events : All IsEvent m.script
   pub fits : Fits m.script m.active
@@ -17,11 +21,15 @@ pub record IsSound (m : Inside) : Type 0 where
   pub hurts : length m.script ≤ m.logic.room
   pub differed : DifferedAtMost m.steps m.logic.counts
   pub banks : m.memory.twins.banks ≡ m.banks
-  pub log : vec_len m.log + exchanges_left m.pace m.steps m.limit ≤ exchanges_left m.pace 0 m.limit
-  pub log_room : exchanges_left m.pace 0 m.limit ≤ vec_capacity m.log
+  pub log : m.pace ≡ pace_of m.mode → vec_len m.log + exchanges_left m.pace m.steps m.limit ≤ exchanges_left m.pace 0 m.limit
+  pub log_room : vec_len m.log + exchanges_left m.pace m.steps m.limit ≤ vec_capacity m.log
   pub repairs : vec_len m.repairs + repairs_left m.pace m.steps m.limit ≤ repairs_left m.pace 0 m.limit
-  pub repairs_room : repairs_left m.pace 0 m.limit ≤ vec_capacity m.repairs
+  pub repairs_room : vec_len m.repairs + repairs_left m.pace m.steps m.limit ≤ vec_capacity m.repairs
   pub steps : m.steps ≤ 3 * m.limit
   pub limit : m.limit ≤ 1000000
   pub judges : m.pace ≡ ByTime → m.mode ≡ Guarded
   pub phase : IsInStep m.pace m.logic.copies m.steps
+  pub timed : IsInTime m.mode m.logic.copies m.steps
+  pub going : m.end ≡ None → (bus_of_votes m.logic.copies).exchange.stop % 4 ≡ 0
+  pub logged : IsLog ((m.steps + 2) / 3) m.log.items
+  pub noted : AreRepairs m.banks m.steps m.repairs.items

@@ -1,11 +1,20 @@
-ghost use Rattle.std.specs.Prelude.{◌≡◌, ℕ, List};
+ghost use Rattle.std.specs.Prelude.{◌≡◌, ℕ, ◌*◌, ◌<◌, ◌^◌, List, [], All, None};
+ghost use Rattle.lvdc_map.specs.Address.{Spot};
+ghost use Rattle.lvdc_map.specs.Banks.{HasBank};
+ghost use Rattle.lvdc_map.specs.Memory.{word_at};
+ghost use Rattle.lvdc_map.specs.Hop.{IsHopConstant};
 ghost use Rattle.lvdc_port.specs.Device as device;
-ghost use Rattle.lvdc_model.specs.Trial.{Trial};
+ghost use Rattle.lvdc_model.specs.Exchanges.{prepared, wished};
+ghost use Rattle.lvdc_model.specs.Runs.{guarded};
+ghost use Rattle.lvdc_model.specs.Trial.{Trial, plain_in};
 ghost use Rattle.lvdc_laws.specs.Ends.{IsOpening};
-ghost use Rattle.lvdc_machine.specs.Guarded.{GuardedBy};
-ghost use Rattle.lvdc_machine.specs.Stands.{Stands, state_by};
+ghost use Rattle.lvdc_machine.specs.Guarded.{IsExchanged, GuardedBy, UnhurtBy, is_recoverable_by};
+ghost use Rattle.lvdc_machine.specs.Stands.{Stands, state_by, shown_by, shown_of};
+ghost use Rattle.lvdc_machine.specs.Steps.{NamesPort};
 ghost use Rattle.lvdc_machine.specs.View.{View};
 ghost use Rattle.lvdc_machine.specs.declared.mode.Mode.TheVariants.{Guarded};
+
+use lvdc_map::{Hop, Placed};
 
 /// A law, which does nothing when it runs: a guarded machine that stands where its run is follows the plain run up to the first
 /// inadmissible step, and has ended there.
@@ -18,3 +27,60 @@ pub fn guarded_follows()
     lvdc_laws::guarded_times();
     lvdc_laws::step_begun();
 }
+
+/// A law, which does nothing when it runs: where a guarded run goes on and wishes an exchange with a port, the plain run makes
+/// one with that port; also where a device then fails.
+pub fn failed_exchange()
+    ensures { (o : Trial) → IsOpening o.opening → (n port : ℕ) → (guarded o n).end ≡ None
+        → NamesPort (wished o (prepared o (guarded o n))) port → IsExchanged o n port }
+{
+    lvdc_laws::guarded_run();
+    lvdc_laws::step_begun();
+}
+
+/// A law, which does nothing when it runs: under a script without events a guarded machine that stands after whole times shows
+/// the plain run, unless a device failed.
+pub fn unhurt_follows()
+    ensures { (o : Trial) (times : ℕ) (m : View) (ds : List device.Device) → IsOpening o.opening → m.mode ≡ Guarded → m.script ≡ []
+        → Stands o (3 * times) m ds → UnhurtBy m.end o times (state_by m.end m.mode o (3 * times)) }
+{
+    guarded_follows();
+    lvdc_laws::judges_alone();
+    lvdc_laws::guarded_ends();
+    lvdc_laws::no_faults_no_verdict();
+}
+
+/// A law, which does nothing when it runs: what a guarded machine tells of a word is the plain run's word, exactly where that
+/// can be recovered.
+pub fn guarded_words()
+    ensures { (o : Trial) (t : ℕ) (m : View) (ds : List device.Device) (at : Spot) → IsOpening o.opening → m.mode ≡ Guarded
+        → HasBank o.opening.banks at → Stands o t m ds
+        → shown_of o (state_by m.end m.mode o t) at
+        ≡ shown_by (is_recoverable_by m.end o m.steps at) (word_at (plain_in o m.steps).memory at) }
+{
+    guarded_follows();
+    lvdc_laws::guarded_run();
+    lvdc_laws::judges_alone();
+    lvdc_laws::words_known();
+}
+
+/// What is placed is a word, by its type.
+fn places_word(placed: &Placed)
+    ensures { placed.now.word < 2 ^ 26 }
+{
+    placed.word.value();
+}
+
+/// What an image places are words. The loop has no effect.
+pub(crate) fn places_words(image: &[Placed])
+    ensures { All (λ placed. placed.word < 2 ^ 26) image.now }
+{
+    for placed in image {
+        places_word(placed);
+    }
+}
+
+/// The fields of a HOP constant are in their ranges, by its type.
+pub(crate) fn is_hop_constant(start: Hop)
+    ensures { IsHopConstant start }
+{}

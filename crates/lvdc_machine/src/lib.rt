@@ -7,16 +7,20 @@ mod laws;
 mod machine;
 mod mode;
 mod notes;
+mod resumed;
 mod shown;
+mod snapshot;
 mod stepping;
 mod views;
 
-pub use laws::guarded_follows;
+pub use laws::{failed_exchange, guarded_follows, guarded_words, unhurt_follows};
 pub use lvdc_model::{Outcome, Repair};
 pub use lvdc_script::{Order, Orders, OrdersFull};
 pub use machine::Machine;
 pub use mode::{Mode, Pace};
+pub use resumed::resumed_goes_on;
 pub use shown::Shown;
+pub use snapshot::Snapshot;
 
 #[cfg(test)]
 mod tests;

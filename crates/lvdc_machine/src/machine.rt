@@ -1,20 +1,24 @@
 //! The voted machine.
 
-ghost use Rattle.std.specs.Prelude.{◌≡◌, ℕ, ◌+◌, ◌-◌, ◌*◌, ◌/◌, ◌≤◌, ◌<◌, length, map, All, true, IsSome, IsNone, OnOk, IfOk, Option, Some, None};
+ghost use Rattle.std.specs.Prelude.{◌≡◌, ℕ, ◌+◌, ◌-◌, ◌*◌, ◌/◌, ◌≤◌, ◌<◌, length, map, All, true, IsSome, IsNone, OnOk, IfOk, Option, Some, None, [], ◌≢◌};
 ghost use Rattle.lvdc_map.specs.Memory.{are_rising, AllThere};
 ghost use Rattle.lvdc_port.specs.Devices.{has_port, count_at, HasSpare, AreDistinct};
+ghost use Rattle.lvdc_fault.specs.declared.verdict.Verdict.{Verdict};
 ghost use Rattle.lvdc_model.specs.Trial.{Trial};
+ghost use Rattle.lvdc_model.specs.Voted.{Voted};
+ghost use Rattle.lvdc_model.specs.declared.outcome.Outcome.TheVariants.{Inadmissible};
 ghost use Rattle.lvdc_script.specs.Events.{IsEvent};
 ghost use Rattle.lvdc_laws.specs.Ends.{IsOpening};
-ghost use Rattle.lvdc_machine.specs.declared.mode.Mode.TheVariants.{Guarded};
-ghost use Rattle.lvdc_machine.specs.Guarded.{GuardedBy};
+ghost use Rattle.lvdc_machine.specs.declared.mode.Mode.TheVariants.{Guarded, Through};
+ghost use Rattle.lvdc_machine.specs.Guarded.{GuardedBy, UnhurtBy};
 ghost use Rattle.lvdc_machine.specs.Causes.{Caused};
+ghost use Rattle.lvdc_machine.specs.Resumed.{StandsFrom};
 ghost use Rattle.lvdc_machine.specs.Room.{pace_of, exchanges_left};
 ghost use Rattle.lvdc_machine.specs.Stands.{Stands, state_by};
 ghost use Rattle.lvdc_machine.specs.Steps.{Keeps};
 ghost use Rattle.lvdc_machine.specs.View.{answer_of_end};
 
-use crate::laws::guarded_follows;
+use crate::laws::{guarded_follows, is_hop_constant, places_words, unhurt_follows};
 use crate::{Mode, Order, Orders, Pace};
 use lvdc_fault::{Active, Script};
 use lvdc_logic::Logic;
@@ -106,6 +110,8 @@ impl Machine {
               script = script;
             })
             0 machine (map device_of devices.new.items)) }
+        ensures opening { OnOk result (IsOpening
+            (record { image = image.now; banks = banks; start = start; unplugs = unplugs.items; devices = map device_of devices.old.items })) }
         ensures banks { IfOk result (λ machine. machine.banks ≡ banks) }
         ensures script { IfOk result (λ machine. machine.script ≡ script) }
         ensures unplugs { IfOk result (λ machine. machine.unplugs ≡ unplugs.items) }
@@ -120,6 +126,8 @@ impl Machine {
         ensures devices { map device_of devices.new.items ≡ map device_of devices.old.items }
         ensures faults { map faults devices.new.items ≡ map faults devices.old.items }
     {
+        places_words(image);
+        is_hop_constant(start);
         let pace = Pace::of(mode);
         let exchanges = pace.exchanges(limit);
         let log = Vec::with_capacity(alloc, exchanges as usize)?;
@@ -157,10 +165,17 @@ impl Machine {
             → Stands o (t + 1) self.new (map device_of devices.new.items) }
         ensures answer { result ≡ answer_of_end self.new.end }
 
+        // So it does of the run from a state, for each from which it stood.
+        ensures resumes { (o : Trial) (first : Voted) (n : ℕ) → StandsFrom o first n self.old (map device_of devices.old.items)
+            → StandsFrom o first (n + 1) self.new (map device_of devices.new.items) }
+
         // A guarded machine follows the plain run up to the first inadmissible step, and has ended there.
         ensures guarded { self.old.mode ≡ Guarded → (o : Trial) (t : ℕ) → IsOpening o.opening
             → Stands o t self.old (map device_of devices.old.items)
             → GuardedBy self.new.end o (t + 1) (state_by self.new.end self.new.mode o (t + 1)) }
+
+        // Through every fault no step is judged.
+        ensures through { self.old.mode ≡ Through → IsNone self.old.end → (verdict : Verdict) → result ≢ Inadmissible verdict }
 
         // An end that has come is kept, and nothing is changed.
         ensures kept { IsSome self.old.end → (self.new ≡ self.old) × (devices.new.items ≡ devices.old.items) }
@@ -208,10 +223,22 @@ impl Machine {
             → Stands o (t + 3 * times) self.new (map device_of devices.new.items) }
         ensures answer { result ≡ answer_of_end self.new.end }
 
+        // So it does of the run from a state, for each from which it stood.
+        ensures resumes { (o : Trial) (first : Voted) (n : ℕ) → StandsFrom o first n self.old (map device_of devices.old.items)
+            → StandsFrom o first (n + 3 * times) self.new (map device_of devices.new.items) }
+
         // A guarded machine follows the plain run up to the first inadmissible step, and has ended there.
         ensures guarded { self.old.mode ≡ Guarded → (o : Trial) (t : ℕ) → IsOpening o.opening
             → Stands o t self.old (map device_of devices.old.items)
             → GuardedBy self.new.end o (t + 3 * times) (state_by self.new.end self.new.mode o (t + 3 * times)) }
+
+        // Without events in its script it is the plain run after so many whole times, unless a device fails.
+        ensures unhurt { self.old.mode ≡ Guarded → self.old.script ≡ [] → (o : Trial) (t : ℕ) → IsOpening o.opening
+            → Stands o (3 * t) self.old (map device_of devices.old.items)
+            → UnhurtBy self.new.end o (t + times) (state_by self.new.end self.new.mode o (3 * (t + times))) }
+
+        // Through every fault no step is judged.
+        ensures through { self.old.mode ≡ Through → IsNone self.old.end → (verdict : Verdict) → result ≢ Inadmissible verdict }
 
         // An end that has come is kept, and nothing is changed.
         ensures kept { IsSome self.old.end → (self.new ≡ self.old) × (devices.new.items ≡ devices.old.items) }
@@ -232,6 +259,7 @@ impl Machine {
             → has_port device_of port devices.old.items ≡ true }
     {
         guarded_follows();
+        unhurt_follows();
         if let Some(end) = self.end {
             return end;
         }

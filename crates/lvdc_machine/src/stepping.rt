@@ -1,6 +1,6 @@
 //! One step of the voted machine.
 
-ghost use Rattle.std.specs.Prelude.{◌≡◌, ℕ, ◌+◌, ◌-◌, ◌*◌, ◌/◌, ◌%◌, ◌≤◌, ◌<◌, ◌==◌, if◌then◌else◌, List, map, true, false, IsSome, OnOk, OnErr, IfErr, IfSome, Option, Some, None};
+ghost use Rattle.std.specs.Prelude.{◌≡◌, ℕ, ◌+◌, ◌-◌, ◌*◌, ◌/◌, ◌%◌, ◌≤◌, ◌<◌, ◌==◌, ◌≢◌, if◌then◌else◌, List, map, true, false, IsSome, OnOk, OnErr, IfErr, IfSome, Option, Some, None};
 ghost use Rattle.lvdc_map.specs.Banks.{is_there};
 ghost use Rattle.lvdc_port.specs.Device as device;
 ghost use Rattle.lvdc_port.specs.Devices.{has_port, count_at, HasSpare, AreDistinct};
@@ -8,16 +8,19 @@ ghost use Rattle.lvdc_modules.specs.Wish.{wish, IsThereFor};
 ghost use Rattle.lvdc_plain.specs.Lists.{Since};
 ghost use Rattle.lvdc_plain.specs.Run.{plugged};
 ghost use Rattle.lvdc_fault.specs.Script.{two_wrong};
+ghost use Rattle.lvdc_fault.specs.declared.verdict.Verdict.{Verdict};
 ghost use Rattle.lvdc_fault.specs.declared.verdict.Verdict.TheVariants.{Admissible};
 ghost use Rattle.lvdc_model.specs.Exchanges.{damages, stop_of, latches, exchanges, reading, storing, port_reading, port_writing, wished};
 ghost use Rattle.lvdc_model.specs.Runs.{found, found_memory, read_of_wish};
 ghost use Rattle.lvdc_model.specs.Trial.{Trial};
 ghost use Rattle.lvdc_model.specs.Twins.{read_answer};
 ghost use Rattle.lvdc_model.specs.Voted.{Voted};
-ghost use Rattle.lvdc_model.specs.declared.outcome.Outcome.TheVariants.{Device};
-ghost use Rattle.lvdc_machine.specs.declared.mode.Pace.TheVariants.{ByTime};
+ghost use Rattle.lvdc_model.specs.declared.outcome.Outcome.TheVariants.{Inadmissible, Device};
+ghost use Rattle.lvdc_machine.specs.declared.mode.Mode.TheVariants.{Guarded, Through};
 ghost use Rattle.lvdc_machine.specs.Causes.{Caused, Fails};
 ghost use Rattle.lvdc_machine.specs.Room.{exchanges_left, MayExchange, MayRepair, IsDue};
+ghost use Rattle.lvdc_machine.specs.Notes.{IsNoted};
+ghost use Rattle.lvdc_machine.specs.Resumed.{StandsFrom};
 ghost use Rattle.lvdc_machine.specs.Shows.{Shows};
 ghost use Rattle.lvdc_machine.specs.Stands.{Stands};
 ghost use Rattle.lvdc_machine.specs.Steps.{verdict_of, repair_noted, noting, NamesPort, Keeps, IsMade};
@@ -182,7 +185,8 @@ impl Machine {
         requires there { IsThereFor self.now.banks wanted.now }
         ensures verdict { (o : Trial) (v : Voted) (ds : List device.Device) → Shows o self.now ds v → wanted.now ≡ wished o v
             → result ≡ verdict_of self.now.mode o v }
-        ensures right { result ≡ Admissible → self.now.pace ≡ ByTime → two_wrong self.now.script self.now.steps 1 ≡ false }
+        ensures right { result ≡ Admissible → self.now.mode ≡ Guarded → two_wrong self.now.script self.now.steps 1 ≡ false }
+        ensures through { self.now.mode ≡ Through → result ≡ Admissible }
     {
         match self.mode {
             Mode::Guarded => self.found(wanted),
@@ -194,9 +198,11 @@ impl Machine {
     fn make(&mut self, order: &Order, brought: Brought)
         requires begun { self.old.active.last ≡ Some self.old.steps }
         requires left { self.old.steps < 3 * self.old.limit }
-        requires right { self.old.pace ≡ ByTime → two_wrong self.old.script self.old.steps 1 ≡ false }
+        requires right { self.old.mode ≡ Guarded → two_wrong self.old.script self.old.steps 1 ≡ false }
         requires line { IsSome brought.line → MayExchange self.old.pace self.old.steps }
         requires repair { IsSome brought.repair → MayRepair self.old.pace self.old.steps }
+        requires dated { IfSome brought.line (λ line. line.time ≡ self.old.steps / 3) }
+        requires noted { IfSome brought.repair (IsNoted self.old.banks self.old.steps) }
         ensures shows { (o : Trial) (v : Voted) (ds : List device.Device) → Shows o self.old ds v
             → Shows o self.new ds (latches o (noting v brought) brought.memory brought.port) }
         ensures made { IsMade self.old self.new }
@@ -221,7 +227,7 @@ impl Machine {
     fn read(&mut self, order: &Order, at: Address)
         requires begun { self.old.active.last ≡ Some self.old.steps }
         requires left { self.old.steps < 3 * self.old.limit }
-        requires right { self.old.pace ≡ ByTime → two_wrong self.old.script self.old.steps 1 ≡ false }
+        requires right { self.old.mode ≡ Guarded → two_wrong self.old.script self.old.steps 1 ≡ false }
         requires there { is_there self.old.banks at ≡ true }
         requires due { MayRepair self.old.pace self.old.steps }
         ensures shows { (o : Trial) (v : Voted) (ds : List device.Device) → Shows o self.old ds v
@@ -254,7 +260,7 @@ impl Machine {
     fn store(&mut self, order: &Order, at: Address, word: Word)
         requires begun { self.old.active.last ≡ Some self.old.steps }
         requires left { self.old.steps < 3 * self.old.limit }
-        requires right { self.old.pace ≡ ByTime → two_wrong self.old.script self.old.steps 1 ≡ false }
+        requires right { self.old.mode ≡ Guarded → two_wrong self.old.script self.old.steps 1 ≡ false }
         requires there { is_there self.old.banks at ≡ true }
         ensures shows { (o : Trial) (v : Voted) (ds : List device.Device) → Shows o self.old ds v
             → Shows o self.new ds (storing o v at word) }
@@ -273,7 +279,7 @@ impl Machine {
     ) -> Result<(), u8>
         requires begun { self.old.active.last ≡ Some self.old.steps }
         requires left { self.old.steps < 3 * self.old.limit }
-        requires right { self.old.pace ≡ ByTime → two_wrong self.old.script self.old.steps 1 ≡ false }
+        requires right { self.old.mode ≡ Guarded → two_wrong self.old.script self.old.steps 1 ≡ false }
         requires due { MayExchange self.old.pace self.old.steps }
         requires distinct { AreDistinct (map device_of devices.old.items) }
         requires room { HasSpare spare (exchanges_left self.old.pace self.old.steps self.old.limit) devices.old.items }
@@ -321,7 +327,7 @@ impl Machine {
     ) -> Result<(), u8>
         requires begun { self.old.active.last ≡ Some self.old.steps }
         requires left { self.old.steps < 3 * self.old.limit }
-        requires right { self.old.pace ≡ ByTime → two_wrong self.old.script self.old.steps 1 ≡ false }
+        requires right { self.old.mode ≡ Guarded → two_wrong self.old.script self.old.steps 1 ≡ false }
         requires due { MayExchange self.old.pace self.old.steps }
         requires distinct { AreDistinct (map device_of devices.old.items) }
         requires room { HasSpare spare (exchanges_left self.old.pace self.old.steps self.old.limit) devices.old.items }
@@ -368,7 +374,7 @@ impl Machine {
     ) -> Result<(), u8>
         requires begun { self.old.active.last ≡ Some self.old.steps }
         requires left { self.old.steps < 3 * self.old.limit }
-        requires right { self.old.pace ≡ ByTime → two_wrong self.old.script self.old.steps 1 ≡ false }
+        requires right { self.old.mode ≡ Guarded → two_wrong self.old.script self.old.steps 1 ≡ false }
         requires there { IsThereFor self.old.banks wanted }
         requires due { IsDue self.old.pace self.old.steps wanted }
         requires distinct { AreDistinct (map device_of devices.old.items) }
@@ -432,9 +438,12 @@ impl Machine {
         requires left { self.old.steps < 3 * self.old.limit }
         requires distinct { AreDistinct (map device_of devices.old.items) }
         requires room { HasSpare spare (exchanges_left self.old.pace self.old.steps self.old.limit) devices.old.items }
+        ensures resumes { (o : Trial) (first : Voted) (n : ℕ) → StandsFrom o first n self.old (map device_of devices.old.items)
+            → StandsFrom o first (n + 1) self.new (map device_of devices.new.items) }
         ensures stands { (o : Trial) (t : ℕ) → Stands o t self.old (map device_of devices.old.items)
             → Stands o (t + 1) self.new (map device_of devices.new.items) }
         ensures answer { result ≡ self.new.end }
+        ensures through { self.old.mode ≡ Through → (verdict : Verdict) → self.new.end ≢ Some (Inadmissible verdict) }
         ensures keeps { Keeps self.old self.new }
         ensures steps { self.new.steps ≤ self.old.steps + 1 }
         ensures distinct { AreDistinct (map device_of devices.new.items) }

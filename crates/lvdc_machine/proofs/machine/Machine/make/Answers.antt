@@ -1,11 +1,13 @@
 use Rattle.std.proofs.Common.{◌%◌, refl, arith}
-use Rattle.lvdc_machine.proofs.Timer.{stays-in-step}
+use Rattle.lvdc_machine.proofs.Noting.{log-noted, repairs-noted, goes-on}
+use Rattle.lvdc_machine.proofs.Timer.{stays-in-step, stays-in-time}
 use Rattle.lvdc_machine.proofs.Making.{log-room, repair-room, begun-made, ends-made, shows-made}
 use Rattle.lvdc_machine.proofs.machine.Machine.make.Goals as goal
 
 pub invariant_of-self : goal.invariant_of-self
 invariant_of-self c =
     let left = rw (← c.self.view_is) at c.requires.left in
+    let right = rw (← c.self.view_is) at c.requires.right in
     record {
       events = c.self.invariant.events;
       fits = c.self.invariant.fits;
@@ -13,17 +15,26 @@ invariant_of-self c =
       hurts = rw c.step.ensures.room c.self.invariant.hurts;
       differed = c.step.ensures.differed;
       banks = c.self.invariant.banks;
-      log = log-room c.self.inside.pace c.self.inside.steps c.self.inside.limit _ _ _ c.args.brought.line c.self.invariant.log left
+      log = λ own. log-room c.self.inside.pace c.self.inside.steps c.self.inside.limit _ _ _ c.args.brought.line (c.self.invariant.log own) left
           (rw (← c.self.view_is) at c.requires.line) c.log_line.ensures.length c.log_line.ensures.none;
-      log_room = let had = c.self.invariant.log_room in let grown = c.log_line.ensures.capacity in omega arith;
+      log_room = let room = log-room c.self.inside.pace c.self.inside.steps c.self.inside.limit _ _ _ c.args.brought.line c.self.invariant.log_room left
+          (rw (← c.self.view_is) at c.requires.line) c.log_line.ensures.length c.log_line.ensures.none in
+          let grown = c.log_line.ensures.capacity in omega (arith, room, grown);
       repairs = repair-room c.self.inside.pace c.self.inside.steps c.self.inside.limit _ _ _ c.args.brought.repair c.self.invariant.repairs left
           (rw (← c.self.view_is) at c.requires.repair) c.note_repair.ensures.length c.note_repair.ensures.none;
-      repairs_room = let had = c.self.invariant.repairs_room in let grown = c.note_repair.ensures.capacity in omega arith;
+      repairs_room = let room = repair-room c.self.inside.pace c.self.inside.steps c.self.inside.limit _ _ _ c.args.brought.repair c.self.invariant.repairs_room left
+          (rw (← c.self.view_is) at c.requires.repair) c.note_repair.ensures.length c.note_repair.ensures.none in
+          let grown = c.note_repair.ensures.capacity in omega (arith, room, grown);
       steps = omega (arith, left);
       limit = c.self.invariant.limit;
       judges = c.self.invariant.judges;
       phase = rw c.step.ensures.copies (stays-in-step c.self.inside.pace c.self.inside.script c.self.inside.steps c.self.inside.logic.copies
-          c.args.brought.memory c.args.brought.port (rw (← c.self.view_is) at c.requires.right) c.self.invariant.phase);
+          c.args.brought.memory c.args.brought.port (λ own. right (c.self.invariant.judges own)) c.self.invariant.phase);
+      timed = rw c.step.ensures.copies (stays-in-time c.self.inside.mode c.self.inside.script c.self.inside.steps c.self.inside.logic.copies
+          c.args.brought.memory c.args.brought.port right c.self.invariant.timed);
+      going = λ none. rw c.bus-bus.ensures at (goes-on (c.bus-bus.result.exchange.stop % 4) c.self.inside.steps _ c.stop_of-self-inside.ensures none);
+      logged = rw c.log_line.ensures.items (log-noted c.self.inside.steps _ c.args.brought.line (rw (← c.self.view_is) at c.requires.dated) c.self.invariant.logged);
+      noted = rw c.note_repair.ensures.items (repairs-noted c.self.inside.banks c.self.inside.steps _ c.args.brought.repair (rw (← c.self.view_is) at c.requires.noted) c.self.invariant.noted);
     }
 
 pub returns-clause-shows : goal.returns-clause-shows

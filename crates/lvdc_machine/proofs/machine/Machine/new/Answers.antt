@@ -1,8 +1,9 @@
 use Rattle.std.proofs.Common.{ℕ, refl, sym, ap, subst, ◌∙◌, arith}
-use Rattle.lvdc_port.specs.Devices.{HasSpare}
+use Rattle.lvdc_port.specs.Devices.{HasSpare, HoldWords}
 use Rattle.lvdc_machine.specs.declared.mode.Pace.{Pace}
 use Rattle.lvdc_machine.specs.Room.{exchanges_left}
-use Rattle.lvdc_machine.proofs.Starting.{stands-start, nothing-within, starts-in-step, judges-by}
+use Rattle.lvdc_machine.proofs.Starting.{stands-start, nothing-within, starts-in-step, starts-in-time, starts-going, judges-by}
+use Rattle.lvdc_machine.proofs.Noting.{no-log, no-repairs}
 use Rattle.lvdc_machine.proofs.machine.Machine.new.Goals as goal
 
 pub returns-clause-stands : goal.returns-clause-stands
@@ -29,17 +30,28 @@ invariant_of-result g c = record {
   hurts = let room = c.in_ok-logic.ensures.room in omega (arith, room, c.len.ensures);
   differed = c.in_ok-logic.ensures.differed;
   banks = c.in_ok-memory.ensures.banks;
-  log = let none = c.in_ok-log.ensures.len in omega (arith, none);
-  log_room = let had = c.in_ok-log.ensures.capacity in omega (arith, had, c.exchanges-exchanges.ensures);
+  log = λ own. let none = c.in_ok-log.ensures.len in omega (arith, none);
+  log_room = let none = c.in_ok-log.ensures.len in let had = c.in_ok-log.ensures.capacity in omega (arith, none, had, c.exchanges-exchanges.ensures);
   repairs = let none = c.in_ok-repairs.ensures.len in omega (arith, none);
-  repairs_room = let had = c.in_ok-repairs.ensures.capacity in omega (arith, had, c.repairs.ensures);
+  repairs_room = let none = c.in_ok-repairs.ensures.len in let had = c.in_ok-repairs.ensures.capacity in omega (arith, none, had, c.repairs.ensures);
   steps = omega arith;
   limit = c.requires.limit;
   judges = λ e. judges-by c.args.mode (sym c.of-pace.ensures ∙ e);
   phase = rw c.of-pace.ensures (starts-in-step c.args.mode c.args.start _ c.in_ok-logic.ensures.copies);
+  timed = starts-in-time c.args.mode c.args.start _ c.in_ok-logic.ensures.copies;
+  going = λ none. starts-going c.args.start _ c.in_ok-logic.ensures.copies;
+  logged = rw c.in_ok-log.ensures.items (no-log 0);
+  noted = rw c.in_ok-repairs.ensures.items (no-repairs c.args.banks 0);
 }
 
 pub returns-clause-room : goal.returns-clause-room
 returns-clause-room g c =
     subst (λ (n : ℕ). HasSpare (λ b. (goal.PortDevice-dyn g (b.vtable, b.value)).spare b.value) n c.prepare_all.new.devices.items)
     (c.exchanges-exchanges.ensures ∙ ap (λ (p : Pace). exchanges_left p 0 c.args.limit) c.of-pace.ensures) c.in_ok-prepare_all.ensures.ok
+
+pub returns-clause-opening : goal.returns-clause-opening
+returns-clause-opening g c = record {
+  image = c.places_words.ensures;
+  start = c.is_hop_constant.ensures;
+  devices = subst HoldWords c.prepare_all.ensures.devices c.in_ok-prepare_all.ensures.words;
+}

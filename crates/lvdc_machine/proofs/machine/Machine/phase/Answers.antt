@@ -1,10 +1,16 @@
-use Rattle.std.proofs.Common.{◌∙◌}
-use Rattle.lvdc_machine.proofs.Standing.{stands-kept}
+use Rattle.std.proofs.Common.{◌+◌, ◌∙◌}
+use Rattle.lvdc_model.specs.Voted.{voted_start}
+use Rattle.lvdc_machine.proofs.Resuming.{stands-kept}
+use Rattle.lvdc_machine.proofs.Standing.{stands-start, stands-back}
 use Rattle.lvdc_machine.proofs.machine.Machine.phase.Goals as goal
+
+pub returns-in-Some-clause-resumes : goal.returns-in-Some-clause-resumes
+returns-in-Some-clause-resumes g c =
+    λ o r t h. stands-kept o r t 1 _ _ c.in-Some.end (rw (← c.self.view_is) c.in-Some.is) h
 
 pub returns-in-Some-clause-stands : goal.returns-in-Some-clause-stands
 returns-in-Some-clause-stands g c =
-    λ o t h. stands-kept o t 1 _ _ c.in-Some.end (rw (← c.self.view_is) c.in-Some.is) h
+    λ o t h. stands-back o (t + 1) _ _ (returns-in-Some-clause-resumes g c o (voted_start o) t (stands-start o t _ _ h))
 
 pub returns-in-Some-clause-guarded : goal.returns-in-Some-clause-guarded
 returns-in-Some-clause-guarded g c = λ mode o t opens h.

@@ -4,10 +4,16 @@ use Rattle.lvdc_plain.specs.declared.records.Stop.TheVariants as stops
 use Rattle.lvdc_model.specs.Twins.{after_read}
 use Rattle.lvdc_model.specs.declared.outcome.Outcome.TheVariants.{Stopped}
 use Rattle.lvdc_machine.proofs.Arms.{shows-read, shows-lost}
+use Rattle.lvdc_machine.proofs.Noting.{read-noted}
 use Rattle.lvdc_machine.proofs.machine.Machine.read.Goals as goal
 
 pub make-requires-clause-right : goal.make-requires-clause-right
 make-requires-clause-right c = rw (← c.self.view_is) at c.requires.right
+
+pub make-requires-clause-noted : goal.make-requires-clause-noted
+make-requires-clause-noted c =
+    rw c.repair_of-repair.ensures
+    (read-noted _ c.self.inside.steps c.in-Ok.read.repaired c.args.at c.in-Ok.read.switched c.in-Ok.ensures.repaired (rw (← c.self.view_is) at c.requires.there))
 
 pub returns-in-Ok-clause-shows : goal.returns-in-Ok-clause-shows
 returns-in-Ok-clause-shows c = λ o v ds h.

@@ -1,16 +1,26 @@
 use Rattle.std.proofs.Common.{◌+◌, ◌*◌, refl, sym, ◌∙◌, arith, add-zero, rules}
 use Rattle.lvdc_machine.proofs.Blame.{since-start, since-more, caused-since}
 use Rattle.lvdc_machine.proofs.Frames.{keeps-then}
-use Rattle.lvdc_machine.proofs.Standing.{stands-kept, stands-early, stands-next, stands-at}
+use Rattle.lvdc_model.specs.Voted.{voted_start}
+use Rattle.lvdc_machine.proofs.Resuming.{stands-kept, stands-early, stands-next, stands-at}
+use Rattle.lvdc_machine.proofs.Standing.{stands-start, stands-back, stands-times}
 use Rattle.lvdc_machine.proofs.machine.Machine.run.Goals as goal
+
+pub returns-in-Some-clause-resumes : goal.returns-in-Some-clause-resumes
+returns-in-Some-clause-resumes g c =
+    λ o r t h. stands-kept o r t (3 * c.args.times) _ _ c.in-Some.end (rw (← c.self.view_is) c.in-Some.is) h
 
 pub returns-in-Some-clause-stands : goal.returns-in-Some-clause-stands
 returns-in-Some-clause-stands g c =
-    λ o t h. stands-kept o t (3 * c.args.times) _ _ c.in-Some.end (rw (← c.self.view_is) c.in-Some.is) h
+    λ o t h. stands-back o (t + 3 * c.args.times) _ _ (returns-in-Some-clause-resumes g c o (voted_start o) t (stands-start o t _ _ h))
+
+pub returns-in-Some-advance-clause-resumes : goal.returns-in-Some-advance-clause-resumes
+returns-in-Some-advance-clause-resumes g c =
+    λ o r t h. stands-early o r t c.loop-made._made (3 * c.args.times) _ _ _ c.in-Some-advance.ensures.answer c.loop-made-test.true (c.in-Some-advance.ensures.resumes o r (t + c.loop-made._made) (c.loop-made.invariant.resumes o r t h))
 
 pub returns-in-Some-advance-clause-stands : goal.returns-in-Some-advance-clause-stands
 returns-in-Some-advance-clause-stands g c =
-    λ o t h. stands-early o t c.loop-made._made (3 * c.args.times) _ _ _ c.in-Some-advance.ensures.answer c.loop-made-test.true (c.in-Some-advance.ensures.stands o (t + c.loop-made._made) (c.loop-made.invariant.stands o t h))
+    λ o t h. stands-back o (t + 3 * c.args.times) _ _ (returns-in-Some-advance-clause-resumes g c o (voted_start o) t (stands-start o t _ _ h))
 
 pub returns-in-Some-advance-clause-left : goal.returns-in-Some-advance-clause-left
 returns-in-Some-advance-clause-left g c =
@@ -25,7 +35,7 @@ returns-in-Some-advance-clause-keeps g c = keeps-then c.loop-made.invariant.keep
 
 pub loop-made-preserved : goal.loop-made-preserved
 loop-made-preserved g c = record {
-  stands = λ o t h. stands-next o t c.loop-made._made _ _ (c.in_default-advance.ensures.stands o (t + c.loop-made._made) (c.loop-made.invariant.stands o t h));
+  resumes = λ o r t h. stands-next o r t c.loop-made._made _ _ (c.in_default-advance.ensures.resumes o r (t + c.loop-made._made) (c.loop-made.invariant.resumes o r t h));
   running = sym c.in_default-advance.ensures.answer;
   keeps = keeps-then c.loop-made.invariant.keeps c.in_default-advance.ensures.keeps;
   steps = let before = c.loop-made.invariant.steps in let more = c.in_default-advance.ensures.steps in omega arith;
@@ -34,13 +44,17 @@ loop-made-preserved g c = record {
   since = since-more c.loop-made.invariant.since _ c.in_default-advance.ensures.left (rw (← c.in_default-advance.ensures.answer) at c.in_default-advance.ensures.cause);
 }
 
+pub returns-clause-resumes : goal.returns-clause-resumes
+returns-clause-resumes g c =
+    λ o r t h. stands-at o r t c.loop-made._made (3 * c.args.times) _ _ (omega arith) (c.loop-made.invariant.resumes o r t h)
+
 pub returns-clause-stands : goal.returns-clause-stands
 returns-clause-stands g c =
-    λ o t h. stands-at o t c.loop-made._made (3 * c.args.times) _ _ (omega arith) (c.loop-made.invariant.stands o t h)
+    λ o t h. stands-back o (t + 3 * c.args.times) _ _ (returns-clause-resumes g c o (voted_start o) t (stands-start o t _ _ h))
 
 pub loop-made-init : goal.loop-made-init
 loop-made-init g c = record {
-  stands = λ o t h. rw add-zero h;
+  resumes = λ o r t h. rw add-zero h;
   running = search rules;
   keeps = record { banks = refl; script = refl; unplugs = refl; limit = refl; mode = refl; pace = refl };
   steps = omega arith;
@@ -61,3 +75,18 @@ returns-in-Some-advance-clause-guarded g c = λ mode o t opens h.
 pub returns-clause-guarded : goal.returns-clause-guarded
 returns-clause-guarded g c = λ mode o t opens h.
     c.guarded_follows.ensures o _ _ _ opens (c.loop-made.invariant.keeps.mode ∙ mode) (returns-clause-stands g c o t h)
+
+pub returns-in-Some-clause-unhurt : goal.returns-in-Some-clause-unhurt
+returns-in-Some-clause-unhurt g c = λ mode empty o t opens h.
+    c.unhurt_follows.ensures o _ _ _ opens mode empty (stands-times o t c.args.times _ _ (returns-in-Some-clause-stands g c o (3 * t) h))
+
+pub returns-in-Some-advance-clause-unhurt : goal.returns-in-Some-advance-clause-unhurt
+returns-in-Some-advance-clause-unhurt g c = λ mode empty o t opens h.
+    c.unhurt_follows.ensures o _ _ _ opens (c.in-Some-advance.ensures.keeps.mode ∙ c.loop-made.invariant.keeps.mode ∙ mode)
+    (c.in-Some-advance.ensures.keeps.script ∙ c.loop-made.invariant.keeps.script ∙ empty)
+    (stands-times o t c.args.times _ _ (returns-in-Some-advance-clause-stands g c o (3 * t) h))
+
+pub returns-clause-unhurt : goal.returns-clause-unhurt
+returns-clause-unhurt g c = λ mode empty o t opens h.
+    c.unhurt_follows.ensures o _ _ _ opens (c.loop-made.invariant.keeps.mode ∙ mode) (c.loop-made.invariant.keeps.script ∙ empty)
+    (stands-times o t c.args.times _ _ (returns-clause-stands g c o (3 * t) h))

@@ -3,15 +3,16 @@ use Rattle.std.specs.Prelude.{None}
 use Rattle.lvdc_port.specs.Devices.{HasSpare, AreDistinct}
 use Rattle.lvdc_plain.specs.Lists.{Since}
 use Rattle.lvdc_model.specs.Trial.{Trial}
+use Rattle.lvdc_model.specs.Voted.{Voted}
 use Rattle.lvdc_machine.specs.Room.{exchanges_left}
-use Rattle.lvdc_machine.specs.Stands.{Stands}
+use Rattle.lvdc_machine.specs.Resumed.{StandsFrom}
 use Rattle.lvdc_machine.specs.Steps.{Keeps}
 use Rattle.lvdc_machine.proofs.machine.Machine.run.Given as goal
 
 abbrev pub invariant-loop-made : goal.invariant-loop-made
 invariant-loop-made g l = record {
-  stands : (o : Trial) (t : ℕ) → Stands o t l.fn.self (map (λ b. (goal.PortDevice-dyn g (b.vtable, b.value)).device_of b.value) l.fn.devices.items) →
-      Stands o (t + l._made) l.self (map (λ b. (goal.PortDevice-dyn g (b.vtable, b.value)).device_of b.value) l.devices.items);
+  resumes : (o : Trial) (first : Voted) (n : ℕ) → StandsFrom o first n l.fn.self (map (λ b. (goal.PortDevice-dyn g (b.vtable, b.value)).device_of b.value) l.fn.devices.items) →
+      StandsFrom o first (n + l._made) l.self (map (λ b. (goal.PortDevice-dyn g (b.vtable, b.value)).device_of b.value) l.devices.items);
   running : l.self.end ≡ None;
   keeps : Keeps l.fn.self l.self;
   steps : l.self.steps ≤ l.fn.self.steps + l._made;

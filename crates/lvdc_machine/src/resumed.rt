@@ -1,0 +1,141 @@
+//! A machine that goes on from a snapshot.
+
+ghost use Rattle.std.specs.Prelude.{◌≡◌, ℕ, ◌+◌, ◌-◌, ◌*◌, ◌≤◌, ◌<◌, List, All, length, map, IfOk, OnOk, None};
+ghost use Rattle.lvdc_map.specs.Memory.{Memory};
+ghost use Rattle.lvdc_port.specs.Device as device;
+ghost use Rattle.lvdc_port.specs.Devices.{HasSpare, AreDistinct};
+ghost use Rattle.lvdc_fault.specs.Activity.{Fits};
+ghost use Rattle.lvdc_model.specs.Known.{last_made};
+ghost use Rattle.lvdc_model.specs.Trial.{Trial};
+ghost use Rattle.lvdc_model.specs.Twins.{Twins};
+ghost use Rattle.lvdc_model.specs.Voted.{Voted, voted_start};
+ghost use Rattle.lvdc_script.specs.Events.{IsEvent};
+ghost use Rattle.lvdc_memory.specs.Holds.{Holds};
+ghost use Rattle.lvdc_machine.specs.declared.mode.Mode.TheVariants.{Guarded};
+ghost use Rattle.lvdc_machine.specs.declared.mode.Pace.TheVariants.{ByStep};
+ghost use Rattle.lvdc_machine.specs.Resumed.{StandsFrom};
+ghost use Rattle.lvdc_machine.specs.Room.{exchanges_left};
+ghost use Rattle.lvdc_machine.specs.Snapshot.{IsWhole, Means, meant};
+ghost use Rattle.lvdc_machine.specs.Stands.{Stands};
+ghost use Rattle.lvdc_machine.specs.Steps.{run_of};
+ghost use Rattle.lvdc_machine.specs.declared.snapshot.Snapshot.{Snapshot};
+ghost use Rattle.lvdc_machine.specs.View.{View};
+
+use crate::{Machine, Mode, Pace, Snapshot};
+use lvdc_fault::{Active, Script};
+use lvdc_logic::Logic;
+use lvdc_memory::VotedMemory;
+use lvdc_plain::Unplug;
+use lvdc_port::{PortDevice, prepare_all};
+use lvdc_word::NoMemory;
+use std::alloc::Global;
+
+impl Machine {
+    /// A machine that judges and goes on from a snapshot, up to so many instruction times in all. It makes room for all that
+    /// may still be noted and for the devices' words. After a want of memory no device holds anything else than before.
+    pub fn from_snapshot(
+        alloc: Global,
+        snapshot: Snapshot,
+        script: Script,
+        unplugs: Vec<Unplug>,
+        limit: u64,
+        devices: &mut Vec<Box<dyn PortDevice>>,
+    ) -> Result<Machine, NoMemory>
+        requires whole { IsWhole snapshot }
+        requires steps { snapshot.steps ≤ 3 * limit }
+        requires limit { limit ≤ Self.LIMIT }
+        requires few { length script ≤ Self.EVENTS }
+        requires events { All IsEvent script }
+        requires distinct { AreDistinct (map device_of devices.old.items) }
+
+        // It stands where the run from a state begins that the snapshot means, with these devices.
+        ensures stands { IfOk result (λ machine. (o : Trial) (v : Voted) → o.script ≡ script → o.opening.unplugs ≡ unplugs.items
+            → o.opening.banks ≡ snapshot.banks → Means snapshot v → v.devices ≡ map device_of devices.old.items
+            → StandsFrom o v 0 machine (map device_of devices.new.items)) }
+        ensures banks { IfOk result (λ machine. machine.banks ≡ snapshot.banks) }
+        ensures script { IfOk result (λ machine. machine.script ≡ script) }
+        ensures unplugs { IfOk result (λ machine. machine.unplugs ≡ unplugs.items) }
+        ensures limit { IfOk result (λ machine. machine.limit ≡ limit) }
+        ensures mode { IfOk result (λ machine. machine.mode ≡ Guarded) }
+        ensures pace { IfOk result (λ machine. machine.pace ≡ ByStep) }
+        ensures made { IfOk result (λ machine. machine.steps ≡ snapshot.steps) }
+        ensures end { IfOk result (λ machine. machine.end ≡ None) }
+        ensures room { OnOk result (HasSpare spare (exchanges_left ByStep snapshot.steps limit) devices.new.items) }
+
+        // In every case.
+        ensures devices { map device_of devices.new.items ≡ map device_of devices.old.items }
+        ensures faults { map faults devices.new.items ≡ map faults devices.old.items }
+    {
+        let Snapshot {
+            steps,
+            latches,
+            differed,
+            selected,
+            cells,
+            words,
+            log: logged,
+            repairs: noted,
+            banks,
+        } = snapshot;
+        let left = 3 * limit - steps;
+        let mut log = logged.into_vec();
+        log.reserve_exact(left as usize)?;
+        let mut repairs = noted.into_vec();
+        repairs.reserve_exact(left as usize)?;
+        let logic = Logic::from_latches(alloc, latches.items(), differed.items(), script.len())?;
+        let mut active = Active::for_script(alloc, &script)?;
+        let mut memory = VotedMemory::from_cells(
+            alloc,
+            cells.items(),
+            selected.items(),
+            words.items(),
+            banks,
+        )?;
+        put_last_in_force(&script, steps, &mut active, &mut memory);
+        prepare_all(devices, left)?;
+        Ok(Machine {
+            banks,
+            logic,
+            memory,
+            script,
+            active,
+            unplugs,
+            log,
+            repairs,
+            steps,
+            limit,
+            mode: Mode::Guarded,
+            pace: Pace::ByStep,
+            end: None,
+        })
+    }
+}
+
+/// Puts in force what the script sticks and kills in the step before this one, if there is one.
+fn put_last_in_force(script: &Script, steps: u64, active: &mut Active, memory: &mut VotedMemory)
+    requires events { All IsEvent script.now }
+    requires fits { Fits script.now active.old }
+    requires none { active.old.last ≡ None }
+    requires within { All (λ position. position < length script.now) active.old.held }
+    ensures fits { Fits script.now active.new }
+    ensures within { All (λ position. position < length script.now) active.new.held }
+    ensures last { active.new.last ≡ last_made steps }
+    ensures forced { (o : Trial) (t : Twins) (i : Memory) → o.script ≡ script.now → Holds o None memory.old t i
+        → Holds o (last_made steps) memory.new t i }
+    ensures banks { memory.new.twins.banks ≡ memory.old.twins.banks }
+{
+    if steps > 0 {
+        script.active(steps - 1, active);
+        memory.put_in_force(script, active, steps - 1);
+    }
+}
+
+/// A law, which does nothing when it runs. What stands where the run from a state of a trial's run is, stands where that run
+/// is; the run of a trial is that from its start; and each snapshot means a state.
+pub fn resumed_goes_on()
+    ensures on { (o : Trial) (t n : ℕ) (before after : View) (ds left : List device.Device) → Stands o t before ds → before.end ≡ None
+        → after.mode ≡ before.mode → StandsFrom o (run_of before.mode o t) n after left → Stands o (t + n) after left }
+    ensures start { (o : Trial) (t : ℕ) (m : View) (ds : List device.Device) → Stands o t m ds → StandsFrom o (voted_start o) t m ds }
+    ensures back { (o : Trial) (t : ℕ) (m : View) (ds : List device.Device) → StandsFrom o (voted_start o) t m ds → Stands o t m ds }
+    ensures meant { (s : Snapshot) (ds : List device.Device) → Means s (meant s ds) }
+{}
