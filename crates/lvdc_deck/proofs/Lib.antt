@@ -3,4 +3,5 @@ pub mod Left
 pub mod Ends
 pub mod Steps
 pub mod Banked
+pub mod Soaking
 mod Rows

@@ -8,10 +8,11 @@ use Rattle.lvdc_port.specs.declared.device.Kind.TheVariants.{Tape, Latch}
 use Rattle.lvdc_image.specs.Image.{text_of}
 use Rattle.lvdc_image.specs.Reading.{words_from as words_told, entry_in, banks_in, banks_named, image_of}
 use Rattle.lvdc_image.specs.declared.fault.ImageFault.TheVariants.{BadImageLine}
-use Rattle.lvdc_fault.specs.declared.event.Event.TheVariants.{Lag}
+use Rattle.lvdc_fault.specs.declared.event.Event.TheVariants.{Flip, Lag, Damage}
 use Rattle.lvdc_script.specs.Fields.{target_in, span_in, step_in}
 use Rattle.lvdc_script.specs.Orders.{plain_order}
 use Rattle.lvdc_deck.specs.Deck.{sections_from, deck_from, deck_of}
+use Rattle.lvdc_deck.specs.Soak.{seed_of, after_draws, words_drawn, flip_event, damage_event, events_from}
 use Rattle.lvdc_deck.specs.declared.deck.Deck.{Deck}
 use Rattle.lvdc_deck.specs.declared.fault.DeckFault.{DeckFault}
 use Rattle.lvdc_deck.specs.declared.fault.DeckFault.TheVariants.{BadSection, BadLine, NoProgram, NoDevice, CountTooLarge, NotBuilt, Image}
@@ -57,7 +58,7 @@ unfolding after_image meaning devices lines_from words_from sections_from deck_f
 no_run = refl
 
 the_greatest_count : after_image (codes "RUN 1000000" ∷ []) ≡
-    Ok (record { image = record { words = []; start = None; banks = 0 }; start = hop_of 0o16; banks = 0; supplies = []; unplugs = []; script = []; orders = []; voted = None; count = 1000000 })
+    Ok (record { image = record { words = []; start = None; banks = 0 }; start = hop_of 0o16; banks = 0; supplies = []; unplugs = []; script = []; orders = []; count = 1000000 })
 unfolding after_image meaning devices lines_from words_from sections_from deck_from words_told image_of
 the_greatest_count = refl
 
@@ -145,7 +146,6 @@ whole : after_image (codes "START 000000216" ∷ codes "SIMPLEX 0 3" ∷ codes "
       unplugs = record { port = 0o14; time = 3 } ∷ [];
       script = Lag 2 3 0 8 ∷ [];
       orders = reverse plain_order ∷ [];
-      voted = Some 10;
       count = 4;
     })
 unfolding word_in after_image meaning devices lines_from words_from sections_from deck_from words_told image_of target_in span_in step_in
@@ -153,6 +153,43 @@ whole = refl
 
 -- the start constant and the simplex pairs of the image
 from_the_image : meaning (codes "IMAGE" ∷ codes "LVDC 2" ∷ codes "START 000000216" ∷ codes "SIMPLEX 1" ∷ codes "END" ∷ codes "SIMPLEX 0" ∷ codes "RUN 4" ∷ []) ≡
-    Ok (record { image = record { words = []; start = Some (hop_of 0o216); banks = 2 }; start = hop_of 0o216; banks = 3; supplies = []; unplugs = []; script = []; orders = []; voted = None; count = 4 })
+    Ok (record { image = record { words = []; start = Some (hop_of 0o216); banks = 2 }; start = hop_of 0o216; banks = 3; supplies = []; unplugs = []; script = []; orders = []; count = 4 })
 unfolding meaning devices lines_from words_from sections_from deck_from words_told entry_in banks_in banks_named image_of
 from_the_image = refl
+
+-- ---- soak runs
+
+-- the five words of the image of number 1
+words_of_1 : words_drawn 5 (seed_of 1) ≡ 0o007063752 ∷ 0o131765416 ∷ 0o236017111 ∷ 0o021534663 ∷ 0o345136763 ∷ []
+unfolding words_drawn
+words_of_1 = refl
+
+-- and its first events
+events_of_1 : events_from 2 0 (after_draws 5 (seed_of 1)) ≡
+    Flip 1 1 0 0 0 0o127733511 ∷ Damage 0 (record { pair = 0; sector = 0; loc = 0 }) 146 0o20
+    ∷ Flip 2 1 292 292 0 0o163735344 ∷ Damage 0 (record { pair = 0; sector = 0; loc = 1 }) 438 0o2000000 ∷ []
+unfolding after_draws events_from
+events_of_1 = refl
+
+words_of_0 : words_drawn 5 (seed_of 0) ≡ 0o000001403 ∷ 0o117340547 ∷ 0o234041175 ∷ 0o131450702 ∷ 0o066524557 ∷ []
+unfolding words_drawn
+words_of_0 = refl
+
+-- the greatest number is one more than 2 ^ 31 times 1 and what is left
+the_greatest_number : seed_of 4294967295 ≡ seed_of 2147483647
+the_greatest_number = refl
+
+-- the last pair of events, at the least words that a draw can give: a mask has a bit at least
+the_last_flip : flip_event 2047 0 ≡ Flip 4 2 597724 597724 0 1
+the_last_flip = refl
+
+the_last_damage : damage_event 2047 0 ≡ Damage 0 (record { pair = 0; sector = 0; loc = 7 }) 597870 1
+the_last_damage = refl
+
+-- after a round of the twenty words the other twin has its turn
+the_other_twin : damage_event 39 27 ≡ Damage 1 (record { pair = 0; sector = 1; loc = 6 }) 11534 0o1000000000
+the_other_twin = refl
+
+-- the greatest word draws the least mask
+the_greatest_word : flip_event 0 0o377777777 ≡ Flip 1 1 0 0 0 1
+the_greatest_word = refl

@@ -57,7 +57,6 @@ made_of (Ok image) s count =
       unplugs = s.unplugs;
       script = s.script;
       orders = s.orders;
-      voted = s.voted;
       count = count;
     })
 

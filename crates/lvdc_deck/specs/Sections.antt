@@ -2,7 +2,6 @@
 use Rattle.std.specs.Prelude.{◌≡◌, ◌≢◌, ℕ, ◌+◌, ◌^◌, ◌-◌, nat_lt, nat_le, Bool, true, false, ◌&&◌, ◌||◌, ◌==◌, List, [], ◌∷◌, ◌++◌, map, length, codes, if◌then◌else◌, Result, Ok, Err}
 use Rattle.std.specs.List.{list_all, list_any}
 use Rattle.std.specs.Str.{bytes_eq}
-use Rattle.std.specs.Option.{option_or}
 use Rattle.std.specs.declared.option.Option.{Option}
 use Rattle.std.specs.declared.option.Option.TheVariants.{None, Some}
 use Rattle.lvdc_map.specs.Hop.{HopConstant, hop_of}
@@ -22,8 +21,7 @@ use Rattle.lvdc_deck.specs.declared.section.Section.{Section}
 use Rattle.lvdc_deck.specs.declared.section.Section.TheVariants.{Program, Start, Simplex, Ports, Faults, Order, Run, Debug}
 
 -- what the sections have said so far: the section in force, START's constant, SIMPLEX's pairs as a bit each, the words
--- for tapes and the unplug lines in their order, the events of FAULTS, the orders of ORDER, the line of the first of these
--- two sections, and RUN's count
+-- for tapes and the unplug lines in their order, the events of FAULTS, the orders of ORDER, and RUN's count
 pub record Sections : Type 0 where
   pub section : Section
   pub start : Option HopConstant
@@ -32,7 +30,6 @@ pub record Sections : Type 0 where
   pub unplugs : List Unplug
   pub script : List Event
   pub orders : List (List ℕ)
-  pub voted : Option ℕ
   pub count : Option ℕ
 
 -- before any section
@@ -46,7 +43,6 @@ nothing_said =
       unplugs = [];
       script = [];
       orders = [];
-      voted = None;
       count = None;
     }
 
@@ -161,12 +157,12 @@ ports_line s number tokens = Err (BadLine number)
 
 -- FAULTS alone
 abbrev pub faults_line : Sections → ℕ → List (List ℕ) → Result Sections DeckFault
-faults_line s number [] = Ok (record s { section = Faults; voted = Some number })
+faults_line s number [] = Ok (record s { section = Faults })
 faults_line s number tokens = Err (BadLine number)
 
 -- ORDER alone
 abbrev pub order_line : Sections → ℕ → List (List ℕ) → Result Sections DeckFault
-order_line s number [] = Ok (record s { section = Order; voted = option_or s.voted (Some number) })
+order_line s number [] = Ok (record s { section = Order })
 order_line s number tokens = Err (BadLine number)
 
 -- RUN's count, where it has its form, up to 1,000,000

@@ -22,9 +22,6 @@ pub struct Deck {
     pub script: Script,
     /// The orders of the ORDER lines; without one the order A to U.
     pub orders: Orders,
-    /// The line of FAULTS or ORDER, the first of the two. Both ask for the voted machine, which isn't joined to the top
-    /// call yet.
-    pub voted: Option<u32>,
     /// The instruction times asked for, at most 1,000,000.
     pub count: u64,
 }

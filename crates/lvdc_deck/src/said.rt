@@ -3,12 +3,12 @@ ghost use Rattle.lvdc_map.specs.Memory.{are_rising, AllThere};
 ghost use Rattle.lvdc_text.specs.Lines.{IsWithin, part_of, word_texts_of};
 ghost use Rattle.lvdc_script.specs.Events.{IsEvent};
 ghost use Rattle.lvdc_script.specs.Lines.{fault_in, order_in};
-ghost use Rattle.lvdc_deck.specs.Sections.{nothing_said, start_line, simplex_line, ports_line, faults_line, order_line, run_line, opens, in_order, is_unplugged, kind_left, tape_line, unplug_line, port_line, with_event, with_order, belongs, by_word, by_tokens, after_line, Makes};
+ghost use Rattle.lvdc_deck.specs.Sections.{nothing_said, start_line, simplex_line, ports_line, faults_line, order_line, run_line, opens, in_order, with_event, with_order, belongs, by_word, by_tokens, after_line, Makes};
 ghost use Rattle.lvdc_deck.specs.Deck.{sections_from, with_program};
 ghost use Rattle.lvdc_deck.specs.declared.fault.DeckFault.TheVariants.{NoMemory as WantsMemory};
 
 use crate::banks::in_either;
-use crate::fields::{MOST_TIMES, pairs_in, port_in, supplies_in, time_in};
+use crate::fields::{MOST_TIMES, pairs_in};
 use crate::layout::{is_long, is_skipped, section_of};
 use crate::section::Section;
 use crate::{Deck, DeckFault};
@@ -16,7 +16,7 @@ use lvdc_fault::Script;
 use lvdc_image::{ImageFault, read_image};
 use lvdc_map::{Banks, Hop};
 use lvdc_plain::Unplug;
-use lvdc_port::{Kind, PortDevice, Supply, kind_at};
+use lvdc_port::{PortDevice, Supply};
 use lvdc_script::{Orders, read_fault, read_order};
 use lvdc_text::{Line, decimal, octal_word, part, tokens};
 use lvdc_word::{Seq, Word};
@@ -32,11 +32,10 @@ pub(crate) struct Said {
     section: Section,
     start: Option<Hop>,
     simplex: Banks,
-    supplies: Vec<Supply>,
-    unplugs: Vec<Unplug>,
+    pub(crate) supplies: Vec<Supply>,
+    pub(crate) unplugs: Vec<Unplug>,
     script: Script,
     orders: Orders,
-    voted: Option<u32>,
     count: Option<u64>,
 }
 
@@ -55,7 +54,6 @@ impl Model for Said {
       unplugs = s.unplugs.items;
       script = s.script;
       orders = s.orders;
-      voted = s.voted;
       count = s.count;
     } };
 
@@ -75,7 +73,6 @@ impl Said {
             unplugs: Vec::new(alloc),
             script: Script::new(alloc),
             orders: Orders::plain(),
-            voted: None,
             count: None,
         }
     }
@@ -127,7 +124,6 @@ impl Said {
             return Err(DeckFault::BadLine(number));
         }
         self.section = Section::Faults;
-        self.voted = Some(number);
         Ok(())
     }
 
@@ -138,7 +134,6 @@ impl Said {
             return Err(DeckFault::BadLine(number));
         }
         self.section = Section::Order;
-        self.voted = self.voted.or(Some(number));
         Ok(())
     }
 
@@ -182,102 +177,6 @@ impl Said {
             Section::Order => self.order_line(number, text, tokens),
             Section::Run => self.run_line(number, text, tokens),
             _ => Err(DeckFault::BadLine(number)),
-        }
-    }
-
-    /// Has an earlier line unplugged this port?
-    fn is_unplugged(&self, port: u8) -> bool
-        ensures { result ≡ is_unplugged self.now port }
-    {
-        self.unplugs.iter().any(|line| line.port == port)
-    }
-
-    /// The kind of the device that is left at this port.
-    fn kind_left(&self, devices: &Vec<Box<dyn PortDevice>>, port: u8) -> Option<Kind>
-        ensures { result ≡ kind_left (map device_of devices.now.items) self.now port }
-    {
-        if self.is_unplugged(port) {
-            None
-        } else {
-            kind_at(devices, port)
-        }
-    }
-
-    fn tape_line(
-        &mut self,
-        alloc: Global,
-        devices: &Vec<Box<dyn PortDevice>>,
-        number: u32,
-        text: &[u8],
-        tokens: &[Line],
-    ) -> Result<(), DeckFault>
-        requires { All (IsWithin text.now) tokens.now }
-        ensures { Makes result self.new (tape_line (map device_of devices.now.items) self.old number (map (part_of text.now) tokens.now)) }
-    {
-        let [first, words @ ..] = tokens else {
-            return Err(DeckFault::BadLine(number));
-        };
-        if words.is_empty() {
-            return Err(DeckFault::BadLine(number));
-        }
-        let Some(port) = port_in(part(text, first)) else {
-            return Err(DeckFault::BadLine(number));
-        };
-        let Some(supplies) = supplies_in(alloc, port, text, words)? else {
-            return Err(DeckFault::BadLine(number));
-        };
-        if self.kind_left(devices, port) != Some(Kind::Tape) {
-            return Err(DeckFault::NoDevice(number));
-        }
-        self.supplies.extend_from_slice(supplies.as_slice())?;
-        Ok(())
-    }
-
-    fn unplug_line(
-        &mut self,
-        devices: &Vec<Box<dyn PortDevice>>,
-        number: u32,
-        text: &[u8],
-        tokens: &[Line],
-    ) -> Result<(), DeckFault>
-        requires { All (IsWithin text.now) tokens.now }
-        ensures { Makes result self.new (unplug_line (map device_of devices.now.items) self.old number (map (part_of text.now) tokens.now)) }
-    {
-        let [first, second] = tokens else {
-            return Err(DeckFault::BadLine(number));
-        };
-        let Some(port) = port_in(part(text, first)) else {
-            return Err(DeckFault::BadLine(number));
-        };
-        let Some(time) = time_in(part(text, second)) else {
-            return Err(DeckFault::BadLine(number));
-        };
-        if self.kind_left(devices, port).is_none() {
-            return Err(DeckFault::NoDevice(number));
-        }
-        self.unplugs.push(Unplug { port, time })?;
-        Ok(())
-    }
-
-    /// Takes a line of PORTS, with this first word.
-    fn port_line(
-        &mut self,
-        alloc: Global,
-        devices: &Vec<Box<dyn PortDevice>>,
-        number: u32,
-        first: &[u8],
-        text: &[u8],
-        tokens: &[Line],
-    ) -> Result<(), DeckFault>
-        requires { All (IsWithin text.now) tokens.now }
-        ensures { Makes result self.new (port_line (map device_of devices.now.items) self.old number first.now (map (part_of text.now) tokens.now)) }
-    {
-        if first == b"TAPE".as_slice() {
-            self.tape_line(alloc, devices, number, text, tokens)
-        } else if first == b"UNPLUG".as_slice() {
-            self.unplug_line(devices, number, text, tokens)
-        } else {
-            Err(DeckFault::BadLine(number))
         }
     }
 
@@ -441,7 +340,6 @@ impl Said {
             unplugs: Seq::from_vec(self.unplugs),
             script: self.script,
             orders: self.orders,
-            voted: self.voted,
             count,
         })
     }

@@ -1,9 +1,10 @@
-use crate::{Deck, DeckFault, read_deck};
+use crate::{Deck, DeckFault, read_deck, soak_deck};
+use lvdc_fault::Event;
 use lvdc_image::ImageFault;
-use lvdc_map::{Banks, Hop};
+use lvdc_map::{Address, Banks, Hop};
 use lvdc_plain::Unplug;
 use lvdc_port::{Latch, PortDevice, Supply, Tape};
-use lvdc_word::Word;
+use lvdc_word::{Cell, Word};
 use std::alloc::Global;
 use std::test::Fail;
 
@@ -70,7 +71,6 @@ fn sections_are_kept_in_a_deck(rt: HostRuntime) -> Result<(), Fail> {
     );
     assert_eq!(rt; (deck.script.len(), deck.orders.count()), (1, 1));
     assert_eq!(rt; deck.orders.at_step(2).at(0), 20);
-    assert_eq!(rt; deck.voted, Some(10));
     assert_eq!(rt; deck.count, 4);
     Ok(())
 }
@@ -105,6 +105,25 @@ fn events_and_orders_have_their_limits(rt: HostRuntime) -> Result<(), Fail> {
 }
 
 #[test]
+fn sixteen_orders_take_turns(rt: HostRuntime) -> Result<(), Fail> {
+    let alloc = rt.alloc();
+    let mut text = Vec::from_slice(alloc, b"IMAGE\nLVDC 1\nEND\nORDER\n")?;
+    for line in 0..16u8 {
+        for place in 0..21u8 {
+            text.push(b'A' + (line + place) % 21)?;
+        }
+        text.push(b'\n')?;
+    }
+    text.extend_from_slice(b"RUN 1\n")?;
+    let deck = deck(alloc, text.as_slice())??;
+    assert_eq!(rt; deck.orders.count(), 16);
+    for step in 0..48u64 {
+        assert_eq!(rt; u64::from(deck.orders.at_step(step).at(0)), step % 16);
+    }
+    Ok(())
+}
+
+#[test]
 fn without_start_the_image_says_where_to_start(rt: HostRuntime) -> Result<(), Fail> {
     let one = deck(rt.alloc(), b"IMAGE\nLVDC 1\nEND\nRUN 0\n")??;
     assert_eq!(rt; one.start, Hop::of(Word::within(0o16)));
@@ -114,5 +133,39 @@ fn without_start_the_image_says_where_to_start(rt: HostRuntime) -> Result<(), Fa
     )??;
     assert_eq!(rt; two.start, Hop::of(Word::within(0o216)));
     assert_eq!(rt; Some(two.banks), Banks::new(3));
+    Ok(())
+}
+
+#[test]
+fn a_soak_deck_is_drawn_from_its_number(rt: HostRuntime) -> Result<(), Fail> {
+    for (number, first, mask) in [
+        (0, 0o000001403, 0o1000000000),
+        (1, 0o007063752, 0o200),
+        (u32::MAX, 0o370717034, 0o100000),
+    ] {
+        let deck = soak_deck(rt.alloc(), number)?;
+        assert_eq!(rt; deck.image.words().len(), 18);
+        assert_eq!(rt; deck.image.words()[12].word, Word::within(0o10000));
+        assert_eq!(rt; deck.image.words()[13].word, Word::within(first));
+        assert_eq!(rt;
+            deck.image.words()[17].at,
+            Address::new(0, 1, 4).ok_or("an address")?
+        );
+        assert_eq!(rt; deck.start, Hop::of(Word::within(0o16)));
+        assert_eq!(rt;
+            (deck.supplies.items().len(), deck.unplugs.items().len()),
+            (0, 0)
+        );
+        assert_eq!(rt; (deck.script.len(), deck.count), (4096, 200_000));
+        assert_eq!(rt;
+            deck.script.event(4095),
+            &Event::Damage {
+                twin: 0,
+                at: Address::new(0, 0, 7).ok_or("an address")?,
+                step: 597_870,
+                mask: Cell::within(mask),
+            }
+        );
+    }
     Ok(())
 }
