@@ -1,4 +1,9 @@
+pub mod Counts
+pub mod Told
+pub mod Statuses
+pub mod PlainRuns
+pub mod VotedRuns
+pub mod Making
+pub mod Refusals
 pub mod Due
 pub mod Ends
-pub mod Runs
-pub mod Refusals

@@ -1,8 +1,9 @@
 -- How long a refusal is, and the reply that it is.
 use Rattle.std.proofs.Common.{◌≡◌, ℕ, ◌≤◌, List, length, map, Err, refl, sym, subst, arith}
 use Rattle.lvdc_port.specs.Device.{Device}
-use Rattle.lvdc_cli.specs.declared.command.Command.{Command}
-use Rattle.lvdc_cli.specs.Answer.{Answer, answer_with, refused_answer, deck_for}
+use Rattle.lvdc_cli.specs.declared.command.Engine.{Engine}
+use Rattle.lvdc_deck.specs.Deck.{deck_of}
+use Rattle.lvdc_cli.specs.Answer.{Answer, answer_with, refused_answer}
 use Rattle.lvdc_cli.specs.Top.{IsReply, refused}
 use Rattle.lvdc_image.specs.declared.fault.ImageFault.{ImageFault}
 use Rattle.lvdc_image.specs.declared.fault.ImageFault.TheVariants as image
@@ -28,10 +29,10 @@ length-cause_of (NotBuilt line) = omega arith
 length-cause_of (Image fault) = length-image_cause fault
 
 -- the reply to a refused deck, by its parts
-pub refused_by : {B : Type 0} (device_of : B → Device) (faults : B → ℕ) (command : Command) (bytes : List ℕ) (old : List B) (fault : DeckFault) (status : ℕ) (text : List ℕ)
-    → deck_for command bytes (map device_of old) ≡ Err fault → status ≡ refusal_status fault → text ≡ refusal_text fault
-    → IsReply device_of faults command bytes old old (answer_with status text (map device_of old))
-refused_by device_of faults command bytes old fault status text means s t =
+pub refused_by : {B : Type 0} (device_of : B → Device) (faults : B → ℕ) (engine : Engine) (bytes : List ℕ) (old : List B) (fault : DeckFault) (status : ℕ) (text : List ℕ)
+    → deck_of bytes (map device_of old) ≡ Err fault → status ≡ refusal_status fault → text ≡ refusal_text fault
+    → IsReply device_of faults engine bytes old old (answer_with status text (map device_of old))
+refused_by device_of faults engine bytes old fault status text means s t =
     let same : refused_answer (map device_of old) fault ≡ answer_with status text (map device_of old) = λ i. answer_with (sym s i) (sym t i) (map device_of old) in
-    let P : Answer → Type 0 = λ a. IsReply device_of faults command bytes old old a in
+    let P : Answer → Type 0 = λ a. IsReply device_of faults engine bytes old old a in
     subst P same (refused fault means refl)

@@ -1,18 +1,52 @@
 -- Which lists of words are command lines.
-use Rattle.std.specs.Prelude.{ℕ, ◌&&◌, List, [], ◌∷◌, map, codes, if◌then◌else◌, String, string_bytes}
+use Rattle.std.specs.Prelude.{ℕ, ◌&&◌, ◌^◌, Bool, true, false, List, [], ◌∷◌, map, codes, if◌then◌else◌, String, string_bytes}
 use Rattle.std.specs.Global.{Global}
 use Rattle.std.specs.Str.{bytes_eq}
 use Rattle.std.specs.declared.option.Option.{Option}
 use Rattle.std.specs.declared.option.Option.TheVariants.{None, Some}
+use Rattle.lvdc_text.specs.Numbers.{number_of, below}
 use Rattle.lvdc_cli.specs.declared.command.Command.{Command}
-use Rattle.lvdc_cli.specs.declared.command.Command.TheVariants.{Run, RunPlain}
+use Rattle.lvdc_cli.specs.declared.command.Command.TheVariants.{Run, Soak}
+use Rattle.lvdc_cli.specs.declared.command.Engine.{Engine}
+use Rattle.lvdc_cli.specs.declared.command.Engine.TheVariants.{Guarded, Through, Plain}
 
 -- the bytes of the words
 abbrev pub texts : List (String Global) → List (List ℕ)
 texts words = map string_bytes words
 
--- `run` and `run --plain`, and nothing else yet
+-- is it this word?
+abbrev pub is : List ℕ → List ℕ → Bool
+is name word = bytes_eq word name
+
+-- the engine that a flag of `run` names
+abbrev pub flagged : List ℕ → Option Command
+flagged flag =
+    if is (codes "--plain") flag then Some (Run Plain)
+    else (if is (codes "--through") flag then Some (Run Through) else None)
+
+-- the number of a soak run, where it is one
+abbrev pub soaked_by : Option ℕ → Option Command
+soaked_by None = None
+soaked_by (Some number) = Some (Soak number)
+
+-- one to ten decimal digits below 2 ^ 32
+unfoldable pub soak_number : List ℕ → Option ℕ
+soak_number word = below (2 ^ 32) (number_of 10 10 word)
+
+-- what two words ask for
+abbrev pub of_two : List ℕ → List ℕ → Option Command
+of_two first second =
+    if is (codes "run") first then flagged second
+    else (if is (codes "soak") first then soaked_by (soak_number second) else None)
+
+-- `run`, `run --plain`, `run --through` and `soak` with a number
 abbrev pub command_of : List (List ℕ) → Option Command
-command_of (first ∷ []) = if bytes_eq first (codes "run") then Some Run else None
-command_of (first ∷ second ∷ []) = if bytes_eq first (codes "run") && bytes_eq second (codes "--plain") then Some RunPlain else None
+command_of (first ∷ []) = if is (codes "run") first then Some (Run Guarded) else None
+command_of (first ∷ second ∷ []) = of_two first second
 command_of words = None
+
+-- a deck is read for `run` alone
+abbrev pub reads : Option Command → Bool
+reads None = false
+reads (Some (Run engine)) = true
+reads (Some (Soak number)) = false

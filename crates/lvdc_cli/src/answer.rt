@@ -1,16 +1,23 @@
-ghost use Rattle.std.specs.Prelude.{◌≡◌, ◌<◌, ◌≤◌, ◌≢◌, ◌+◌, ◌⊎◌, length, map, IsSome, None, Some, List, ℕ};
+ghost use Rattle.std.specs.Prelude.{◌≡◌, ◌<◌, ◌≤◌, ◌≢◌, ◌+◌, ◌⊎◌, true, false, length, map, IsSome, None, Some, Ok, List, ℕ};
 ghost use Rattle.std.specs.Io.KnownBytes.{Appends, Keeps, IsAtEnd};
 ghost use Rattle.lvdc_text.specs.Causes.{Rose};
 ghost use Rattle.lvdc_text.specs.Room.{HasRoom};
 ghost use Rattle.lvdc_text.specs.Transfer.{TookCount, TookAtMost};
 ghost use Rattle.lvdc_port.specs.Devices.{AreDistinct};
-ghost use Rattle.lvdc_cli.specs.Words.{texts, command_of};
+ghost use Rattle.lvdc_deck.specs.Deck.{deck_of};
+ghost use Rattle.lvdc_deck.specs.declared.deck.Deck.{Deck};
+ghost use Rattle.lvdc_cli.specs.Words.{texts, command_of, reads};
 ghost use Rattle.lvdc_cli.specs.Texts.{usage_text, read_fault_text, too_long_text};
-ghost use Rattle.lvdc_cli.specs.Answer.{answer, answer_with};
+ghost use Rattle.lvdc_cli.specs.Answer.{answer, answer_with, trial_of};
+ghost use Rattle.lvdc_cli.specs.Headline.{Headline};
+ghost use Rattle.lvdc_cli.specs.Runs.{Judges, Stops, Has};
+ghost use Rattle.lvdc_cli.specs.declared.command.Command.TheVariants.{Run};
+ghost use Rattle.lvdc_cli.specs.declared.command.Engine.TheVariants.{Guarded};
 ghost use Rattle.lvdc_cli.specs.Top.{Quiet, IsAbandoned, IsEnd, IsTold, IsCut, IsUnhindered, IsRefusal, HasFailed};
 
-use crate::command::read_command;
+use crate::command::{Command, Engine, read_command};
 use crate::reply::make_reply;
+use crate::runs::soak;
 use crate::{LIMIT, ROOM};
 use lvdc_port::PortDevice;
 use lvdc_text::{ReadEnd, Sink, Source, read_all, write_all};
@@ -30,7 +37,32 @@ fn tell<K: Sink>(sink: &mut K, status: u8, text: &[u8]) -> u8
     }
 }
 
-/// Reads what the command asks for, and writes the answer that is due.
+/// Reads a deck, runs it and writes the answer that is due.
+fn run<S: Source, K: Sink>(
+    alloc: Global,
+    engine: Engine,
+    source: &mut S,
+    sink: &mut K,
+    devices: &mut Vec<Box<dyn PortDevice>>,
+) -> u8
+    requires room { HasRoom (K.room sink.old) ROOM }
+    requires distinct { AreDistinct (map device_of devices.old.items) }
+    ensures { (words : List (List ℕ)) → command_of words ≡ Some (Run engine)
+        → IsEnd device_of faults words (S.left source.old) (S.left source.new) (S.read_faults source.old) (S.read_faults source.new)
+        (K.written sink.old) (K.written sink.new) (K.write_faults sink.old) (K.write_faults sink.new) devices.old.items devices.new.items result }
+{
+    match read_all(alloc, source, LIMIT) {
+        Ok(bytes) => match make_reply(alloc, engine, bytes.as_slice(), devices) {
+            Ok(reply) => tell(sink, reply.status, reply.text.as_slice()),
+            Err(_) => 9,
+        },
+        Err(ReadEnd::TooLong) => tell(sink, 11, b"REFUSED TooLong\n"),
+        Err(ReadEnd::ReadFault) => tell(sink, 7, b"REFUSED ReadFault\n"),
+        Err(ReadEnd::NoMemory) => 9,
+    }
+}
+
+/// Does what the command asks for, and writes the answer that is due.
 fn serve<S: Source, K: Sink>(
     alloc: Global,
     words: &[String],
@@ -42,19 +74,15 @@ fn serve<S: Source, K: Sink>(
     requires distinct { AreDistinct (map device_of devices.old.items) }
     ensures ends { IsEnd device_of faults (texts words.now) (S.left source.old) (S.left source.new) (S.read_faults source.old) (S.read_faults source.new)
         (K.written sink.old) (K.written sink.new) (K.write_faults sink.old) (K.write_faults sink.new) devices.old.items devices.new.items result }
-    ensures unread { command_of (texts words.now) ≡ None → source.new ≡ source.old }
+    ensures unread { reads (command_of (texts words.now)) ≡ false → source.new ≡ source.old }
 {
-    let Some(command) = read_command(words) else {
-        return tell(sink, 1, USAGE);
-    };
-    match read_all(alloc, source, LIMIT) {
-        Ok(bytes) => match make_reply(alloc, command, bytes.as_slice(), devices) {
-            Ok(reply) => tell(sink, reply.status, reply.text.as_slice()),
+    match read_command(words) {
+        None => tell(sink, 1, USAGE),
+        Some(Command::Run(engine)) => run(alloc, engine, source, sink, devices),
+        Some(Command::Soak(number)) => match soak(alloc, number, devices) {
+            Ok(summary) => tell(sink, summary.status, summary.text.as_slice()),
             Err(_) => 9,
         },
-        Err(ReadEnd::TooLong) => tell(sink, 11, b"REFUSED TooLong\n"),
-        Err(ReadEnd::ReadFault) => tell(sink, 7, b"REFUSED ReadFault\n"),
-        Err(ReadEnd::NoMemory) => 9,
     }
 }
 
@@ -76,14 +104,35 @@ pub fn lvdc<S: Source, K: Sink>(
         × Appends (K.written sink.old) (K.written sink.new) (answer (texts words.now) bytes (map device_of devices.old.items)).text
         × (map device_of devices.new.items ≡ (answer (texts words.now) bytes (map device_of devices.old.items)).devices) }
 
-    // 1: exactly where the words are no command. The source is not read.
+    // The headline: for a deck that `run` accepts, whatever the order of its copies, where nothing fails. As long as the script
+    // stays admissible ports, registers, recoverable words and devices are those of the fault-free instruction table; the first
+    // inadmissible step is named after that same run so far.
+    ensures headline { (bytes : List ℕ) (deck : Deck) → S.left source.old ≡ Some bytes → command_of (texts words.now) ≡ Some (Run Guarded)
+        → deck_of bytes (map device_of devices.old.items) ≡ Ok deck → length bytes ≤ LIMIT → IsUnhindered result
+        → Headline (trial_of (map device_of devices.old.items) deck) deck.count
+        (K.written sink.old) (K.written sink.new) (map device_of devices.new.items) }
+
+    // 1: exactly where the words are no command. The source is not read, nor for a soak run.
     ensures usage { command_of (texts words.now) ≡ None → IsTold (K.written sink.old) (K.written sink.new)
         (K.write_faults sink.old) (K.write_faults sink.new) 1 usage_text result }
     ensures usage_only { result ≡ 1 → command_of (texts words.now) ≡ None }
-    ensures unread { command_of (texts words.now) ≡ None → source.new ≡ source.old }
+    ensures unread { reads (command_of (texts words.now)) ≡ false → source.new ≡ source.old }
 
-    // 0, 2, 4, 6 and 10: the source was read to its end.
-    ensures read { (result ≢ 1) → (result ≢ 7) → (result ≢ 8) → (result ≢ 9) → (result ≢ 11) → IsAtEnd (S.left source.new) }
+    // 0, 2, 4, 5, 6 and 10: for a command that reads, the source was read to its end.
+    ensures read { reads (command_of (texts words.now)) ≡ true → (result ≢ 7) → (result ≢ 8) → (result ≢ 9) → (result ≢ 11)
+        → IsAtEnd (S.left source.new) }
+
+    // 5: exactly where the command judges the script, and finds a step that isn't admissible.
+    ensures inadmissible { (bytes : List ℕ) → S.left source.old ≡ Some bytes → result ≡ 5
+        → Has Judges (command_of (texts words.now)) bytes (map device_of devices.old.items) }
+    ensures inadmissible_always { (bytes : List ℕ) → S.left source.old ≡ Some bytes → length bytes ≤ LIMIT → IsUnhindered result
+        → Has Judges (command_of (texts words.now)) bytes (map device_of devices.old.items) → result ≡ 5 }
+
+    // 6: exactly where the command's run stops, which for a command that judges is one without such a step.
+    ensures stopped { (bytes : List ℕ) → S.left source.old ≡ Some bytes → result ≡ 6
+        → Has Stops (command_of (texts words.now)) bytes (map device_of devices.old.items) }
+    ensures stopped_always { (bytes : List ℕ) → S.left source.old ≡ Some bytes → length bytes ≤ LIMIT → IsUnhindered result
+        → Has Stops (command_of (texts words.now)) bytes (map device_of devices.old.items) → result ≡ 6 }
 
     // 7: only where the source's count rose, and always where it grew.
     ensures read_fault { result ≡ 7 → Rose (S.read_faults source.old) (S.read_faults source.new)
@@ -114,7 +163,7 @@ pub fn lvdc<S: Source, K: Sink>(
     // 11: exactly where one byte more than the limit was taken.
     ensures too_long { result ≡ 11 → TookCount (S.left source.old) (S.left source.new) (LIMIT + 1)
         × Appends (K.written sink.old) (K.written sink.new) too_long_text }
-    ensures too_long_always { IsSome (S.left source.old) → IsSome (command_of (texts words.now)) →
+    ensures too_long_always { IsSome (S.left source.old) → reads (command_of (texts words.now)) ≡ true →
         TookCount (S.left source.old) (S.left source.new) (LIMIT + 1) → (result ≡ 11) ⊎ (result ≡ 8) }
 
     // A refusal leaves the devices: they are the same objects as before.

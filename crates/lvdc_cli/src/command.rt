@@ -1,16 +1,62 @@
-ghost use Rattle.std.specs.Prelude.{◌≡◌};
-ghost use Rattle.lvdc_cli.specs.Answer.{title_of};
-ghost use Rattle.lvdc_cli.specs.Words.{texts, command_of};
+ghost use Rattle.std.specs.Prelude.{◌≡◌, string_bytes};
+ghost use Rattle.lvdc_cli.specs.Words.{texts, flagged, soak_number, of_two, command_of};
 
-use lvdc_report::Title;
+use lvdc_text::decimal;
+
+/// Which machine runs a deck.
+#[derive(Clone, Copy, Debug, PartialEq, Eq)]
+pub enum Engine {
+    /// The voted machine, up to the first inadmissible step.
+    Guarded,
+    /// The voted machine, through every fault.
+    Through,
+    /// The plain machine, which knows no script.
+    Plain,
+}
 
 /// What is asked for.
 #[derive(Clone, Copy, Debug, PartialEq, Eq)]
 pub enum Command {
-    /// `run`
-    Run,
-    /// `run --plain`
-    RunPlain,
+    /// `run`, `run --through` and `run --plain`: reads a deck and runs it.
+    Run(Engine),
+    /// `soak` with a number: runs the deck that the number makes.
+    Soak(u32),
+}
+
+/// The command that a flag after `run` asks for.
+fn flagged(flag: &String) -> Option<Command>
+    ensures { result ≡ flagged (string_bytes flag.now) }
+{
+    match flag.as_str() {
+        "--plain" => Some(Command::Run(Engine::Plain)),
+        "--through" => Some(Command::Run(Engine::Through)),
+        _ => None,
+    }
+}
+
+/// The number after `soak`: one to ten decimal digits below 2^32.
+#[tactic(auto, unfolding(crate::specs::Words::soak_number))]
+fn soak_number(word: &String) -> Option<u32>
+    ensures { result ≡ soak_number (string_bytes word.now) }
+{
+    match decimal(word.as_bytes(), 10) {
+        Some(number) if number <= u64::from(u32::MAX) => Some(number as u32),
+        _ => None,
+    }
+}
+
+/// What two words ask for.
+fn of_two(first: &String, second: &String) -> Option<Command>
+    ensures { result ≡ of_two (string_bytes first.now) (string_bytes second.now) }
+{
+    match first.as_str() {
+        "run" => flagged(second),
+        "soak" => match soak_number(second) {
+            Some(number) => Some(Command::Soak(number)),
+            None => None,
+        },
+        _ => None,
+    }
 }
 
 /// The command that the words are, the program's own name not among them.
@@ -18,20 +64,8 @@ pub(crate) fn read_command(words: &[String]) -> Option<Command>
     ensures { result ≡ command_of (texts words.now) }
 {
     match words {
-        [first] if first.as_str() == "run" => Some(Command::Run),
-        [first, second] if first.as_str() == "run" && second.as_str() == "--plain" => {
-            Some(Command::RunPlain)
-        }
+        [first] if first.as_str() == "run" => Some(Command::Run(Engine::Guarded)),
+        [first, second] => of_two(first, second),
         _ => None,
-    }
-}
-
-/// The title of the command's report.
-pub(crate) fn title_of(command: Command) -> Title
-    ensures { result ≡ title_of command }
-{
-    match command {
-        Command::Run => Title::Run,
-        Command::RunPlain => Title::Plain,
     }
 }

@@ -6,9 +6,10 @@ mod command;
 mod memory;
 mod refusal;
 mod reply;
+mod runs;
 
 pub use answer::lvdc;
-pub use command::Command;
+pub use command::{Command, Engine};
 pub use memory::answer_in_memory;
 
 /// The input has at most so many bytes.

@@ -14,7 +14,7 @@ mod words;
 
 pub use end::put_end;
 pub use registers::put_registers;
-pub use report::{LONGEST_REPORT, report_plain, report_titled};
+pub use report::{LONGEST_REPORT, report_plain};
 pub use soak::report_soak;
 pub use title::Title;
 pub use voted::report_run;

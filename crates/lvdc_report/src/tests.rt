@@ -1,7 +1,7 @@
 ghost use Rattle.std.specs.Prelude.{◌≡◌, ◌<◌, ◌^◌};
 
 use crate::redundancy::put_repairs;
-use crate::{Title, put_end, put_registers, report_plain, report_run, report_soak, report_titled};
+use crate::{put_end, put_registers, report_plain, report_run, report_soak};
 use lvdc_fault::{Event, Script, Verdict};
 use lvdc_machine::{Machine, Mode, Orders};
 use lvdc_map::{Address, Banks, Hop, Placed};
@@ -122,8 +122,6 @@ fn a_report_shows_the_words_that_are_not_0(rt: HostRuntime) -> Result<(), Fail> 
         text.as_slice(),
         b"LVDC PLAIN\nEND DONE\nTIMES 0\nPLACE 0 00 0 000\nDATA 0 01\nDUP 1 1\nA 000000000\nPQ 000000000\nSAVER 000000000\nMEM 4 00 001 000000017\n".as_slice()
     );
-    let text = report_titled(alloc, Title::Through, &plain, PlainEnd::Done)?;
-    assert_eq!(rt; text.starts_with(b"LVDC THROUGH\nEND DONE\n"), true);
     Ok(())
 }
 

@@ -1,8 +1,32 @@
-use Rattle.lvdc_cli.proofs.Ends.{end_answer, end_usage, end_usage_only, end_read_fault, end_cut, end_memory, end_abandoned, end_failed, end_quiet, end_too_long, end_took_more, end_kept}
+use Rattle.lvdc_cli.proofs.Ends.{end_answer, end_headline, end_has, end_status, end_read, end_read_grew, end_usage, end_usage_only, end_read_fault, end_cut, end_memory, end_abandoned, end_failed, end_quiet, end_too_long, end_took_more, end_kept}
+use Rattle.lvdc_cli.specs.Runs.{Judges, Stops}
+use Rattle.lvdc_cli.proofs.Statuses.{status-judges, judges-status, status-stops, stops-status}
 use Rattle.lvdc_cli.proofs.answer.lvdc.Goals as goal
 
 pub returns-clause-answer : goal.returns-clause-answer
 returns-clause-answer g c = λ bytes told free. end_answer _ _ _ _ _ _ _ _ _ _ _ _ _ _ bytes told free c.serve.ensures.ends
+
+pub returns-clause-headline : goal.returns-clause-headline
+returns-clause-headline g c = λ bytes deck told asked means small free. end_headline _ _ _ _ _ _ _ _ _ _ _ _ _ _ bytes deck told asked means small free c.serve.ensures.ends
+
+pub returns-clause-inadmissible : goal.returns-clause-inadmissible
+returns-clause-inadmissible g c = λ bytes told is.
+    end_has _ _ _ _ _ _ _ _ _ _ _ _ _ _ Judges 5 (λ e. cc) (λ e. cc) (λ e. cc) (λ e. cc) (λ e. cc) (λ e. cc) (λ e. cc) (λ e. cc) status-judges bytes told is c.serve.ensures.ends
+
+pub returns-clause-inadmissible_always : goal.returns-clause-inadmissible_always
+returns-clause-inadmissible_always g c = λ bytes told small free has.
+    end_status _ _ _ _ _ _ _ _ _ _ _ _ _ _ Judges 5 judges-status bytes told small free has c.serve.ensures.ends
+
+pub returns-clause-stopped : goal.returns-clause-stopped
+returns-clause-stopped g c = λ bytes told is.
+    end_has _ _ _ _ _ _ _ _ _ _ _ _ _ _ Stops 6 (λ e. cc) (λ e. cc) (λ e. cc) (λ e. cc) (λ e. cc) (λ e. cc) (λ e. cc) (λ e. cc) status-stops bytes told is c.serve.ensures.ends
+
+pub returns-clause-stopped_always : goal.returns-clause-stopped_always
+returns-clause-stopped_always g c = λ bytes told small free has.
+    end_status _ _ _ _ _ _ _ _ _ _ _ _ _ _ Stops 6 stops-status bytes told small free has c.serve.ensures.ends
+
+pub returns-clause-read : goal.returns-clause-read
+returns-clause-read g c = λ a b d e f. end_read _ _ _ _ _ _ _ _ _ _ _ _ _ _ a b d e f c.serve.ensures.ends
 
 pub returns-clause-usage : goal.returns-clause-usage
 returns-clause-usage g c = λ none. end_usage _ _ _ _ _ _ _ _ _ _ _ _ _ _ none c.serve.ensures.ends

@@ -1,6 +1,6 @@
 use Rattle.lvdc_cli.specs.Top.{ran, begun}
 use Rattle.lvdc_cli.proofs.Refusals.{refused_by}
-use Rattle.lvdc_cli.proofs.Runs.{on_err}
+use Rattle.lvdc_cli.proofs.Counts.{on_err}
 use Rattle.lvdc_cli.proofs.reply.make_reply.Goals as goal
 
 pub returns-in_ok-reply-in-Ok-clause-reply : goal.returns-in_ok-reply-in-Ok-clause-reply
@@ -8,7 +8,7 @@ returns-in_ok-reply-in-Ok-clause-reply g c = ran c.in-Ok.deck _ c.in-Ok.ensures.
 
 pub returns-in_ok-reply-in-Err-clause-reply : goal.returns-in_ok-reply-in-Err-clause-reply
 returns-in_ok-reply-in-Err-clause-reply g c =
-    refused_by _ _ c.args.command c.args.bytes.now c.args.devices.now.items c.in-Err.fault c.in_ok-reply-in-Err.reply.status c.in_ok-reply-in-Err.reply.text.items
+    refused_by _ _ c.args.engine c.args.bytes.now c.args.devices.now.items c.in-Err.fault c.in_ok-reply-in-Err.reply.status c.in_ok-reply-in-Err.reply.text.items
     (c.in-Err.ensures.refusal c.in_ok-reply-in-Err.ensures.refused) c.in_ok-reply-in-Err.ensures.status c.in_ok-reply-in-Err.ensures.text
 
 pub returns-in_err-reply-in-Ok-clause-unanswered : goal.returns-in_err-reply-in-Ok-clause-unanswered

@@ -1,0 +1,88 @@
+-- What the run of a command comes to: where a device may fail, the first inadmissible step, a stop, and the headline.
+use Rattle.std.specs.Prelude.{◌≡◌, ◌≢◌, ℕ, suc, ◌*◌, ◌<◌, List, ◌++◌, IsSome, Ok}
+use Rattle.std.specs.declared.option.Option.{Option}
+use Rattle.std.specs.declared.option.Option.TheVariants.{None, Some}
+use Rattle.std.specs.Io.KnownBytes.{Appends}
+use Rattle.lvdc_map.specs.Address.{Spot}
+use Rattle.lvdc_port.specs.Device as device
+use Rattle.lvdc_plain.specs.Run.{plugged, run}
+use Rattle.lvdc_fault.specs.declared.verdict.Verdict.TheVariants.{Admissible}
+use Rattle.lvdc_model.specs.declared.outcome.Outcome.{Outcome}
+use Rattle.lvdc_model.specs.declared.outcome.Outcome.TheVariants.{Done, Stopped, Inadmissible, Device}
+use Rattle.lvdc_model.specs.Judging.{first_bad, first_bad_below}
+use Rattle.lvdc_model.specs.Runs.{guarded, through}
+use Rattle.lvdc_model.specs.Trial.{Trial, plain_at, plain_in}
+use Rattle.lvdc_machine.specs.Guarded.{IsExchanged}
+use Rattle.lvdc_machine.specs.Stands.{HasFailed}
+use Rattle.lvdc_machine.specs.declared.mode.Mode.TheVariants as modes
+use Rattle.lvdc_deck.specs.Deck.{deck_of}
+use Rattle.lvdc_deck.specs.Soak.{soak_of}
+use Rattle.lvdc_deck.specs.declared.deck.Deck.{Deck}
+use Rattle.lvdc_report.specs.Report.{title_line, end_text, registers_text, visible_in, log_text, memory_text}
+use Rattle.lvdc_report.specs.Voted.{wrong_text, repairs_text}
+use Rattle.lvdc_report.specs.declared.title.Title.TheVariants as title
+use Rattle.lvdc_cli.specs.declared.command.Command.{Command}
+use Rattle.lvdc_cli.specs.declared.command.Command.TheVariants.{Run, Soak}
+use Rattle.lvdc_cli.specs.declared.command.Engine.TheVariants.{Guarded, Through, Plain}
+use Rattle.lvdc_cli.specs.Answer.{trial_of}
+
+-- the deck that a command runs: that which its bytes mean, or that which its number makes
+abbrev pub Means : Command → List ℕ → List device.Device → Deck → Type 0
+Means (Run engine) bytes devices deck = deck_of bytes devices ≡ Ok deck
+Means (Soak number) bytes devices deck = deck ≡ soak_of number
+
+-- ---- devices that may fail
+
+-- in a step of the run of so many times the plain run makes an exchange with this port
+pub record ExchangesPlainly (o : Trial) (n step port : ℕ) : Type 0 where
+  pub early : step < 3 * n
+  pub exchanged : IsExchanged o step port
+
+-- the same, and neither the step nor one before it is inadmissible
+pub record ExchangesAdmitted (o : Trial) (n step port : ℕ) : Type 0 where
+  pub plainly : ExchangesPlainly o n step port
+  pub admissible : first_bad_below o (suc step) ≡ Admissible
+
+-- the run of a command makes an exchange with this port in this step; through every fault it is the votes' exchange
+abbrev pub Exchanges : Command → Trial → ℕ → ℕ → ℕ → Type 0
+Exchanges (Run Guarded) o n step port = ExchangesAdmitted o n step port
+Exchanges (Run Through) o n step port = HasFailed o (3 * n) modes.Through step port
+Exchanges (Run Plain) o n step port = ExchangesPlainly o n step port
+Exchanges (Soak number) o n step port = ExchangesAdmitted o n step port
+
+-- ---- inadmissible steps and stops
+
+-- the command judges the script, and finds a step of so many times that isn't admissible
+abbrev pub Judges : Command → Trial → ℕ → Type 0
+Judges (Run Guarded) o n = first_bad o n ≢ Admissible
+Judges (Run Through) o n = ⊥
+Judges (Run Plain) o n = ⊥
+Judges (Soak number) o n = first_bad o n ≢ Admissible
+
+-- the end is a stop
+abbrev pub IsStop : Option Outcome → Type 0
+IsStop None = ⊥
+IsStop (Some Done) = ⊥
+IsStop (Some (Stopped step stop)) = Unit {0}
+IsStop (Some (Inadmissible verdict)) = ⊥
+IsStop (Some (Device step port)) = ⊥
+
+-- no step is inadmissible, and the plain run stops
+pub record StopsAdmitted (o : Trial) (n : ℕ) : Type 0 where
+  pub admissible : first_bad o n ≡ Admissible
+  pub stops : IsSome (plain_at o n).stop
+
+-- the run of the command stops in so many times
+abbrev pub Stops : Command → Trial → ℕ → Type 0
+Stops (Run Guarded) o n = StopsAdmitted o n
+Stops (Run Through) o n = IsStop (through o (3 * n)).end
+Stops (Run Plain) o n = IsSome (plain_at o n).stop
+Stops (Soak number) o n = StopsAdmitted o n
+
+-- the words ask for a command over these bytes and devices whose run is so
+pub record Has (P : Command → Trial → ℕ → Type 0) (asked : Option Command) (bytes : List ℕ) (devices : List device.Device) : Type 0 where
+  pub command : Command
+  pub is_asked : asked ≡ Some command
+  pub deck : Deck
+  pub means : Means command bytes devices deck
+  pub comes : P command (trial_of devices deck) deck.count
