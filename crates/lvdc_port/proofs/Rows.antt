@@ -55,7 +55,7 @@ one_is_unplugged = refl
 the_first_of_two_words_is_supplied :
     IsSuppliedInPart (record { port = 0o14; word = 0o3 } ∷ record { port = 0; word = 0o4 } ∷ []) (tape ∷ latch ∷ [])
     (tape ∷ after_supply latch 0o3 ∷ [])
-the_first_of_two_words_is_supplied = record { count = 1; within = omega arith; devices = refl }
+the_first_of_two_words_is_supplied = record { count = 1; next = _; is_next = refl; tape = refl; devices = refl }
 
 whether_one_is_there :
     (has_port (λ d. d) 0o14 (tape ∷ latch ∷ []) ≡ true) × (has_port (λ d. d) 0o14 (tape ∷ ticker ∷ []) ≡ false)

@@ -1,5 +1,5 @@
 -- Which kinds a list of devices has, and what words for tapes leave of it.
-use Rattle.std.proofs.Common.{◌≡◌, ℕ, zero, suc, ◌+◌, ◌<◌, ◌==◌, length, take, List, [], ◌∷◌, ◌++◌, Bool, true, false, get_or, map, refl, sym, ◌∙◌, ap, subst}
+use Rattle.std.proofs.Common.{◌≡◌, ℕ, zero, suc, ◌+◌, ◌<◌, ◌==◌, length, take, List, [], ◌∷◌, ◌++◌, Bool, true, false, get_or, map, refl, sym, ◌∙◌, ap, subst, arith}
 use Rattle.std.specs.Bool.{if◌then◌else◌}
 use Rattle.std.specs.declared.option.Option.{Option}
 use Rattle.std.specs.declared.option.Option.TheVariants.{None, Some}
@@ -10,8 +10,9 @@ use borrow.Author.Tests.{ne_eqb}
 use Rattle.lvdc_port.specs.Device.{Device, after_supply}
 use Rattle.lvdc_port.specs.Devices.{has_port, AreDistinct}
 use Rattle.lvdc_port.specs.Places.{NoneHas, FirstHas, Lacks, IsFirstAt}
-use Rattle.lvdc_port.specs.Supplies.{kind_at, after_supply_of, supplied, ports_of, kinds_of}
+use Rattle.lvdc_port.specs.Supplies.{kind_at, after_supply_of, supplied, ports_of, kinds_of, HasRecorder}
 use Rattle.lvdc_port.specs.declared.device.Kind.{Kind}
+use Rattle.lvdc_port.specs.declared.device.Kind.TheVariants.{Recorder}
 use Rattle.lvdc_port.specs.declared.requests.Supply.{Supply}
 
 -- the kind at a port is that of the first member there
@@ -43,6 +44,15 @@ pub kind-map : {B : Type 0} (device_of : B → Device) (port : ℕ) (bs : List B
 kind-map device_of port [] = refl
 kind-map device_of port (b ∷ bs) =
     ap (λ (t : Option Kind). if (device_of b).port == port then Some (device_of b).kind else t) (kind-map device_of port bs)
+
+-- a recorder of the list is one of its devices
+pub has_recorder : {B : Type 0} (device_of : B → Device) (bs : List B) (at : ℕ) (b : B) → at < length bs →
+    (device_of (get_or bs at b)).kind ≡ Recorder → HasRecorder (map device_of bs)
+has_recorder device_of [] at b within recorder = absurd (omega (arith, within))
+has_recorder device_of (x ∷ bs) zero b within recorder = (0, omega arith, recorder)
+has_recorder device_of (x ∷ bs) (suc at) b within recorder =
+    let later = has_recorder device_of bs at b (omega (arith, within)) recorder in
+    (suc later.0, omega (arith, later.1), later.2)
 
 -- what a word leaves
 supply-first : {B : Type 0} (device_of : B → Device) (supply : Supply) (bs : List B) (at : ℕ) (old new : B) →

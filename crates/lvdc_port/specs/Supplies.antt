@@ -1,9 +1,10 @@
 -- Which kinds of device are there, and the words that tapes are given before a run.
-use Rattle.std.specs.Prelude.{◌≡◌, ℕ, ◌<◌, ◌==◌, if◌then◌else◌, List, [], ◌∷◌, length, take, map}
+use Rattle.std.specs.Prelude.{◌≡◌, ℕ, ◌==◌, if◌then◌else◌, List, [], ◌∷◌, take, map, slice_get, Contains}
 use Rattle.std.specs.declared.option.Option.{Option}
 use Rattle.std.specs.declared.option.Option.TheVariants.{None, Some}
 use Rattle.lvdc_port.specs.Device.{Device, after_supply}
 use Rattle.lvdc_port.specs.declared.device.Kind.{Kind}
+use Rattle.lvdc_port.specs.declared.device.Kind.TheVariants.{Tape, Recorder}
 use Rattle.lvdc_port.specs.declared.requests.Supply.{Supply}
 
 -- the kind of the device at this port, where there is one
@@ -23,10 +24,12 @@ abbrev pub supplied : List Supply → List Device → List Device
 supplied [] devices = devices
 supplied (supply ∷ supplies) devices = supplied supplies (after_supply_of supply devices)
 
--- the first so many of these words were supplied, which are fewer than all, and no others
+-- the first so many of these words were supplied, and no others: the next is for a tape, which found no memory for it
 pub record IsSuppliedInPart (supplies : List Supply) (old new : List Device) : Type 0 where
   pub count : ℕ
-  pub within : count < length supplies
+  pub next : Supply
+  pub is_next : slice_get supplies count ≡ Some next
+  pub tape : kind_at (λ device. device) next.port new ≡ Some Tape
   pub devices : new ≡ supplied (take count supplies) old
 
 -- the ports of devices, and their kinds
@@ -35,3 +38,7 @@ ports_of devices = map (λ device. device.port) devices
 
 abbrev pub kinds_of : List Device → List Kind
 kinds_of devices = map (λ device. device.kind) devices
+
+-- one of the devices is a recorder
+abbrev pub HasRecorder : List Device → Type 0
+HasRecorder devices = Contains (kinds_of devices) Recorder

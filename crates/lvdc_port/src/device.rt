@@ -1,6 +1,7 @@
 ghost use Rattle.std.specs.Prelude.{◌≡◌, ℕ, ◌+◌, ◌≤◌, IfOk, OnOk, OnErr, slice_get};
 ghost use Rattle.lvdc_port.specs.Causes.{HasCause};
 ghost use Rattle.lvdc_port.specs.Device.{Device, read_word, after_read, after_write, after_supply, AreWords};
+ghost use Rattle.lvdc_port.specs.declared.device.Kind.TheVariants.{Tape as TapeKind, Recorder as RecorderKind};
 
 use lvdc_word::{NoMemory, Word};
 use thiserror::Error;
@@ -51,7 +52,10 @@ pub trait PortDevice: Drop {
         ensures ok { OnOk result (device_of self.new ≡ after_supply (device_of self.old) word) }
         ensures err { OnErr result (device_of self.new ≡ device_of self.old) }
         ensures spare { spare self.new ≡ spare self.old }
-        ensures faults { faults self.new ≡ faults self.old };
+        ensures faults { faults self.new ≡ faults self.old }
+
+        // Only a tape takes a word, so only a tape can want memory for one.
+        ensures want { OnErr result ((device_of self.old).kind ≡ TapeKind) };
 
     /// Makes room for so many writes.
     fn prepare(&mut self, writes: u64) -> Result<(), NoMemory>
@@ -59,6 +63,9 @@ pub trait PortDevice: Drop {
         ensures err { OnErr result (spare self.new ≡ spare self.old) }
         ensures device { device_of self.new ≡ device_of self.old }
         ensures faults { faults self.new ≡ faults self.old }
+
+        // Only a recorder keeps what is written, so only a recorder can want memory for it.
+        ensures want { OnErr result ((device_of self.old).kind ≡ RecorderKind) }
 
         // What the device holds are words, numbers below 2^26.
         ensures words { AreWords (device_of self.new).state };

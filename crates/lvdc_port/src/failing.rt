@@ -1,6 +1,7 @@
 ghost use Rattle.std.specs.Prelude.{◌≡◌, ◌+◌, ◌-◌, ◌^◌, ◌≤◌, ◌<◌, ◌↔◌, min, IsTrue, IsErr, IfOk, OnOk, OnErr, Contains};
 ghost use Rattle.lvdc_port.specs.Causes.{Rose, HasCause};
 ghost use Rattle.lvdc_port.specs.Device.{read_word, after_read, after_write, after_supply, AreWords};
+ghost use Rattle.lvdc_port.specs.declared.device.Kind.TheVariants.{Tape as TapeKind, Recorder as RecorderKind};
 
 use crate::device::{Failed, Kind, PortDevice};
 use lvdc_word::{NoMemory, Word};
@@ -79,6 +80,7 @@ impl<D: PortDevice> PortDevice for Failing<D> {
         ensures err { OnErr result (D.device_of self.new.inner ≡ D.device_of self.old.inner) }
         ensures spare { D.spare self.new.inner ≡ D.spare self.old.inner }
         ensures faults { self.new.faults ≡ self.old.faults }
+        ensures want { OnErr result ((D.device_of self.old.inner).kind ≡ TapeKind) }
 
         // It is no read and no write, so it isn't counted.
         ensures calls { self.new.calls ≡ self.old.calls }
@@ -92,6 +94,7 @@ impl<D: PortDevice> PortDevice for Failing<D> {
         ensures err { OnErr result (D.spare self.new.inner ≡ D.spare self.old.inner) }
         ensures device { D.device_of self.new.inner ≡ D.device_of self.old.inner }
         ensures faults { self.new.faults ≡ self.old.faults }
+        ensures want { OnErr result ((D.device_of self.old.inner).kind ≡ RecorderKind) }
         ensures words { AreWords (D.device_of self.new.inner).state }
 
         // It is no read and no write, so it isn't counted.

@@ -1,9 +1,11 @@
 ghost use Rattle.std.specs.Prelude.{◌≡◌, ◌+◌, ◌≤◌, ◌<◌, ◌^◌, ℕ, ◌↔◌, List, IsTrue, map, OnOk, OnErr, IfOk, IfErr, MatchOption};
 ghost use Rattle.lvdc_port.specs.Causes.{HasCause, Rose};
 ghost use Rattle.lvdc_port.specs.Device.{Device, AreWords};
+ghost use Rattle.lvdc_port.specs.declared.device.Kind.TheVariants.{Recorder};
 ghost use Rattle.lvdc_port.specs.declared.requests.PortRequest.{PortRequest};
 ghost use Rattle.lvdc_port.specs.Devices.{port_of, answer_of, after_request, exchange_word, after_exchange, without, has_port, count_at, OthersKept, HasSpare, HoldWords, CarriesWord, RoomFor, RoomAt};
 ghost use Rattle.lvdc_port.specs.Places.{IsFirstAt, Lacks};
+ghost use Rattle.lvdc_port.specs.Supplies.{HasRecorder};
 
 use crate::device::{Failed, PortDevice};
 use lvdc_word::{NoMemory, Word};
@@ -60,6 +62,7 @@ fn prepare(device: &mut Box<dyn PortDevice>, writes: u64) -> Result<(), NoMemory
     ensures device { device_of device.new ≡ device_of device.old }
     ensures words { AreWords (device_of device.new).state }
     ensures faults { faults device.new ≡ faults device.old }
+    ensures want { OnErr result ((device_of device.old).kind ≡ Recorder) }
 {
     device.prepare(writes)
 }
@@ -161,6 +164,7 @@ fn prepare_each(devices: &mut [Box<dyn PortDevice>], writes: u64) -> Result<(), 
     ensures words { OnOk result (HoldWords (map device_of devices.new)) }
     ensures devices { map device_of devices.new ≡ map device_of devices.old }
     ensures faults { map faults devices.new ≡ map faults devices.old }
+    ensures want { OnErr result (HasRecorder (map device_of devices.old)) }
 {
     for device in devices.iter_mut() {
         match prepare(device, writes) {
@@ -179,6 +183,9 @@ pub fn prepare_all(devices: &mut Vec<Box<dyn PortDevice>>, writes: u64) -> Resul
     ensures words { OnOk result (HoldWords (map device_of devices.new.items)) }
     ensures devices { map device_of devices.new.items ≡ map device_of devices.old.items }
     ensures faults { map faults devices.new.items ≡ map faults devices.old.items }
+
+    // Only a recorder keeps what is written, so without one there is no want of memory.
+    ensures want { OnErr result (HasRecorder (map device_of devices.old.items)) }
 {
     prepare_each(devices, writes)
 }

@@ -1,5 +1,6 @@
-ghost use Rattle.std.specs.Prelude.{◌≡◌, ◌<◌, ◌^◌, length, map, OnOk, OnErr};
+ghost use Rattle.std.specs.Prelude.{◌≡◌, ◌<◌, ◌^◌, length, map, OnOk, OnErr, Some};
 ghost use Rattle.lvdc_port.specs.Device.{after_supply};
+ghost use Rattle.lvdc_port.specs.declared.device.Kind.TheVariants.{Tape};
 ghost use Rattle.lvdc_port.specs.Devices.{AreDistinct};
 ghost use Rattle.lvdc_port.specs.Supplies.{kind_at, after_supply_of, supplied, IsSuppliedInPart, ports_of, kinds_of};
 
@@ -18,6 +19,7 @@ fn supply_word(device: &mut Box<dyn PortDevice>, word: Word) -> Result<(), NoMem
     ensures err { OnErr result (device_of device.new ≡ device_of device.old) }
     ensures spare { spare device.new ≡ spare device.old }
     ensures faults { faults device.new ≡ faults device.old }
+    ensures want { OnErr result ((device_of device.old).kind ≡ Tape) }
 {
     device.supply(word)
 }
@@ -39,6 +41,7 @@ fn supply_one(devices: &mut Vec<Box<dyn PortDevice>>, supply: &Supply) -> Result
     ensures err { OnErr result (map device_of devices.new.items ≡ map device_of devices.old.items) }
     ensures spare { map spare devices.new.items ≡ map spare devices.old.items }
     ensures faults { map faults devices.new.items ≡ map faults devices.old.items }
+    ensures want { OnErr result (kind_at (λ device. device) supply.now.port (map device_of devices.old.items) ≡ Some Tape) }
 {
     let Some(at) = place_of(devices, supply.port) else {
         return Ok(());

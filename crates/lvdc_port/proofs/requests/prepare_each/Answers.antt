@@ -1,5 +1,7 @@
-use Rattle.std.proofs.Common.{◌≤◌, arith}
+use Rattle.std.proofs.Common.{◌≤◌, subst, arith}
 use Rattle.lvdc_port.specs.Device.{Device, AreWords}
+use Rattle.lvdc_port.specs.Supplies.{HasRecorder}
+use Rattle.lvdc_port.proofs.Supplied.{has_recorder}
 use Rattle.lvdc_port.proofs.OneByOne.{all_more, all_done, all_mapped, kept_set}
 use Rattle.lvdc_port.proofs.requests.prepare_each.Goals as goal
 
@@ -10,6 +12,11 @@ returns-in-Err-clause-devices g c =
 pub returns-in-Err-clause-faults : goal.returns-in-Err-clause-faults
 returns-in-Err-clause-faults g c =
     kept_set c.loop-device.devices (λ b. (goal.PortDevice-dyn g (b.vtable, b.value)).faults b.value) _ c.device-item.result _ _ c.prepare.ensures.faults c.loop-device.invariant.faults
+
+pub returns-in-Err-clause-want : goal.returns-in-Err-clause-want
+returns-in-Err-clause-want g c =
+    subst HasRecorder c.loop-device.invariant.devices
+    (has_recorder (λ b. (goal.PortDevice-dyn g (b.vtable, b.value)).device_of b.value) c.loop-device.devices _ c.device-item.result (omega (arith, c.loop-device.auto.devices)) c.in-Err.ensures.want)
 
 pub loop-device-preserved : goal.loop-device-preserved
 loop-device-preserved g c = record {

@@ -1,12 +1,15 @@
-use Rattle.std.proofs.Common.{ap, ◌∙◌}
-use Rattle.lvdc_port.specs.Supplies.{ports_of, kinds_of}
+use Rattle.std.proofs.Common.{refl, ap, ◌∙◌}
+use Rattle.std.proofs.lemmas.Option.{slice_get_read}
+use Rattle.lvdc_port.specs.Supplies.{kind_at, ports_of, kinds_of}
 use Rattle.lvdc_port.proofs.Supplied.{ports-supply, kinds-supply, distinct-ports, supplied-more}
 use Rattle.lvdc_port.proofs.supplies.supply_all.Goals as goal
 
 pub returns-in-Err-clause-err : goal.returns-in-Err-clause-err
 returns-in-Err-clause-err g c = record {
   count = c.loop-supply.supply-index;
-  within = c.loop-supply-test.true;
+  next = c.supply-item.result;
+  is_next = slice_get_read c.args.supplies.now _ _ _ refl c.loop-supply-test.true c.supply-item.is;
+  tape = ap (λ devices. kind_at (λ device. device) c.supply-item.result.port devices) c.in-Err.ensures.err ∙ c.in-Err.ensures.want;
   devices = c.in-Err.ensures.err ∙ c.loop-supply.invariant.front;
 }
 

@@ -1,6 +1,6 @@
-use Rattle.std.proofs.Common.{arith}
+use Rattle.std.proofs.Common.{arith, Some, sym, ap, ◌∙◌}
 use Rattle.lvdc_port.proofs.Places.{first_within, kept_first}
-use Rattle.lvdc_port.proofs.Supplied.{supply_first, supply_lacking}
+use Rattle.lvdc_port.proofs.Supplied.{supply_first, supply_lacking, kind_first, kind-map}
 use Rattle.lvdc_port.proofs.supplies.supply_one.Goals as goal
 
 pub returns-in_default-clause-ok : goal.returns-in_default-clause-ok
@@ -29,3 +29,9 @@ returns-in-Err-clause-spare g c = kept_first _ _ _ _ _ c.index_mut-device.ensure
 
 pub returns-in-Err-clause-faults : goal.returns-in-Err-clause-faults
 returns-in-Err-clause-faults g c = kept_first _ _ _ _ _ c.index_mut-device.ensures.value c.in-Err.ensures.faults
+
+pub returns-in-Err-clause-want : goal.returns-in-Err-clause-want
+returns-in-Err-clause-want g c =
+    sym (kind-map _ c.args.supply.now.port _)
+    ∙ kind_first _ (rw c.deref.ensures.value at c.in-Some.ensures) c.index_mut-device.ensures.value
+    ∙ ap (λ k. Some k) c.in-Err.ensures.want
