@@ -1,5 +1,6 @@
 pub mod Counts
 pub mod Told
+pub mod Judged
 pub mod Statuses
 pub mod PlainRuns
 pub mod VotedRuns

@@ -1,22 +1,21 @@
 -- The report of a guarded run is the account of the plain run.
-use Rattle.std.proofs.Common.{◌≡◌, ◌≢◌, ℕ, zero, suc, ◌+◌, ◌*◌, ◌/◌, ◌<◌, ◌≤◌, Bool, true, false, if◌then◌else◌, List, [], ◌++◌, length, codes, refl, sym, ap, subst, ◌∙◌, arith}
+use Rattle.std.proofs.Common.{◌≡◌, ◌≢◌, ℕ, zero, suc, ◌*◌, ◌/◌, ◌<◌, Bool, true, false, List, ◌++◌, length, codes, refl, sym, ap, subst, ◌∙◌, arith}
 use Rattle.std.specs.declared.option.Option.{Option}
 use Rattle.std.specs.declared.option.Option.TheVariants.{None, Some}
 use Rattle.lvdc_map.specs.Address.{Spot, spot_at}
 use Rattle.lvdc_map.specs.Banks.{is_there, HasBank}
 use Rattle.lvdc_map.specs.Memory.{Memory, word_at}
 use Rattle.lvdc_plain.specs.Plain.{PlainState}
-use Rattle.lvdc_plain.specs.Run.{Opening, run}
 use Rattle.lvdc_plain.specs.declared.records.Stop.{Stop}
 use Rattle.lvdc_fault.specs.Script.{wrong_module}
 use Rattle.lvdc_fault.specs.declared.verdict.Verdict.{Verdict}
-use Rattle.lvdc_fault.specs.declared.verdict.Verdict.TheVariants.{Admissible, Logic, Memory as Unread}
+use Rattle.lvdc_fault.specs.declared.verdict.Verdict.TheVariants.{Admissible, Memory as Unread}
 use Rattle.lvdc_phases.specs.Standing.{Standing}
 use Rattle.lvdc_phases.specs.States.{ShowsRegisters}
 use Rattle.lvdc_model.specs.Exchanges.{prepared, ended, wished}
 use Rattle.lvdc_model.specs.Judging.{first_bad, first_bad_below, is_recoverable, is_recoverable_after}
 use Rattle.lvdc_model.specs.Known.{last_begun, is_known}
-use Rattle.lvdc_model.specs.Runs.{guarded, found, found_logic, found_memory, read_of_wish, recovers}
+use Rattle.lvdc_model.specs.Runs.{guarded, found_logic, found_memory, read_of_wish, recovers}
 use Rattle.lvdc_model.specs.Trial.{Trial, plain_at, plain_in}
 use Rattle.lvdc_model.specs.Voted.{Voted, votes}
 use Rattle.lvdc_model.specs.declared.outcome.Outcome.{Outcome}
@@ -29,6 +28,7 @@ use Rattle.lvdc_report.specs.Voted.{voted_text, visible_of, wrong_text, repairs_
 use Rattle.lvdc_report.specs.declared.title.Title.TheVariants as title
 use Rattle.lvdc_cli.specs.Accounts.{Account, end_by, whole_account, begun_account, account_by, account}
 use Rattle.lvdc_cli.specs.Answer.{account_text, soak_account_text}
+use Rattle.lvdc_cli.specs.Finished.{Tells}
 
 -- ---- the words of memory
 
@@ -61,19 +61,7 @@ visible-same v p r t = λ i. record { place = r.place i; a = r.a i; pq = r.pq i;
 
 -- ---- the whole
 
--- a state of the voted machine tells an account: its parts are those of the account, and what the redundancy did stands in this
--- other state
-pub record Tells (o : Trial) (a : Account) (v w : Voted) : Type 0 where
-  pub end : answer_of_end v.end ≡ a.end
-  pub registers : visible_of v ≡ visible_in a.plain
-  pub log : v.log ≡ a.plain.log
-  pub words : v.intended ≡ a.plain.memory
-  pub known : (at : Spot) → HasBank o.opening.banks at → is_known o v at ≡ a.recoverable at
-  pub devices : v.devices ≡ a.devices
-  pub counts : v.counts ≡ w.counts
-  pub repairs : v.repairs ≡ w.repairs
-
--- so its report is that of the account
+-- the report of a state that tells an account is that of the account
 pub told : (o : Trial) (a : Account) (v w : Voted) → Tells o a v w → voted_text title.Run o v ≡ account_text o a w
 told o a v w t =
     let e = t.end in
@@ -127,9 +115,10 @@ whole-told o n law good shows end steps =
 
 -- ---- a run that ends in a step that was begun
 
-pub begun-told : (o : Trial) (step : ℕ) (e : Outcome) (u : Voted) → KnownLaw o → IsBegun o step u → (plain_in o step).times ≡ step / 3
-    → last_begun (Some e) step ≡ Some step → Tells o (begun_account o step e) (ended u e) u
-begun-told o step e u law begun times last =
+-- its counts and repairs are those of any state with the same
+pub begun-told : (o : Trial) (step : ℕ) (e : Outcome) (u w : Voted) → KnownLaw o → IsBegun o step u → (plain_in o step).times ≡ step / 3
+    → last_begun (Some e) step ≡ Some step → u.counts ≡ w.counts → u.repairs ≡ w.repairs → Tells o (begun_account o step e) (ended u e) w
+begun-told o step e u w law begun times last counts repairs =
     record {
       end = refl;
       registers = visible-same (ended u e) (plain_in o step) begun.registers (ap (λ (k : ℕ). k / 3) begun.steps ∙ sym times);
@@ -137,8 +126,8 @@ begun-told o step e u law begun times last =
       words = begun.intended;
       known = λ at bank. law.begun step u e at bank begun last;
       devices = begun.devices;
-      counts = refl;
-      repairs = refl;
+      counts = counts;
+      repairs = repairs;
     }
 
 -- ---- the verdict names its step
@@ -181,20 +170,10 @@ bad-told o n m law count comes same first ends =
     found-logic_step o u (wrong_module o.script u.steps) w ends.found ends.bad n
     ∙ ap (λ (k : ℕ). begun_account o k (Inadmissible w)) ends.begun.steps in
     let is : begun_account o m (Inadmissible w) ≡ account o n = sym here ∙ ap (λ (x : Verdict). account_by x o n) (sym first) in
-    let there = begun-told o m (Inadmissible w) u law ends.begun (count (m / 3) (running-there o m comes ends.came)) refl in
-    let as_state : Tells o (begun_account o m (Inadmissible w)) (ended u (Inadmissible w)) (ended u (Inadmissible w)) =
-    record {
-      end = there.end;
-      registers = there.registers;
-      log = there.log;
-      words = there.words;
-      known = there.known;
-      devices = there.devices;
-      counts = refl;
-      repairs = refl;
-    } in
+    let there : Tells o (begun_account o m (Inadmissible w)) (ended u (Inadmissible w)) (ended u (Inadmissible w)) =
+    begun-told o m (Inadmissible w) u (ended u (Inadmissible w)) law ends.begun (count (m / 3) (running-there o m comes ends.came)) refl refl refl in
     subst (λ (v : Voted). Tells o (account o n) v v) state
-    (subst (λ (a : Account). Tells o a (ended u (Inadmissible w)) (ended u (Inadmissible w))) is as_state)
+    (subst (λ (a : Account). Tells o a (ended u (Inadmissible w)) (ended u (Inadmissible w))) is there)
 
 pub guarded-told : (o : Trial) (n : ℕ) → KnownLaw o → ((k : ℕ) → (plain_at o k).stop ≡ None → (plain_at o k).times ≡ k)
     → ((k : ℕ) → Comes Standing o k)

@@ -10,7 +10,7 @@ ghost use Rattle.lvdc_machine.specs.declared.mode.Mode.TheVariants as modes;
 ghost use Rattle.lvdc_deck.specs.Soak.{soak_of};
 ghost use Rattle.lvdc_report.specs.Report.{outcome_of};
 ghost use Rattle.lvdc_cli.specs.Answer.{answer_with, end_status, trial_of};
-ghost use Rattle.lvdc_cli.specs.Finished.{HasRun};
+ghost use Rattle.lvdc_cli.specs.Finished.{HasRun, HasJudged};
 ghost use Rattle.lvdc_cli.specs.Top.{IsRunOf, IsUnreported, IsUnanswered};
 ghost use Rattle.lvdc_cli.specs.declared.command.Command.{Command as Asked};
 ghost use Rattle.lvdc_cli.specs.declared.command.Command.TheVariants.{Run, Soak};
@@ -113,6 +113,34 @@ fn run_machine(
     Ok(Finished { machine, end })
 }
 
+/// The same up to the first inadmissible step. The laws of guarded runs are cited here alone, for `run` and for `soak`.
+fn run_judged(
+    alloc: Global,
+    deck: Deck,
+    devices: &mut Vec<Box<dyn PortDevice>>,
+) -> Result<Finished, NoMemory>
+    requires count { deck.count ≤ 1000000 }
+    requires rising { are_rising deck.image.words ≡ true }
+    requires there { AllThere deck.banks deck.image.words }
+    requires few { length deck.script ≤ 65536 }
+    requires events { All IsEvent deck.script }
+    requires distinct { AreDistinct (map device_of devices.old.items) }
+    ensures run { IfOk result (λ f. HasJudged device_of faults (trial_of (map device_of devices.old.items) deck) deck.count
+        devices.old.items devices.new.items f.machine) }
+    ensures end { IfOk result (λ f. f.end ≡ answer_of_end f.machine.end) }
+    ensures unmade { OnErr result ((command : Asked) → IsUnreported device_of faults command deck devices.old.items devices.new.items) }
+{
+    guarded_follows();
+    failed_exchange();
+    lvdc_laws::guarded_run();
+    lvdc_laws::judges_alone();
+    lvdc_laws::guarded_ends();
+    lvdc_laws::guarded_times();
+    lvdc_laws::words_known();
+    lvdc_laws::all_times_made();
+    run_machine(alloc, Mode::Guarded, deck, devices)
+}
+
 /// Runs a deck by the voted machine up to the first inadmissible step, and reports the run.
 pub(crate) fn run_guarded(
     alloc: Global,
@@ -130,15 +158,7 @@ pub(crate) fn run_guarded(
     ensures unreported { OnErr result (IsUnreported device_of faults (Run Guarded) deck devices.old.items devices.new.items) }
     ensures room { IfOk result (λ reply. length reply.text.items ≤ ROOM) }
 {
-    guarded_follows();
-    failed_exchange();
-    lvdc_laws::guarded_run();
-    lvdc_laws::judges_alone();
-    lvdc_laws::guarded_ends();
-    lvdc_laws::guarded_times();
-    lvdc_laws::words_known();
-    lvdc_laws::all_times_made();
-    let finished = run_machine(alloc, Mode::Guarded, deck, devices)?;
+    let finished = run_judged(alloc, deck, devices)?;
     let status = end_status(&finished.end);
     let text = report_run(alloc, &finished.machine, Mode::Guarded, finished.end)?;
     Ok(Reply { status, text })
@@ -218,16 +238,8 @@ pub(crate) fn soak(
     ensures unanswered { OnErr result (IsUnanswered device_of faults (Soak number) [] devices.old.items devices.new.items) }
     ensures room { IfOk result (λ reply. length reply.text.items ≤ ROOM) }
 {
-    guarded_follows();
-    failed_exchange();
-    lvdc_laws::guarded_run();
-    lvdc_laws::judges_alone();
-    lvdc_laws::guarded_ends();
-    lvdc_laws::guarded_times();
-    lvdc_laws::words_known();
-    lvdc_laws::all_times_made();
     let deck = soak_deck(alloc, number)?;
-    let finished = run_machine(alloc, Mode::Guarded, deck, devices)?;
+    let finished = run_judged(alloc, deck, devices)?;
     let status = end_status(&finished.end);
     let text = report_soak(alloc, &finished.machine, number, finished.end)?;
     Ok(Reply { status, text })

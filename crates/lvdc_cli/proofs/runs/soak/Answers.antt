@@ -1,27 +1,18 @@
 use Rattle.lvdc_cli.specs.Top.{begun}
 use Rattle.lvdc_cli.proofs.Counts.{on_err}
-use Rattle.lvdc_cli.proofs.VotedRuns.{guarded-laws, ran_soak, soak_unreported}
+use Rattle.lvdc_cli.proofs.VotedRuns.{ran_soak, soak_unreported}
 use Rattle.lvdc_cli.proofs.runs.soak.Goals as goal
 
 pub returns-clause-run : goal.returns-clause-run
 returns-clause-run g c =
     let h = c.in_ok-finished.ensures.run in
-    let law =
-    guarded-laws _ c.in_ok-deck.deck.count _ c.in_ok-finished.finished.machine h.opening h.mode_is h.stands c.judges_alone.ensures c.guarded_run.ensures
-    c.words_known.ensures.made c.words_known.ensures.begun c.all_times_made.ensures c.guarded_times.ensures c.guarded_ends.ensures.end
-    c.guarded_ends.ensures.steps c.failed_exchange.ensures c.guarded_follows.ensures in
     ran_soak _ _ c.in_ok-deck.deck _ _ c.in_ok-finished.finished.machine c.in_ok-finished.finished.end c.args.number
-    c.end_status-status.result c.in_ok-text.text.items law h c.in_ok-finished.ensures.end
-    c.end_status-status.ensures (c.in_ok-text.ensures.text _ _ _ h.stands) c.in_ok-deck.ensures.deck
+    c.end_status-status.result c.in_ok-text.text.items h c.in_ok-finished.ensures.end
+    c.end_status-status.ensures (c.in_ok-text.ensures.text _ _ _ h.run.stands) c.in_ok-deck.ensures.deck
 
 pub returns-in_err-finished-clause-unanswered : goal.returns-in_err-finished-clause-unanswered
 returns-in_err-finished-clause-unanswered g c = on_err _ (begun c.in_ok-deck.deck c.in_ok-deck.ensures.deck (c.in_err-finished.ensures.unmade _))
 
 pub returns-in_err-text-clause-unanswered : goal.returns-in_err-text-clause-unanswered
 returns-in_err-text-clause-unanswered g c =
-    let h = c.in_ok-finished.ensures.run in
-    let law =
-    guarded-laws _ c.in_ok-deck.deck.count _ c.in_ok-finished.finished.machine h.opening h.mode_is h.stands c.judges_alone.ensures c.guarded_run.ensures
-    c.words_known.ensures.made c.words_known.ensures.begun c.all_times_made.ensures c.guarded_times.ensures c.guarded_ends.ensures.end
-    c.guarded_ends.ensures.steps c.failed_exchange.ensures c.guarded_follows.ensures in
-    on_err _ (begun c.in_ok-deck.deck c.in_ok-deck.ensures.deck (soak_unreported _ _ c.in_ok-deck.deck _ _ _ c.args.number law h))
+    on_err _ (begun c.in_ok-deck.deck c.in_ok-deck.ensures.deck (soak_unreported _ _ c.in_ok-deck.deck _ _ _ c.args.number c.in_ok-finished.ensures.run))
