@@ -1,5 +1,5 @@
 -- What the answer that is due says of its status, and of the devices.
-use Rattle.std.proofs.Common.{◌≡◌, ◌≢◌, ℕ, ◌+◌, ◌*◌, ◌<◌, ◌≤◌, true, false, nat_lt, List, ◌++◌, length, map, Ok, Err, None, Some, IsSome, refl, sym, ap, subst, ◌∙◌, inl, inr, ◌⊎◌, arith, length-append}
+use Rattle.std.proofs.Common.{◌≡◌, ◌≢◌, ℕ, ◌+◌, ◌<◌, ◌≤◌, true, false, nat_lt, List, ◌++◌, length, map, None, Some, IsSome, refl, sym, ap, subst, ◌∙◌, inl, inr, ◌⊎◌, arith, length-append}
 use Rattle.std.proofs.lemmas.Bool.Decides.{nat_tests}
 use Rattle.std.proofs.lemmas.List.{append-nil}
 use Rattle.std.specs.declared.option.Option.{Option}
@@ -22,7 +22,7 @@ use Rattle.lvdc_cli.specs.Texts.{refusal_status}
 use Rattle.lvdc_cli.specs.Answer.{Answer, run_answer, trial_of, deck_answer, command_answer, answer, failed_answer, read_fault_answer, too_long_answer, usage_answer}
 use Rattle.lvdc_cli.specs.Runs.{Means, Exchanges, Has}
 use Rattle.lvdc_cli.specs.Top.{Quiet, RoseAt, OthersQuiet, IsRun, made, failed, IsRunOf, IsReply, refused, ran, IsDue, usage, read_fault, too_long, whole, soaked}
-use Rattle.lvdc_cli.proofs.Statuses.{IsMadeStatus, made-status, failed-status}
+use Rattle.lvdc_cli.proofs.Statuses.{made-status, failed-status}
 
 -- ---- statuses
 

@@ -27,9 +27,8 @@ use Rattle.lvdc_cli.specs.declared.command.Engine.TheVariants as engine
 use Rattle.lvdc_cli.specs.Accounts.{Account, account_by}
 use Rattle.lvdc_cli.specs.Answer.{Answer, answer, answer_with, usage_answer, read_fault_answer, too_long_answer, trial_of, run_answer, account_answer}
 use Rattle.lvdc_cli.specs.Headline.{HeadlineBy, Headline}
-use Rattle.lvdc_cli.specs.Runs.{Means, Judges, Stops, Has}
+use Rattle.lvdc_cli.specs.Runs.{Has}
 use Rattle.lvdc_cli.specs.Top.{Quiet, IsRunOf, IsReply, IsDue, usage, read_fault, too_long, whole, soaked, IsTold, told, cut, IsEnd, answered, wants_memory, IsAbandoned, IsUnanswered, in_reading, after_reading, in_soaking, IsUnhindered, IsRefusal, IsCut, HasFailed}
-use Rattle.lvdc_cli.proofs.Statuses.{status-judges, judges-status, status-stops, stops-status}
 use Rattle.lvdc_cli.proofs.Due.{clash, some_command, reads_run, taken_once, due_has, has_answer, due_answer, due_1, due_none, due_7, due_grew, due_11, due_large, due_read, due_quiet, due_kept, due_failed, not_8, not_9}
 
 -- what is told stays the same

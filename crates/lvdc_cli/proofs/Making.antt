@@ -1,5 +1,5 @@
 -- The run of a deck's trial, from the parts of the deck that the machine was made of.
-use Rattle.std.proofs.Common.{◌≡◌, ℕ, ◌+◌, ◌*◌, List, map, refl, sym, ap, subst, ◌∙◌, arith, zero-add}
+use Rattle.std.proofs.Common.{◌≡◌, ℕ, ◌+◌, ◌*◌, List, map, ap, subst, ◌∙◌, zero-add}
 use Rattle.lvdc_port.specs.Device as device
 use Rattle.lvdc_port.specs.Devices.{has_port, count_at}
 use Rattle.lvdc_port.specs.Supplies.{ports_of, supplied}
@@ -9,7 +9,6 @@ use Rattle.lvdc_plain.specs.Stands as plain
 use Rattle.lvdc_plain.specs.View as plain_view
 use Rattle.lvdc_plain.specs.declared.records.PlainEnd.{PlainEnd}
 use Rattle.lvdc_plain.specs.declared.records.Unplug.{Unplug}
-use Rattle.lvdc_model.specs.Trial.{Trial}
 use Rattle.lvdc_model.specs.declared.outcome.Outcome.{Outcome}
 use Rattle.lvdc_laws.specs.Ends.{IsOpening}
 use Rattle.lvdc_machine.specs.Causes.{Caused}

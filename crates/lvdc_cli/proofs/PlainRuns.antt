@@ -1,17 +1,16 @@
 -- The answer of a run of the plain machine, from where the machine and its devices stand after it.
-use Rattle.std.proofs.Common.{◌≡◌, ℕ, ◌+◌, ◌-◌, ◌*◌, ◌/◌, ◌%◌, List, map, None, Some, refl, sym, ap, subst, ◌∙◌, arith, zero-add}
+use Rattle.std.proofs.Common.{◌≡◌, ℕ, ◌+◌, ◌-◌, ◌*◌, ◌/◌, List, map, None, Some, sym, ap, subst, ◌∙◌, arith, zero-add}
 use Rattle.std.specs.declared.option.Option.{Option}
 use Rattle.lvdc_port.specs.Device as device
 use Rattle.lvdc_port.specs.Devices.{has_port, count_at}
 use Rattle.lvdc_plain.specs.Plain.{PlainState, World}
-use Rattle.lvdc_plain.specs.Run.{plugged, run}
+use Rattle.lvdc_plain.specs.Run.{run}
 use Rattle.lvdc_plain.specs.Stands.{Shows, HasFailed, EndsAs, Stands, Caused}
 use Rattle.lvdc_plain.specs.View.{View, answer_of_end}
 use Rattle.lvdc_plain.specs.declared.records.PlainEnd.{PlainEnd}
 use Rattle.lvdc_plain.specs.declared.records.PlainEnd.TheVariants.{Done, Stopped, Device}
 use Rattle.lvdc_plain.specs.declared.records.Stop.{Stop}
-use Rattle.lvdc_model.specs.Trial.{Trial, plain_in}
-use Rattle.lvdc_machine.specs.Guarded.{IsExchanged}
+use Rattle.lvdc_model.specs.Trial.{Trial}
 use Rattle.lvdc_report.specs.Report.{report_text, outcome_of}
 use Rattle.lvdc_report.specs.declared.title.Title.TheVariants as title
 use Rattle.lvdc_cli.specs.declared.command.Command.TheVariants.{Run}

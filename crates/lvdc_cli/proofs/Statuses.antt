@@ -1,19 +1,18 @@
 -- The status of a run: 5 exactly where the command judges and finds a step that isn't admissible, 6 exactly where it stops, else 0;
 -- and 10 where a device fails.
-use Rattle.std.proofs.Common.{◌≡◌, ◌≢◌, ℕ, zero, suc, ◌*◌, ◌%◌, List, IsSome, None, Some, Result, Ok, Err, refl, sym, ap, subst, ◌∙◌, inl, inr, ◌⊎◌, arith}
+use Rattle.std.proofs.Common.{◌≡◌, ◌≢◌, ℕ, zero, suc, ◌*◌, IsSome, None, Some, Result, Ok, Err, refl, inl, inr, ◌⊎◌, arith}
 use Rattle.std.specs.declared.option.Option.{Option}
 use Rattle.lvdc_twin.specs.declared.both_bad.BothBad.{BothBad}
 use Rattle.lvdc_twin.specs.declared.read_out.ReadOut.{ReadOut}
 use Rattle.lvdc_map.specs.Address.{Spot}
 use Rattle.lvdc_modules.specs.declared.wanted.Wanted.{Wanted}
 use Rattle.lvdc_modules.specs.declared.wanted.Wanted.TheVariants.{Nothing, Fetch, Operand, Store, PortRead, PortWrite}
-use Rattle.lvdc_plain.specs.Run.{run}
 use Rattle.lvdc_plain.specs.declared.records.Stop.{Stop}
 use Rattle.lvdc_fault.specs.declared.verdict.Verdict.{Verdict}
 use Rattle.lvdc_fault.specs.declared.verdict.Verdict.TheVariants.{Admissible, Logic, Memory}
-use Rattle.lvdc_model.specs.Exchanges.{prepared, stop_of, exchanges, reading, wished, voted_step}
+use Rattle.lvdc_model.specs.Exchanges.{prepared, stop_of, exchanges, reading, wished}
 use Rattle.lvdc_model.specs.Judging.{first_bad}
-use Rattle.lvdc_model.specs.Runs.{guarded, through, through_by}
+use Rattle.lvdc_model.specs.Runs.{through, through_by}
 use Rattle.lvdc_model.specs.Trial.{Trial, plain_at}
 use Rattle.lvdc_model.specs.Twins.{read_answer}
 use Rattle.lvdc_model.specs.Voted.{Voted}

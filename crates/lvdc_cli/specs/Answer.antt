@@ -8,7 +8,6 @@ use Rattle.lvdc_plain.specs.Plain.{World}
 use Rattle.lvdc_plain.specs.Run.{plugged, run}
 use Rattle.lvdc_plain.specs.declared.records.PlainEnd.{PlainEnd}
 use Rattle.lvdc_plain.specs.declared.records.PlainEnd.TheVariants as plain
-use Rattle.lvdc_fault.specs.declared.verdict.Verdict.TheVariants.{Admissible}
 use Rattle.lvdc_model.specs.declared.outcome.Outcome.{Outcome}
 use Rattle.lvdc_model.specs.declared.outcome.Outcome.TheVariants.{Done, Stopped, Inadmissible, Device}
 use Rattle.lvdc_model.specs.Exchanges.{prepared, ended}

@@ -2,7 +2,7 @@
 -- admissible the ports, registers and recoverable memory words of the report and the states of the devices are those of the
 -- fault-free instruction table on the deck's image; the first inadmissible step ends the run, and the report names that step and
 -- its cause after that same run so far.
-use Rattle.std.specs.Prelude.{◌≡◌, ◌≢◌, ℕ, ◌*◌, ◌/◌, List, ◌++◌, Bool}
+use Rattle.std.specs.Prelude.{◌≡◌, ℕ, ◌*◌, ◌/◌, List, ◌++◌, Bool}
 use Rattle.std.specs.declared.option.Option.{Option}
 use Rattle.std.specs.Io.KnownBytes.{Appends}
 use Rattle.lvdc_map.specs.Address.{Spot}

@@ -1,26 +1,20 @@
--- What the run of a command comes to: where a device may fail, the first inadmissible step, a stop, and the headline.
-use Rattle.std.specs.Prelude.{◌≡◌, ◌≢◌, ℕ, suc, ◌*◌, ◌<◌, List, ◌++◌, IsSome, Ok}
+-- What the run of a command comes to: where a device may fail, the first inadmissible step, a stop.
+use Rattle.std.specs.Prelude.{◌≡◌, ◌≢◌, ℕ, suc, ◌*◌, ◌<◌, List, IsSome, Ok}
 use Rattle.std.specs.declared.option.Option.{Option}
 use Rattle.std.specs.declared.option.Option.TheVariants.{None, Some}
-use Rattle.std.specs.Io.KnownBytes.{Appends}
-use Rattle.lvdc_map.specs.Address.{Spot}
 use Rattle.lvdc_port.specs.Device as device
-use Rattle.lvdc_plain.specs.Run.{plugged, run}
 use Rattle.lvdc_fault.specs.declared.verdict.Verdict.TheVariants.{Admissible}
 use Rattle.lvdc_model.specs.declared.outcome.Outcome.{Outcome}
 use Rattle.lvdc_model.specs.declared.outcome.Outcome.TheVariants.{Done, Stopped, Inadmissible, Device}
 use Rattle.lvdc_model.specs.Judging.{first_bad, first_bad_below}
-use Rattle.lvdc_model.specs.Runs.{guarded, through}
-use Rattle.lvdc_model.specs.Trial.{Trial, plain_at, plain_in}
+use Rattle.lvdc_model.specs.Runs.{through}
+use Rattle.lvdc_model.specs.Trial.{Trial, plain_at}
 use Rattle.lvdc_machine.specs.Guarded.{IsExchanged}
 use Rattle.lvdc_machine.specs.Stands.{HasFailed}
 use Rattle.lvdc_machine.specs.declared.mode.Mode.TheVariants as modes
 use Rattle.lvdc_deck.specs.Deck.{deck_of}
 use Rattle.lvdc_deck.specs.Soak.{soak_of}
 use Rattle.lvdc_deck.specs.declared.deck.Deck.{Deck}
-use Rattle.lvdc_report.specs.Report.{title_line, end_text, registers_text, visible_in, log_text, memory_text}
-use Rattle.lvdc_report.specs.Voted.{wrong_text, repairs_text}
-use Rattle.lvdc_report.specs.declared.title.Title.TheVariants as title
 use Rattle.lvdc_cli.specs.declared.command.Command.{Command}
 use Rattle.lvdc_cli.specs.declared.command.Command.TheVariants.{Run, Soak}
 use Rattle.lvdc_cli.specs.declared.command.Engine.TheVariants.{Guarded, Through, Plain}

@@ -1,4 +1,4 @@
-use Rattle.lvdc_cli.proofs.Ends.{end_answer, end_headline, end_has, end_status, end_read, end_read_grew, end_usage, end_usage_only, end_read_fault, end_cut, end_memory, end_abandoned, end_failed, end_quiet, end_too_long, end_took_more, end_kept}
+use Rattle.lvdc_cli.proofs.Ends.{end_answer, end_headline, end_has, end_status, end_read, end_usage, end_usage_only, end_read_fault, end_cut, end_memory, end_abandoned, end_failed, end_quiet, end_too_long, end_took_more, end_kept}
 use Rattle.lvdc_cli.specs.Runs.{Judges, Stops}
 use Rattle.lvdc_cli.proofs.Statuses.{status-judges, judges-status, status-stops, stops-status}
 use Rattle.lvdc_cli.proofs.answer.lvdc.Goals as goal

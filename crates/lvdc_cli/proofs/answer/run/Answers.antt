@@ -1,5 +1,5 @@
 use Rattle.std.proofs.Common.{Err, length, refl, ap, arith}
-use Rattle.lvdc_cli.proofs.Ends.{served, refused_input, failed_input, unread, abandoned, keeps_same}
+use Rattle.lvdc_cli.proofs.Ends.{served, refused_input, failed_input, abandoned, keeps_same}
 use Rattle.lvdc_cli.proofs.answer.run.Goals as goal
 
 pub returns-in-Ok-make_reply : goal.returns-in-Ok-make_reply

@@ -1,5 +1,4 @@
 use Rattle.std.proofs.Common.{refl}
-use Rattle.lvdc_cli.specs.Answer.{trial_of}
 use Rattle.lvdc_cli.specs.Top.{reporting}
 use Rattle.lvdc_cli.specs.declared.command.Command.TheVariants.{Run}
 use Rattle.lvdc_cli.specs.declared.command.Engine.TheVariants as engine
