@@ -1,6 +1,6 @@
 //! A machine that goes on from a snapshot.
 
-ghost use Rattle.std.specs.Prelude.{◌≡◌, ℕ, ◌+◌, ◌-◌, ◌*◌, ◌≤◌, ◌<◌, List, All, length, map, IfOk, OnOk, None};
+ghost use Rattle.std.specs.Prelude.{◌≡◌, ℕ, ◌+◌, ◌-◌, ◌*◌, ◌≤◌, ◌<◌, List, All, length, map, IfOk, OnOk, None, vec_len, vec_capacity};
 ghost use Rattle.lvdc_map.specs.Memory.{Memory};
 ghost use Rattle.lvdc_port.specs.Device as device;
 ghost use Rattle.lvdc_port.specs.Devices.{HasSpare, AreDistinct};
@@ -27,7 +27,7 @@ use lvdc_logic::Logic;
 use lvdc_memory::VotedMemory;
 use lvdc_plain::Unplug;
 use lvdc_port::{PortDevice, prepare_all};
-use lvdc_word::NoMemory;
+use lvdc_word::{NoMemory, Seq};
 use std::alloc::Global;
 
 impl Machine {
@@ -66,35 +66,20 @@ impl Machine {
         ensures devices { map device_of devices.new.items ≡ map device_of devices.old.items }
         ensures faults { map faults devices.new.items ≡ map faults devices.old.items }
     {
-        let Snapshot {
-            steps,
-            latches,
-            differed,
-            selected,
-            cells,
-            words,
-            log: logged,
-            repairs: noted,
-            banks,
-        } = snapshot;
+        let steps = snapshot.steps;
         let left = 3 * limit - steps;
-        let mut log = logged.into_vec();
-        log.reserve_exact(left as usize)?;
-        let mut repairs = noted.into_vec();
-        repairs.reserve_exact(left as usize)?;
-        let logic = Logic::from_latches(alloc, latches.items(), differed.items(), script.len())?;
-        let mut active = Active::for_script(alloc, &script)?;
-        let mut memory = VotedMemory::from_cells(
+        let logic = Logic::from_latches(
             alloc,
-            cells.items(),
-            selected.items(),
-            words.items(),
-            banks,
+            snapshot.latches.items(),
+            snapshot.differed.items(),
+            script.len(),
         )?;
-        put_last_in_force(&script, steps, &mut active, &mut memory);
+        let (active, memory) = memory_of(alloc, &snapshot, &script)?;
+        let log = with_room(snapshot.log, left)?;
+        let repairs = with_room(snapshot.repairs, left)?;
         prepare_all(devices, left)?;
         Ok(Machine {
-            banks,
+            banks: snapshot.banks,
             logic,
             memory,
             script,
@@ -109,6 +94,44 @@ impl Machine {
             end: None,
         })
     }
+}
+
+/// The items of a list, and room for so many more.
+fn with_room<T: Drop>(list: Seq<T>, more: u64) -> Result<Vec<T>, NoMemory>
+    ensures items { IfOk result (λ made. made.items ≡ list) }
+    ensures room { IfOk result (λ made. vec_len made + more ≤ vec_capacity made) }
+{
+    let mut made = list.into_vec();
+    made.reserve_exact(more as usize)?;
+    Ok(made)
+}
+
+/// The memory that a snapshot means, in which what the script sticks and kills in the step before is in force; and by which of
+/// its events it is.
+fn memory_of(
+    alloc: Global,
+    snapshot: &Snapshot,
+    script: &Script,
+) -> Result<(Active, VotedMemory), NoMemory>
+    requires whole { IsWhole snapshot.now }
+    requires events { All IsEvent script.now }
+    ensures fits { IfOk result (λ made. Fits script.now made.0) }
+    ensures within { IfOk result (λ made. All (λ position. position < length script.now) made.0.held) }
+    ensures last { IfOk result (λ made. made.0.last ≡ last_made snapshot.now.steps) }
+    ensures holds { IfOk result (λ made. (o : Trial) (v : Voted) → o.script ≡ script.now → o.opening.banks ≡ snapshot.now.banks
+        → Means snapshot.now v → Holds o made.0.last made.1 v.twins v.intended) }
+    ensures banks { IfOk result (λ made. made.1.twins.banks ≡ snapshot.now.banks) }
+{
+    let mut active = Active::for_script(alloc, script)?;
+    let mut memory = VotedMemory::from_cells(
+        alloc,
+        snapshot.cells.items(),
+        snapshot.selected.items(),
+        snapshot.words.items(),
+        snapshot.banks,
+    )?;
+    put_last_in_force(script, snapshot.steps, &mut active, &mut memory);
+    Ok((active, memory))
 }
 
 /// Puts in force what the script sticks and kills in the step before this one, if there is one.

@@ -1,0 +1,8 @@
+use Rattle.std.proofs.Common.{◌∙◌, sym}
+use Rattle.lvdc_machine.proofs.resumed.memory_of.Goals as goal
+
+pub returns-clause-holds : goal.returns-clause-holds
+returns-clause-holds c = λ o v script banks means.
+    rw c.put_last_in_force.ensures.last
+    (c.put_last_in_force.ensures.forced o v.twins v.intended script
+    (c.in_ok-memory.ensures.holds o v.twins v.intended banks (rw c.items.ensures means.cells) (means.selected ∙ sym c.items-2.ensures) (rw c.items-3.ensures means.words)))
