@@ -10,10 +10,10 @@ use Rattle.lvdc_vote.specs.Bits.{majority, flipped}
 abbrev pub counting : Trial
 counting = trial (0o17000 ∷ 0o07001 ∷ 0o13000 ∷ 0o10000 ∷ []) (0 ∷ 1 ∷ []) []
 
-through_600_steps : a_of (through counting 600) ≡ 50
+through_240_steps : a_of (through counting 240) ≡ 20
 unfolding with_stuck majority flipped
-through_600_steps = refl
+through_240_steps = refl
 
-guarded_120_steps : a_of (guarded counting 120) ≡ 10
+guarded_60_steps : a_of (guarded counting 60) ≡ 5
 unfolding with_stuck majority flipped
-guarded_120_steps = refl
+guarded_60_steps = refl

@@ -2,11 +2,15 @@
 use Rattle.std.proofs.Common.{◌≡◌, ℕ, zero, suc, ◌+◌, ◌*◌, ◌%◌, refl, true, false, List, [], ◌∷◌, ◌++◌}
 use Rattle.lvdc_map.specs.Hop.{hop_of}
 use Rattle.lvdc_map.specs.Memory as memory
+use Rattle.lvdc_port.specs.Device.{Device}
 use Rattle.lvdc_port.specs.declared.device.Kind.TheVariants.{Tape, Recorder}
 use Rattle.lvdc_fault.specs.declared.event.Event.{Event}
 use Rattle.lvdc_fault.specs.declared.event.Event.TheVariants.{Flip}
+use Rattle.lvdc_plain.specs.Plain.{PlainState}
+use Rattle.lvdc_plain.specs.declared.records.Exchange.{Exchange}
 use Rattle.lvdc_model.specs.Runs.{through}
 use Rattle.lvdc_model.specs.Trial.{Trial, plain_at}
+use Rattle.lvdc_model.specs.Voted.{Voted}
 use Rattle.lvdc_model.proofs.LedgerRows.{placed, at}
 use Rattle.lvdc_model.proofs.VotedRows.{a_of}
 use Rattle.lvdc_word.specs.Cell.{with_stuck}
@@ -33,29 +37,32 @@ program =
       script = flips 60;
     }
 
-plain_registers : ((plain_at program 40).a ≡ 0) × ((plain_at program 40).pq ≡ 0o10) × ((plain_at program 40).saver ≡ 0o000010016) × ((plain_at program 40).place.loc ≡ 3)
-unfolding with_stuck majority flipped
-plain_registers = (refl, refl, refl, refl)
+-- A, PQ, the saver and the location of a plain state, its log, and two of its words
+abbrev pub shown_plainly : PlainState → ℕ × ℕ × ℕ × ℕ × List Exchange × ℕ × ℕ
+shown_plainly p = (p.a, p.pq, p.saver, p.place.loc, p.log, memory.word_at p.memory (at 1 1), memory.word_at p.memory (at 15 0o376))
 
-plain_log : (plain_at program 40).log ≡
-    record { time = 0; port = 0; reading = true; word = 0o10 } ∷ record { time = 15; port = 0o17; reading = false; word = 0o4 }
-    ∷ record { time = 17; port = 0; reading = true; word = 0o20 } ∷ record { time = 32; port = 0o17; reading = false; word = 0o14 }
-    ∷ record { time = 34; port = 0; reading = true; word = 0 } ∷ []
+plain_run : shown_plainly (plain_at program 40) ≡ (
+  0,
+  0o10,
+  0o000010016,
+  3,
+  record { time = 0; port = 0; reading = true; word = 0o10 } ∷ record { time = 15; port = 0o17; reading = false; word = 0o4 }
+      ∷ record { time = 17; port = 0; reading = true; word = 0o20 } ∷ record { time = 32; port = 0o17; reading = false; word = 0o14 }
+      ∷ record { time = 34; port = 0; reading = true; word = 0 } ∷ [],
+  0o14,
+  0o12016,
+)
 unfolding with_stuck majority flipped
-plain_log = refl
+plain_run = refl
 
-plain_words : (memory.word_at (plain_at program 40).memory (at 1 1) ≡ 0o14) × (memory.word_at (plain_at program 40).memory (at 15 0o376) ≡ 0o12016)
-unfolding with_stuck majority flipped
-plain_words = (refl, refl)
+-- the voted A of a voted state, its counts and its devices
+abbrev pub shown_voted : Voted → ℕ × List (List ℕ) × List Device
+shown_voted v = (a_of v, v.counts, v.devices)
 
-voted_registers : a_of (through program 120) ≡ 0
+voted_run : shown_voted (through program 120) ≡ (
+  0,
+  (3 ∷ 3 ∷ 3 ∷ []) ∷ (3 ∷ 3 ∷ 3 ∷ []) ∷ (3 ∷ 3 ∷ 3 ∷ []) ∷ (3 ∷ 3 ∷ 3 ∷ []) ∷ (2 ∷ 3 ∷ 3 ∷ []) ∷ (3 ∷ 2 ∷ 3 ∷ []) ∷ (3 ∷ 3 ∷ 2 ∷ []) ∷ [],
+  record { port = 0; kind = Tape; state = [] } ∷ record { port = 0o17; kind = Recorder; state = 0o4 ∷ 0o14 ∷ [] } ∷ [],
+)
 unfolding with_stuck majority flipped
-voted_registers = refl
-
-voted_counts : (through program 120).counts ≡ (3 ∷ 3 ∷ 3 ∷ []) ∷ (3 ∷ 3 ∷ 3 ∷ []) ∷ (3 ∷ 3 ∷ 3 ∷ []) ∷ (3 ∷ 3 ∷ 3 ∷ []) ∷ (2 ∷ 3 ∷ 3 ∷ []) ∷ (3 ∷ 2 ∷ 3 ∷ []) ∷ (3 ∷ 3 ∷ 2 ∷ []) ∷ []
-unfolding with_stuck majority flipped
-voted_counts = refl
-
-voted_devices : (through program 120).devices ≡ record { port = 0; kind = Tape; state = [] } ∷ record { port = 0o17; kind = Recorder; state = 0o4 ∷ 0o14 ∷ [] } ∷ []
-unfolding with_stuck majority flipped
-voted_devices = refl
+voted_run = refl
