@@ -17,6 +17,15 @@ operation_code c address small =
     (below_more P 7 (below_more P 6 (below_more P 5 (below_more P 4 (below_more P 3 (below_more P 2 (below_more P 1 (below_more P 0
     (below_none P) refl) refl) refl) refl) refl) refl) refl) refl) refl) refl) refl) refl) refl) refl) (fourteen_code address)) refl c small
 
+-- a syllable is an instruction
+pub IsInstruction-instr : (s : ℕ) → s < 2 ^ 13 → IsInstruction (instr s)
+IsInstruction-instr s small =
+    let top : s / 2 ^ 9 < 16 = omega arith in
+    record {
+      nine_bits = omega arith;
+      meant = ap (λ c. operation c (s % 2 ^ 9)) (operation_code (s / 2 ^ 9) (s % 2 ^ 9) top);
+    }
+
 -- encoding what was decoded gives the syllable again
 pub syllable_of-instr : (s : ℕ) → s < 2 ^ 13 → syllable_of (instr s) ≡ s
 syllable_of-instr s small =

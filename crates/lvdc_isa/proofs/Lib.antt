@@ -1,2 +1,3 @@
 pub mod CodecLaws
+pub mod MnemonicLaws
 mod Rows

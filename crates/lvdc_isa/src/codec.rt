@@ -1,5 +1,5 @@
 ghost use Rattle.std.specs.Prelude.{◌≡◌, ◌<◌};
-ghost use Rattle.lvdc_isa.specs.Instr.{instr, fourteen, is_shift, syllable_of, IsInstruction};
+ghost use Rattle.lvdc_isa.specs.Instr.{instr, operation, fourteen, is_shift, syllable_of, IsInstruction};
 
 use crate::{Instr, Op};
 use lvdc_word::Syllable;
@@ -13,7 +13,28 @@ pub fn decode(syllable: Syllable) -> Instr
 {
     let s = syllable.value();
     let address = s & 511;
-    let op = match s >> 9 {
+    Instr {
+        op: operation(s >> 9, address),
+        address,
+    }
+}
+
+/// The syllable of an instruction that some syllable is. `decode` and `encode` are inverse to each other.
+pub fn encode(instruction: Instr) -> Syllable
+    requires { IsInstruction instruction }
+    ensures value { result ≡ syllable_of instruction }
+    ensures decoded { instr result ≡ instruction }
+{
+    Syllable::within(instruction.op.code() << 9 | instruction.address)
+}
+
+/// What a code means at an address.
+fn operation(code: u16, address: u16) -> Op
+    requires code { code < 16 }
+    requires address { address < 512 }
+    ensures { result ≡ operation code address }
+{
+    match code {
         0 => Op::Hop,
         1 => Op::Mpy,
         2 => Op::Sub,
@@ -31,17 +52,7 @@ pub fn decode(syllable: Syllable) -> Instr
         14 => fourteen(address),
         15 => Op::Cla,
         _ => unreachable!(),
-    };
-    Instr { op, address }
-}
-
-/// The syllable of an instruction that some syllable is. `decode` and `encode` are inverse to each other.
-pub fn encode(instruction: Instr) -> Syllable
-    requires { IsInstruction instruction }
-    ensures value { result ≡ syllable_of instruction }
-    ensures decoded { instr result ≡ instruction }
-{
-    Syllable::within(instruction.op.code() << 9 | instruction.address)
+    }
 }
 
 /// What code 14 means, by A9 and A8.

@@ -29,6 +29,13 @@ pub fn mnemonic(text: &[u8]) -> Option<Op>
     ensures unnamed { IfNone result ((op : Op) → text.now ≢ mnemonic_of op) }
     ensures read_back { (op : Op) → op ≢ WrongShift → text.now ≡ mnemonic_of op → result ≡ Some op }
 {
+    named(text)
+}
+
+/// The operation of each mnemonic.
+fn named(text: &[u8]) -> Option<Op>
+    ensures { result ≡ operation_named text.now }
+{
     match text {
         b"HOP" => Some(Op::Hop),
         b"MPY" => Some(Op::Mpy),
