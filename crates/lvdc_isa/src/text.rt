@@ -4,6 +4,28 @@ ghost use Rattle.lvdc_isa.specs.Mnemonics.{mnemonic_of, operation_named, octal_d
 
 use crate::{Instr, Op};
 
+/// The operations that a mnemonic names.
+const NAMED: [Op; 18] = [
+    Op::Hop,
+    Op::Mpy,
+    Op::Sub,
+    Op::Div,
+    Op::Tnz,
+    Op::Mph,
+    Op::And,
+    Op::Add,
+    Op::Tra,
+    Op::Xor,
+    Op::Pio,
+    Op::Sto,
+    Op::Tmi,
+    Op::Rsu,
+    Op::Cds,
+    Op::Shf,
+    Op::Exm,
+    Op::Cla,
+];
+
 /// The instruction as text: its mnemonic, a blank and three octal digits of its address.
 pub fn print(instruction: Instr) -> [u8; 7]
     requires { instruction.address < 512 }
@@ -29,34 +51,10 @@ pub fn mnemonic(text: &[u8]) -> Option<Op>
     ensures unnamed { IfNone result ((op : Op) → text.now ≢ mnemonic_of op) }
     ensures read_back { (op : Op) → op ≢ WrongShift → text.now ≡ mnemonic_of op → result ≡ Some op }
 {
-    named(text)
-}
-
-/// The operation of each mnemonic.
-fn named(text: &[u8]) -> Option<Op>
-    ensures { result ≡ operation_named text.now }
-{
-    match text {
-        b"HOP" => Some(Op::Hop),
-        b"MPY" => Some(Op::Mpy),
-        b"SUB" => Some(Op::Sub),
-        b"DIV" => Some(Op::Div),
-        b"TNZ" => Some(Op::Tnz),
-        b"MPH" => Some(Op::Mph),
-        b"AND" => Some(Op::And),
-        b"ADD" => Some(Op::Add),
-        b"TRA" => Some(Op::Tra),
-        b"XOR" => Some(Op::Xor),
-        b"PIO" => Some(Op::Pio),
-        b"STO" => Some(Op::Sto),
-        b"TMI" => Some(Op::Tmi),
-        b"RSU" => Some(Op::Rsu),
-        b"CDS" => Some(Op::Cds),
-        b"SHF" => Some(Op::Shf),
-        b"EXM" => Some(Op::Exm),
-        b"CLA" => Some(Op::Cla),
-        _ => None,
-    }
+    NAMED
+        .iter()
+        .find(|op| text == name(**op).as_slice())
+        .copied()
 }
 
 /// The mnemonic of an operation.
