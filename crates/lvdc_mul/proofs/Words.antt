@@ -33,7 +33,7 @@ floor_is (pos n) x r e small = omega (arith, ints, e)
 floor_is (negsuc n) x r e small = omega (arith, ints, e)
 
 -- and so is a word
-word_is : (z k : ℤ) (w : ℕ) → z ≡ (k *ℤ pos 67108864) +ℤ pos w → w < 67108864 → word_of z ≡ w
+pub word_is : (z k : ℤ) (w : ℕ) → z ≡ (k *ℤ pos 67108864) +ℤ pos w → w < 67108864 → word_of z ≡ w
 word_is (pos n) k w e small = omega (arith, ints, e)
 word_is (negsuc n) k w e small = omega (arith, ints, e)
 
