@@ -1,9 +1,10 @@
 -- What the devices of a time are after unplugging, and after its exchange.
-use Rattle.std.proofs.Common.{◌≡◌, ℕ, ◌≢◌, ◌≤◌, ◌==◌, List, [], ◌∷◌, All, Bool, true, false, map, refl, sym, ◌∙◌, ap, subst, arith}
+use Rattle.std.proofs.Common.{◌≡◌, ℕ, suc, ◌+◌, ◌≢◌, ◌<◌, ◌≤◌, ◌==◌, List, [], ◌∷◌, length, get_or, drop, drop-cons, All, Bool, true, false, map, refl, sym, ◌∙◌, ap, subst, arith, add-one}
 use Rattle.std.specs.Bool.{if◌then◌else◌}
 use Rattle.std.specs.declared.option.Option.{Option}
 use Rattle.std.specs.declared.option.Option.TheVariants.{None, Some}
-use Rattle.std.proofs.lemmas.Bool.{true≢false, eqb-true}
+use Rattle.std.proofs.lemmas.Bool.{true≢false, eq-eqb, ne_eqb, eqb-true}
+use Rattle.std.proofs.lemmas.List.{drop_all}
 use Rattle.std.proofs.lemmas.List.Elements.{All-head, All-tail, All-cons, All-map}
 use Rattle.lvdc_port.specs.Causes.{Rose}
 use Rattle.lvdc_port.specs.Device.{Device}
@@ -26,6 +27,33 @@ map-left device_of (line ∷ lines) time bs =
           ∙ ap (λ ds. left_at (λ d. d) lines time ds) (map-without device_of line.port bs)
       | false ↦ map-left device_of lines time bs
     ]
+
+-- one more line of a list is read, and then no more
+left_more : {B : Type 0} (device_of : B → Device) (lines : List Unplug) (time i : ℕ) (d : Unplug) (bs new : List B) (t : Bool) →
+    i < length lines → ((get_or lines i d).time == time) ≡ t → new ≡ (if t then without device_of (get_or lines i d).port bs else bs) →
+    left_at device_of (drop (i + 1) lines) time new ≡ left_at device_of (drop i lines) time bs
+left_more device_of lines time i d bs new t within test is =
+    rw add-one (
+    ap (λ ds. left_at device_of (drop (suc i) lines) time ds)
+    (is ∙ ap (λ b. if b then without device_of (get_or lines i d).port bs else bs) (sym test))
+    ∙ sym (ap (λ ls. left_at device_of ls time bs) (drop-cons lines i d within))
+    )
+
+pub left-taken : {B : Type 0} (device_of : B → Device) (lines : List Unplug) (time i : ℕ) (d : Unplug) (bs new : List B) →
+    i < length lines → (get_or lines i d).time ≡ time → new ≡ without device_of (get_or lines i d).port bs →
+    left_at device_of (drop (i + 1) lines) time new ≡ left_at device_of (drop i lines) time bs
+left-taken device_of lines time i d bs new within now is =
+    left_more device_of lines time i d bs new true within (eq-eqb (get_or lines i d).time time now) is
+
+pub left-kept : {B : Type 0} (device_of : B → Device) (lines : List Unplug) (time i : ℕ) (d : Unplug) (bs new : List B) →
+    i < length lines → (get_or lines i d).time ≢ time → new ≡ bs →
+    left_at device_of (drop (i + 1) lines) time new ≡ left_at device_of (drop i lines) time bs
+left-kept device_of lines time i d bs new within later is =
+    left_more device_of lines time i d bs new false within (ne_eqb (get_or lines i d).time time later) is
+
+pub left-done : {B : Type 0} (device_of : B → Device) (lines : List Unplug) (time i : ℕ) (bs : List B) →
+    length lines ≤ i → left_at device_of (drop i lines) time bs ≡ bs
+left-done device_of lines time i bs past = ap (λ ls. left_at device_of ls time bs) (drop_all i lines past)
 
 has-without-at : {B : Type 0} (device_of : B → Device) (p q : ℕ) (bs : List B) (t : Bool) →
     has_port device_of p bs ≡ t → has_port device_of p (without device_of q bs) ≡ true → t ≡ true

@@ -20,7 +20,7 @@ pub fn quotient(a: Word, m: Word) -> Word
 {
     let a = fraction(a);
     let m = fraction(m);
-    let negative = if a < 0 { m >= 0 } else { m < 0 };
+    let negative = (a < 0) != (m < 0);
     if a.unsigned_abs() < m.unsigned_abs() {
         proper(a.unsigned_abs(), m.unsigned_abs(), negative)
     } else if negative {
