@@ -5,3 +5,4 @@ pub mod Moves
 pub mod Placing
 pub mod Rising
 pub mod Starts
+pub mod Found
