@@ -1,5 +1,6 @@
 mod Rows
 pub mod Parts
+pub mod Sizes
 pub mod WordLines
 pub mod Printing
 pub mod Digits

@@ -1,4 +1,4 @@
-ghost use Rattle.std.specs.Prelude.{◌≡◌};
+ghost use Rattle.std.specs.Prelude.{◌≡◌, ◌≤◌, length};
 ghost use Rattle.lvdc_image.specs.declared.fault.ImageFault.TheVariants.{NoMemory as WantsMemory};
 
 use lvdc_word::NoMemory;
@@ -20,6 +20,35 @@ pub enum ImageFault {
     /// The value doesn't fit 26 bits, or it is a start constant with the spare bit.
     #[error("the value on line {0} is no word")]
     BadWord(u32),
+}
+
+impl ImageFault {
+    ghost use Rattle.lvdc_image.specs.Faults.{name_of, line_of};
+
+    /// The name of the cause, as a refusal tells it.
+    pub fn name(&self) -> &'static [u8]
+        ensures name { result.now ≡ name_of self.now }
+        ensures short { length result.now ≤ 12 }
+    {
+        match self {
+            ImageFault::NoMemory => b"NoMemory",
+            ImageFault::BadImageLine(_) => b"BadImageLine",
+            ImageFault::AddressOrder(_) => b"AddressOrder",
+            ImageFault::BadWord(_) => b"BadWord",
+        }
+    }
+
+    /// The line of the refusal, counted from 1; 0 where there was no memory.
+    pub fn line(&self) -> u32
+        ensures { result ≡ line_of self.now }
+    {
+        match self {
+            ImageFault::NoMemory => 0,
+            ImageFault::BadImageLine(line) => *line,
+            ImageFault::AddressOrder(line) => *line,
+            ImageFault::BadWord(line) => *line,
+        }
+    }
 }
 
 impl From<NoMemory> for ImageFault {

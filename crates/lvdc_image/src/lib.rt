@@ -14,5 +14,8 @@ pub use image::Image;
 pub use print::print_image;
 pub use read::read_image;
 
+/// The text of an image has at most so many bytes: a line for each address, and four more.
+pub const LONGEST_IMAGE: usize = 622_635;
+
 #[cfg(test)]
 mod tests;

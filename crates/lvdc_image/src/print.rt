@@ -1,8 +1,9 @@
-ghost use Rattle.std.specs.Prelude.{◌≡◌, ◌<◌, ◌++◌, ◌∷◌, [], map, codes, List, All, IfOk, IfSome, OnOk, Ok};
+ghost use Rattle.std.specs.Prelude.{◌≡◌, ◌<◌, ◌≤◌, ◌++◌, ◌∷◌, [], length, map, codes, List, All, IfOk, IfSome, OnOk, Ok};
 ghost use Rattle.lvdc_map.specs.Hop.{IsHopConstant};
 ghost use Rattle.lvdc_text.specs.Lines.{lines_of};
 ghost use Rattle.lvdc_image.specs.Image.{IsPlaced, word_line, start_line, pair_name, simplex_line, simplex_lines, head_lines, image_lines, text_of, image_text};
 ghost use Rattle.lvdc_image.specs.Reading.{NumberedLine, numbered, texts, image_of};
+ghost use Rattle.lvdc_image.specs.declared.TheConstants.{LONGEST_IMAGE};
 
 use crate::Image;
 use lvdc_map::{Banks, Hop, Placed};
@@ -85,6 +86,7 @@ fn put_head(out: &mut Vec<u8>, start: Option<Hop>, banks: Banks) -> Result<(), N
 /// The text of the image: version 2 where it has a start constant, else version 1. Each line ends with LF.
 pub fn print_image(alloc: Global, image: &Image) -> Result<Vec<u8>, NoMemory>
     ensures text { IfOk result (λ text. text.items ≡ image_text image.now) }
+    ensures short { IfOk result (λ text. length text.items ≤ LONGEST_IMAGE) }
     // The lines of the image, whatever their numbers, tell the image.
     ensures lines { IfOk result (λ text. (lines : List NumberedLine) →
         texts lines ≡ image_lines image.now → image_of lines ≡ Ok image.now) }

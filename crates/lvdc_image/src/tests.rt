@@ -87,3 +87,11 @@ fn a_missing_end_is_named_after_the_last_line(rt: HostRuntime) -> Result<(), Fai
     assert_eq!(rt; refusal(alloc, more)?, Some(ImageFault::BadImageLine(3)));
     Ok(())
 }
+
+#[test]
+fn a_cause_has_a_name_and_a_line(rt: HostRuntime) -> Result<(), Fail> {
+    let fault = ImageFault::AddressOrder(5);
+    assert_eq!(rt; fault.name(), b"AddressOrder".as_slice());
+    assert_eq!(rt; fault.line(), 5);
+    Ok(())
+}

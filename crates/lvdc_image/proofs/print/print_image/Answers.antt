@@ -1,7 +1,8 @@
-use Rattle.std.proofs.Common.{is_ok, ap}
+use Rattle.std.proofs.Common.{ℕ, is_ok, ap, length, arith, length-append}
 use Rattle.std.proofs.ResultArms.{chosen}
 use Rattle.lvdc_text.specs.Lines.{lines_of}
 use Rattle.lvdc_image.specs.Reading.{numbered}
+use Rattle.lvdc_image.proofs.Sizes.{length-head, length-words, few-words}
 use Rattle.lvdc_image.proofs.Printing.{image_text-parts}
 use Rattle.lvdc_image.proofs.ImageBack.{image_of-printed}
 use Rattle.lvdc_image.proofs.TextBack.{texts-image_text}
@@ -22,3 +23,17 @@ pub returns-clause-back : goal.returns-clause-back
 returns-clause-back c =
     returns-clause-lines c (numbered c.extend_from_slice.new.self.items (lines_of c.extend_from_slice.new.self.items))
     (texts-image_text c.extend_from_slice.new.self.items c.args.image.now (returns-clause-text c))
+
+pub returns-clause-short : goal.returns-clause-short
+returns-clause-short c =
+    omega (
+      arith,
+      length-append {A = ℕ},
+      ap length c.new-out.ensures.items,
+      ap length c.in_ok-put_head.ensures.lines,
+      length-head c.start.result c.banks.result,
+      ap length c.in_ok-put_words.ensures.lines,
+      length-words c.words.result.now,
+      few-words c.words.result.now c.words.ensures.rising c.in_ok-put_words.ensures.placed,
+      ap length (chosen _ _ _ _ c.extend_from_slice.ensures.items (ap is_ok c.in_ok-extend_from_slice.was)),
+    )
