@@ -9,8 +9,8 @@ use Rattle.lvdc_image.specs.Image.{text_of}
 use Rattle.lvdc_image.specs.Reading.{words_from as words_told, entry_in, banks_in, banks_named, image_of}
 use Rattle.lvdc_image.specs.declared.fault.ImageFault.TheVariants.{BadImageLine}
 use Rattle.lvdc_fault.specs.declared.event.Event.TheVariants.{Flip, Lag, Damage}
-use Rattle.lvdc_script.specs.Fields.{target_in, span_in, step_in}
-use Rattle.lvdc_script.specs.Orders.{plain_order}
+use Rattle.lvdc_script_lines.specs.Fields.{target_in, span_in, step_in}
+use Rattle.lvdc_orders.specs.Orders.{plain_order}
 use Rattle.lvdc_deck.specs.Deck.{sections_from, deck_from, deck_of}
 use Rattle.lvdc_deck.specs.Soak.{seed_of, after_draws, words_drawn, flip_event, damage_event, events_from}
 use Rattle.lvdc_deck.specs.declared.deck.Deck.{Deck}

@@ -3,7 +3,7 @@ use Rattle.std.specs.Prelude.{ℕ, ◌+◌, Bool, List, [], ◌∷◌, take, dro
 use Rattle.std.specs.declared.option.Option.{Option}
 use Rattle.std.specs.declared.option.Option.TheVariants.{None, Some}
 use Rattle.lvdc_map.specs.Hop.{HopConstant, hop_of}
-use Rattle.lvdc_text.specs.Lines.{lines_of, part_of}
+use Rattle.lvdc_text.specs.Lines.{lines_of, part_of, word_texts_of}
 use Rattle.lvdc_text.specs.declared.cutting.Line.{Line}
 use Rattle.lvdc_port.specs.Device.{Device}
 use Rattle.lvdc_image.specs.Image.{Contents}
@@ -14,7 +14,7 @@ use Rattle.lvdc_deck.specs.declared.fault.DeckFault.{DeckFault}
 use Rattle.lvdc_deck.specs.declared.fault.DeckFault.TheVariants.{BadSection, BadLine, NoProgram, NotBuilt, Image}
 use Rattle.lvdc_deck.specs.declared.section.Opening.{Opening}
 use Rattle.lvdc_deck.specs.declared.section.Opening.TheVariants as opening
-use Rattle.lvdc_deck.specs.Sections.{Sections, nothing_said, is_long, is_skipped, tokens_of, is_word, after_line}
+use Rattle.lvdc_deck.specs.Sections.{Sections, nothing_said, is_long, is_skipped, is_word, after_line}
 
 -- goes on with what was read, or stays refused
 abbrev pub and_then : {A B : Type 0} → Result A DeckFault → (A → Result B DeckFault) → Result B DeckFault
@@ -25,7 +25,7 @@ and_then (Err fault) f = Err fault
 
 -- the line that ends it: END without outer blanks
 abbrev pub is_end : List ℕ → Bool
-is_end text = is_word (codes "END") (tokens_of text)
+is_end text = is_word (codes "END") (word_texts_of text)
 
 -- the place of the first such line
 abbrev pub end_of : List ℕ → List Line → Option ℕ
@@ -81,7 +81,7 @@ opened_by tokens =
 -- what a line opens that may be the first
 abbrev pub opening_of : List ℕ → Opening
 opening_of text =
-    if is_long text then opening.Long else (if is_skipped text then opening.Skipped else opened_by (tokens_of text))
+    if is_long text then opening.Long else (if is_skipped text then opening.Skipped else opened_by (word_texts_of text))
 
 -- from a line on that may be the first, by what it opens, and by what the lines after it come to
 abbrev pub by_opening : List Device → List ℕ → ℕ → ℕ → List Line → Opening → Result Deck DeckFault → Result Deck DeckFault

@@ -1,3 +1,4 @@
 pub mod Sections
 pub mod Deck
 pub mod Soak
+pub mod Faults

@@ -5,7 +5,7 @@ use Rattle.std.specs.Str.{bytes_eq}
 use Rattle.std.specs.declared.option.Option.{Option}
 use Rattle.std.specs.declared.option.Option.TheVariants.{None, Some}
 use Rattle.lvdc_map.specs.Hop.{HopConstant, hop_of}
-use Rattle.lvdc_text.specs.Lines.{words_of, part_of, is_blank}
+use Rattle.lvdc_text.specs.Lines.{word_texts_of, is_blank}
 use Rattle.lvdc_text.specs.Numbers.{number_of, plain_number_of, below, word_in}
 use Rattle.lvdc_port.specs.Device.{Device}
 use Rattle.lvdc_port.specs.Supplies.{kind_at}
@@ -14,7 +14,7 @@ use Rattle.lvdc_port.specs.declared.device.Kind.TheVariants.{Tape}
 use Rattle.lvdc_port.specs.declared.requests.Supply.{Supply}
 use Rattle.lvdc_plain.specs.declared.records.Unplug.{Unplug}
 use Rattle.lvdc_fault.specs.declared.event.Event.{Event}
-use Rattle.lvdc_script.specs.Lines.{fault_in, order_in}
+use Rattle.lvdc_script_lines.specs.Lines.{fault_in, order_in}
 use Rattle.lvdc_deck.specs.declared.fault.DeckFault.{DeckFault}
 use Rattle.lvdc_deck.specs.declared.fault.DeckFault.TheVariants.{NoMemory as WantsMemory, BadSection, BadLine, NoDevice, TooManyEvents, CountTooLarge, NotBuilt}
 use Rattle.lvdc_deck.specs.declared.section.Section.{Section}
@@ -56,10 +56,6 @@ is_long text = nat_lt 120 (length text)
 abbrev pub is_skipped : List ℕ → Bool
 is_skipped [] = true
 is_skipped (b ∷ bs) = b == 42 || list_all is_blank (b ∷ bs)
-
--- the tokens of a line
-abbrev pub tokens_of : List ℕ → List (List ℕ)
-tokens_of text = map (part_of text) (words_of text)
 
 -- these tokens are one word, and it is this one
 abbrev pub is_word : List ℕ → List (List ℕ) → Bool
@@ -283,7 +279,7 @@ by_tokens devices s number (first ∷ tokens) = by_word devices (section_of firs
 abbrev pub after_line : List Device → Sections → ℕ → List ℕ → Result Sections DeckFault
 after_line devices s number text =
     if is_long text then Err (BadLine number)
-    else (if is_skipped text then Ok s else by_tokens devices s number (tokens_of text))
+    else (if is_skipped text then Ok s else by_tokens devices s number (word_texts_of text))
 
 -- a call made these sections, or was refused by this fault, unless memory ran out
 abbrev pub Makes : {T : Type 0} → Result T DeckFault → Sections → Result Sections DeckFault → Type 0

@@ -1,9 +1,9 @@
 use lvdc_fault::Script;
 use lvdc_image::Image;
 use lvdc_map::{Banks, Hop};
+use lvdc_orders::Orders;
 use lvdc_plain::Unplug;
 use lvdc_port::Supply;
-use lvdc_script::Orders;
 use lvdc_word::Seq;
 
 /// What a deck asks for.

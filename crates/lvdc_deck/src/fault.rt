@@ -1,4 +1,4 @@
-ghost use Rattle.std.specs.Prelude.{◌≡◌};
+ghost use Rattle.std.specs.Prelude.{◌≡◌, ◌≤◌, length};
 ghost use Rattle.lvdc_deck.specs.declared.fault.DeckFault.TheVariants.{NoMemory as WantsMemory};
 
 use lvdc_image::ImageFault;
@@ -36,6 +36,45 @@ pub enum DeckFault {
     /// The program is no image.
     #[error(transparent)]
     Image(ImageFault),
+}
+
+impl DeckFault {
+    ghost use Rattle.lvdc_deck.specs.Faults.{name_of, line_of};
+
+    /// The name of the cause, as a refusal tells it; of an image's refusal the image's own.
+    pub fn name(&self) -> &'static [u8]
+        ensures name { result.now ≡ name_of self.now }
+        ensures short { length result.now ≤ 13 }
+    {
+        match self {
+            DeckFault::NoMemory => b"NoMemory",
+            DeckFault::BadSection(_) => b"BadSection",
+            DeckFault::BadLine(_) => b"BadLine",
+            DeckFault::NoProgram(_) => b"NoProgram",
+            DeckFault::NoDevice(_) => b"NoDevice",
+            DeckFault::TooManyEvents(_) => b"TooManyEvents",
+            DeckFault::CountTooLarge(_) => b"CountTooLarge",
+            DeckFault::NotBuilt(_) => b"NotBuilt",
+            DeckFault::Image(fault) => fault.name(),
+        }
+    }
+
+    /// The line of the refusal, counted from 1; 0 where there was no memory.
+    pub fn line(&self) -> u32
+        ensures { result ≡ line_of self.now }
+    {
+        match self {
+            DeckFault::NoMemory => 0,
+            DeckFault::BadSection(line) => *line,
+            DeckFault::BadLine(line) => *line,
+            DeckFault::NoProgram(line) => *line,
+            DeckFault::NoDevice(line) => *line,
+            DeckFault::TooManyEvents(line) => *line,
+            DeckFault::CountTooLarge(line) => *line,
+            DeckFault::NotBuilt(line) => *line,
+            DeckFault::Image(fault) => fault.line(),
+        }
+    }
 }
 
 impl From<NoMemory> for DeckFault {

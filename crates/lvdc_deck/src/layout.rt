@@ -1,13 +1,11 @@
-ghost use Rattle.std.specs.Prelude.{◌≡◌, ◌<◌, ◌-◌, ◌^◌, length, map, IfOk, All};
+ghost use Rattle.std.specs.Prelude.{◌≡◌, ◌<◌, ◌-◌, ◌^◌, length, map, All};
 ghost use Rattle.std.specs.List.{list_all};
 ghost use Rattle.lvdc_text.specs.Lines.{IsWithin, part_of, is_blank};
 ghost use Rattle.lvdc_deck.specs.Sections.{is_long, is_skipped, is_word, section_of, rank, is_unbuilt};
 ghost use Rattle.lvdc_deck.specs.Deck.{opened_by, opening_of, is_end, end_of};
 
 use crate::section::{Opening, Section};
-use lvdc_text::{Line, part, tokens};
-use lvdc_word::NoMemory;
-use std::alloc::Global;
+use lvdc_text::{Line, few_tokens, part};
 
 /// The most bytes of a line outside the program's text (this project's profile).
 const LONGEST: usize = 120;
@@ -85,39 +83,43 @@ fn opened_by(text: &[u8], tokens: &[Line]) -> Opening
 }
 
 /// What a line opens that may be the deck's first.
-pub(crate) fn opening_of(alloc: Global, text: &[u8]) -> Result<Opening, NoMemory>
+pub(crate) fn opening_of(text: &[u8]) -> Opening
     requires { length text.now < 2 ^ 32 - 1 }
-    ensures { IfOk result (λ opening. opening ≡ opening_of text.now) }
+    ensures { result ≡ opening_of text.now }
 {
     if is_long(text) {
-        return Ok(Opening::Long);
+        return Opening::Long;
     }
     if is_skipped(text) {
-        return Ok(Opening::Skipped);
+        return Opening::Skipped;
     }
-    let tokens = tokens(alloc, text)?;
-    Ok(opened_by(text, tokens.as_slice()))
+    match few_tokens::<1>(text) {
+        Some(tokens) => opened_by(text, tokens.as_slice()),
+        None => Opening::Other,
+    }
 }
 
 /// Is the line the program's last?
-fn is_end(alloc: Global, text: &[u8]) -> Result<bool, NoMemory>
+fn is_end(text: &[u8]) -> bool
     requires { length text.now < 2 ^ 32 - 1 }
-    ensures { IfOk result (λ ends. ends ≡ is_end text.now) }
+    ensures { result ≡ is_end text.now }
 {
-    let tokens = tokens(alloc, text)?;
-    Ok(is_word(b"END", text, tokens.as_slice()))
+    match few_tokens::<1>(text) {
+        Some(tokens) => is_word(b"END", text, tokens.as_slice()),
+        None => false,
+    }
 }
 
 /// The place of the program's last line among these.
-pub(crate) fn end_of(alloc: Global, bytes: &[u8], lines: &[Line]) -> Result<Option<usize>, NoMemory>
+pub(crate) fn end_of(bytes: &[u8], lines: &[Line]) -> Option<usize>
     requires size { length bytes.now < 2 ^ 32 - 1 }
     requires within { All (IsWithin bytes.now) lines.now }
-    ensures { IfOk result (λ at. at ≡ end_of bytes.now lines.now) }
+    ensures { result ≡ end_of bytes.now lines.now }
 {
     for (at, line) in lines.iter().enumerate() {
-        if is_end(alloc, part(bytes, line))? {
-            return Ok(Some(at));
+        if is_end(part(bytes, line)) {
+            return Some(at);
         }
     }
-    Ok(None)
+    None
 }

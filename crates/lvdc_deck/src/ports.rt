@@ -1,6 +1,6 @@
 //! What the lines of PORTS say.
 
-ghost use Rattle.std.specs.Prelude.{◌≡◌, map, All};
+ghost use Rattle.std.specs.Prelude.{◌≡◌, ◌∷◌, ℕ, List, map, All};
 ghost use Rattle.lvdc_text.specs.Lines.{IsWithin, part_of};
 ghost use Rattle.lvdc_deck.specs.Sections.{is_unplugged, kind_left, tape_line, unplug_line, port_line, Makes};
 
@@ -87,23 +87,27 @@ impl Said {
         Ok(())
     }
 
-    /// Takes a line of PORTS, with this first word.
+    /// Takes a line of PORTS.
     pub(crate) fn port_line(
         &mut self,
         alloc: Global,
         devices: &Vec<Box<dyn PortDevice>>,
         number: u32,
-        first: &[u8],
         text: &[u8],
         tokens: &[Line],
     ) -> Result<(), DeckFault>
         requires { All (IsWithin text.now) tokens.now }
-        ensures { Makes result self.new (port_line (map device_of devices.now.items) self.old number first.now (map (part_of text.now) tokens.now)) }
+        ensures { (first : List ℕ) (rest : List (List ℕ)) → map (part_of text.now) tokens.now ≡ first ∷ rest
+            → Makes result self.new (port_line (map device_of devices.now.items) self.old number first rest) }
     {
-        if first == b"TAPE".as_slice() {
-            self.tape_line(alloc, devices, number, text, tokens)
-        } else if first == b"UNPLUG".as_slice() {
-            self.unplug_line(devices, number, text, tokens)
+        let [first, rest @ ..] = tokens else {
+            return Err(DeckFault::BadLine(number));
+        };
+        let word = part(text, first);
+        if word == b"TAPE".as_slice() {
+            self.tape_line(alloc, devices, number, text, rest)
+        } else if word == b"UNPLUG".as_slice() {
+            self.unplug_line(devices, number, text, rest)
         } else {
             Err(DeckFault::BadLine(number))
         }

@@ -1,7 +1,7 @@
 ghost use Rattle.std.specs.Prelude.{◌≡◌, ◌≢◌, ◌+◌, ◌-◌, ◌^◌, ◌<◌, ◌≤◌, length, map, true, IfOk, IfErr, All, Ok, Err};
 ghost use Rattle.lvdc_map.specs.Memory.{are_rising, AllThere};
 ghost use Rattle.lvdc_text.specs.Lines.{IsWithin};
-ghost use Rattle.lvdc_script.specs.Events.{IsEvent};
+ghost use Rattle.lvdc_orders.specs.Events.{IsEvent};
 ghost use Rattle.lvdc_deck.specs.Deck.{end_of, by_end, deck_of};
 ghost use Rattle.lvdc_deck.specs.declared.fault.DeckFault.TheVariants.{NoMemory as WantsMemory};
 
@@ -34,7 +34,7 @@ fn read_program(
     ensures few { IfOk result (λ deck. length deck.script ≤ 65536) }
     ensures events { IfOk result (λ deck. All IsEvent deck.script) }
 {
-    let Some(at) = end_of(alloc, bytes, lines)? else {
+    let Some(at) = end_of(bytes, lines) else {
         return Err(DeckFault::BadSection(number));
     };
     let (text, sections) = lines.split_at(at + 1);
@@ -65,7 +65,7 @@ pub fn read_deck(
     let all = found.as_slice();
     let next = all.len() as u32 + 1;
     for (at, line) in all.iter().enumerate() {
-        match opening_of(alloc, part(bytes, line))? {
+        match opening_of(part(bytes, line)) {
             Opening::Long => return Err(DeckFault::BadLine(line.number)),
             Opening::Skipped => {}
             Opening::Image => return read_program(

@@ -1,8 +1,8 @@
-ghost use Rattle.std.specs.Prelude.{◌≡◌, ◌≢◌, ◌+◌, ◌-◌, ◌^◌, ◌<◌, ◌≤◌, ◌∷◌, length, map, true, IfOk, IfErr, All, Ok, Err};
+ghost use Rattle.std.specs.Prelude.{◌≡◌, ◌≢◌, ℕ, List, ◌+◌, ◌-◌, ◌^◌, ◌<◌, ◌≤◌, ◌∷◌, length, map, true, IfOk, IfErr, All, Ok, Err};
 ghost use Rattle.lvdc_map.specs.Memory.{are_rising, AllThere};
 ghost use Rattle.lvdc_text.specs.Lines.{IsWithin, part_of, word_texts_of};
-ghost use Rattle.lvdc_script.specs.Events.{IsEvent};
-ghost use Rattle.lvdc_script.specs.Lines.{fault_in, order_in};
+ghost use Rattle.lvdc_orders.specs.Events.{IsEvent};
+ghost use Rattle.lvdc_script_lines.specs.Lines.{fault_in, order_in};
 ghost use Rattle.lvdc_deck.specs.Sections.{nothing_said, start_line, simplex_line, ports_line, faults_line, order_line, run_line, opens, in_order, with_event, with_order, belongs, by_word, by_tokens, after_line, Makes};
 ghost use Rattle.lvdc_deck.specs.Deck.{sections_from, with_program};
 ghost use Rattle.lvdc_deck.specs.declared.fault.DeckFault.TheVariants.{NoMemory as WantsMemory};
@@ -15,9 +15,10 @@ use crate::{Deck, DeckFault};
 use lvdc_fault::Script;
 use lvdc_image::{ImageFault, read_image};
 use lvdc_map::{Banks, Hop};
+use lvdc_orders::Orders;
 use lvdc_plain::Unplug;
 use lvdc_port::{PortDevice, Supply};
-use lvdc_script::{Orders, read_fault, read_order};
+use lvdc_script_lines::{event_of, order_of};
 use lvdc_text::{Line, decimal, octal_word, part, tokens};
 use lvdc_word::{Seq, Word};
 use std::alloc::Global;
@@ -41,7 +42,7 @@ pub(crate) struct Said {
 
 impl Model for Said {
     ghost use Rattle.std.specs.Prelude.{◌≤◌, length, IfSome, All};
-    ghost use Rattle.lvdc_script.specs.Events.{IsEvent};
+    ghost use Rattle.lvdc_orders.specs.Events.{IsEvent};
     ghost use Rattle.lvdc_deck.specs.Sections.{Sections};
 
     ghost Value = { Sections };
@@ -181,11 +182,11 @@ impl Said {
     }
 
     /// Takes a line of FAULTS.
-    fn take_event(&mut self, number: u32, text: &[u8]) -> Result<(), DeckFault>
-        requires { length text.now < 2 ^ 32 - 1 }
-        ensures { Makes result self.new (with_event self.old number (fault_in (word_texts_of text.now))) }
+    fn take_event(&mut self, number: u32, text: &[u8], tokens: &[Line]) -> Result<(), DeckFault>
+        requires { All (IsWithin text.now) tokens.now }
+        ensures { Makes result self.new (with_event self.old number (fault_in (map (part_of text.now) tokens.now))) }
     {
-        let Some(event) = read_fault(text) else {
+        let Some(event) = event_of(text, tokens) else {
             return Err(DeckFault::BadLine(number));
         };
         if self.script.len() >= MOST_EVENTS {
@@ -196,11 +197,11 @@ impl Said {
     }
 
     /// Takes a line of ORDER.
-    fn take_order(&mut self, number: u32, text: &[u8]) -> Result<(), DeckFault>
-        requires { length text.now < 2 ^ 32 - 1 }
-        ensures { Makes result self.new (with_order self.old number (order_in (word_texts_of text.now))) }
+    fn take_order(&mut self, number: u32, text: &[u8], tokens: &[Line]) -> Result<(), DeckFault>
+        requires { All (IsWithin text.now) tokens.now }
+        ensures { Makes result self.new (with_order self.old number (order_in (map (part_of text.now) tokens.now))) }
     {
-        let Some(order) = read_order(text) else {
+        let Some(order) = order_of(text, tokens) else {
             return Err(DeckFault::BadLine(number));
         };
         if self.orders.add(order).is_err() {
@@ -209,26 +210,23 @@ impl Said {
         Ok(())
     }
 
-    /// Takes a line whose first word is no section's.
+    /// Takes a line with these tokens, of which the first is no section's word.
     fn take_other(
         &mut self,
         alloc: Global,
         devices: &Vec<Box<dyn PortDevice>>,
         number: u32,
-        first: &[u8],
         text: &[u8],
         tokens: &[Line],
     ) -> Result<(), DeckFault>
-        requires size { length text.now < 2 ^ 32 - 1 }
         requires within { All (IsWithin text.now) tokens.now }
-        requires whole { first.now ∷ map (part_of text.now) tokens.now ≡ word_texts_of text.now }
-        ensures { Makes result self.new
-            (belongs (map device_of devices.now.items) self.old.section self.old number first.now (map (part_of text.now) tokens.now)) }
+        ensures { (first : List ℕ) (rest : List (List ℕ)) → map (part_of text.now) tokens.now ≡ first ∷ rest → Makes result self.new
+            (belongs (map device_of devices.now.items) self.old.section self.old number first rest) }
     {
         match self.section {
-            Section::Ports => self.port_line(alloc, devices, number, first, text, tokens),
-            Section::Faults => self.take_event(number, text),
-            Section::Order => self.take_order(number, text),
+            Section::Ports => self.port_line(alloc, devices, number, text, tokens),
+            Section::Faults => self.take_event(number, text, tokens),
+            Section::Order => self.take_order(number, text, tokens),
             _ => Err(DeckFault::BadSection(number)),
         }
     }
@@ -241,21 +239,18 @@ impl Said {
         text: &[u8],
         tokens: &[Line],
     ) -> Result<(), DeckFault>
-        requires size { length text.now < 2 ^ 32 - 1 }
         requires within { All (IsWithin text.now) tokens.now }
-        requires whole { map (part_of text.now) tokens.now ≡ word_texts_of text.now }
         ensures { Makes result self.new (by_tokens (map device_of devices.now.items) self.old number (map (part_of text.now) tokens.now)) }
     {
         let [first, rest @ ..] = tokens else {
             return Ok(());
         };
-        let word = part(text, first);
-        match section_of(word) {
+        match section_of(part(text, first)) {
             Some(section) if section.is_unbuilt() && rest.is_empty() => Err(DeckFault::NotBuilt(
                 number,
             )),
             Some(section) => self.open(section, number, text, rest),
-            None => self.take_other(alloc, devices, number, word, text, rest),
+            None => self.take_other(alloc, devices, number, text, tokens),
         }
     }
 

@@ -1,13 +1,13 @@
 ghost use Rattle.std.specs.Prelude.{◌≡◌, ◌+◌, ◌*◌, ◌%◌, ◌/◌, ◌<◌, ◌≤◌, ◌++◌, length, true, IfOk, OnOk, All};
 ghost use Rattle.lvdc_map.specs.Memory.{are_rising, AllThere};
-ghost use Rattle.lvdc_script.specs.Events.{IsEvent};
+ghost use Rattle.lvdc_orders.specs.Events.{IsEvent};
 ghost use Rattle.lvdc_deck.specs.Soak.{seed_of, next, drawn, after_draws, words_drawn, program, placed_from, image_from, flip_event, damage_event, used_place, events_from, soak_of};
 
 use crate::Deck;
 use lvdc_fault::{Event, Script};
 use lvdc_image::Image;
 use lvdc_map::{Address, Banks, Hop, Placed};
-use lvdc_script::Orders;
+use lvdc_orders::Orders;
 use lvdc_word::{Cell, NoMemory, Seq, Word};
 use std::alloc::Global;
 use std::marker::Model;

@@ -169,3 +169,12 @@ fn a_soak_deck_is_drawn_from_its_number(rt: HostRuntime) -> Result<(), Fail> {
     }
     Ok(())
 }
+
+#[test]
+fn a_cause_has_a_name_and_a_line(rt: HostRuntime) -> Result<(), Fail> {
+    assert_eq!(rt; DeckFault::NoDevice(7).name(), b"NoDevice".as_slice());
+    let fault = DeckFault::Image(ImageFault::BadWord(3));
+    assert_eq!(rt; fault.name(), b"BadWord".as_slice());
+    assert_eq!(rt; fault.line(), 3);
+    Ok(())
+}

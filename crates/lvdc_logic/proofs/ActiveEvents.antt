@@ -15,7 +15,7 @@ use Rattle.lvdc_fault.specs.Script.{acts_on, is_within, is_active, active_events
 use Rattle.lvdc_fault.specs.declared.event.Event.{Event}
 use Rattle.lvdc_fault.specs.declared.event.Event.TheVariants.{Flip, Force, Lag, Deaf, Damage, Stick, Dead}
 use Rattle.lvdc_model.specs.Voted.{hurts_by, hurts_on}
-use Rattle.lvdc_script.specs.Events.{IsEvent}
+use Rattle.lvdc_orders.specs.Events.{IsEvent}
 
 -- ---- an event that isn't active does nothing
 

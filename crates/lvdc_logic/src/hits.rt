@@ -3,7 +3,7 @@ ghost use Rattle.lvdc_vote.specs.Latches.{FitsLatches};
 ghost use Rattle.lvdc_modules.specs.States.{latches_of};
 ghost use Rattle.lvdc_fault.specs.Script.{acts_on, active_at, deafens, is_deaf};
 ghost use Rattle.lvdc_model.specs.Voted.{hurts_by, hurts_on};
-ghost use Rattle.lvdc_script.specs.Events.{IsEvent};
+ghost use Rattle.lvdc_orders.specs.Events.{IsEvent};
 
 use lvdc_fault::{Active, Event, Script, active_suffice};
 use lvdc_vote::Hurt;

@@ -4,7 +4,7 @@ ghost use Rattle.lvdc_modules.specs.Rows.{rows, bus_of, start_latches};
 ghost use Rattle.lvdc_modules.specs.States.{latches_of};
 ghost use Rattle.lvdc_fault.specs.Script.{active_at};
 ghost use Rattle.lvdc_model.specs.Voted.{next_copies, counted, thrice};
-ghost use Rattle.lvdc_script.specs.Events.{IsEvent};
+ghost use Rattle.lvdc_orders.specs.Events.{IsEvent};
 ghost use Rattle.lvdc_logic.specs.Logic.{latch_of, count_of, DifferedAtMost};
 
 use crate::counts::Counts;
@@ -12,7 +12,7 @@ use crate::triples::Triples;
 use lvdc_fault::{Active, Script};
 use lvdc_map::Hop;
 use lvdc_modules::Bus;
-use lvdc_script::Order;
+use lvdc_orders::Order;
 use lvdc_vote::Hurt;
 use lvdc_word::{NoMemory, Word};
 use smallvec::SmallVec;

@@ -1,11 +1,11 @@
 ghost use Rattle.std.specs.Prelude.{◌≡◌, ◌<◌, ◌≤◌, All, IfOk};
-ghost use Rattle.lvdc_script.specs.Events.{IsEvent};
+ghost use Rattle.lvdc_orders.specs.Events.{IsEvent};
 
 use crate::Logic;
 use lvdc_fault::{Active, Event, Script};
 use lvdc_map::{Address, Banks, Hop};
 use lvdc_modules::{Bus, Wanted, wish};
-use lvdc_script::Order;
+use lvdc_orders::Order;
 use lvdc_word::Word;
 use std::alloc::Global;
 use std::default::Default;

@@ -5,7 +5,7 @@ ghost use Rattle.lvdc_modules.specs.Rows.{bus_of, start_latches};
 ghost use Rattle.lvdc_modules.specs.States.{latches_of};
 ghost use Rattle.lvdc_fault.specs.Script.{active_at};
 ghost use Rattle.lvdc_model.specs.Voted.{inputs, thrice};
-ghost use Rattle.lvdc_script.specs.Events.{IsEvent};
+ghost use Rattle.lvdc_orders.specs.Events.{IsEvent};
 ghost use Rattle.lvdc_logic.specs.Latching.{copies_in, row_of, latches_in, triple_in, new_latches, after_number, after_numbers, after_commits, AllFresh, AllLatched, AllSized};
 
 use crate::hits::{Turn, is_deaf, list_hurts};
@@ -16,7 +16,7 @@ use lvdc_modules::{
     LocatorState, Multiplier, MultiplierState, Selector, SelectorState, Timer, TimerState,
     data_word, place_word,
 };
-use lvdc_script::Order;
+use lvdc_orders::Order;
 use lvdc_vote::{Hurt, Triple};
 use lvdc_word::Word;
 use smallvec::SmallVec;

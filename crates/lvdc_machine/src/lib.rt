@@ -15,7 +15,7 @@ mod views;
 
 pub use laws::{failed_exchange, guarded_follows, guarded_words, unhurt_follows};
 pub use lvdc_model::{Outcome, Repair};
-pub use lvdc_script::{Order, Orders, OrdersFull};
+pub use lvdc_orders::{Order, Orders, OrdersFull};
 pub use machine::Machine;
 pub use mode::{Mode, Pace};
 pub use resumed::resumed_goes_on;

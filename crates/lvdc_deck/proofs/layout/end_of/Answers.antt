@@ -6,10 +6,10 @@ use Rattle.lvdc_deck.proofs.Tokens.{no_line}
 use Rattle.lvdc_deck.proofs.Ends.{place-here, place-none}
 use Rattle.lvdc_deck.proofs.layout.end_of.Goals as goal
 
-pub returns-then-branch : goal.returns-then-branch
-returns-then-branch c =
+pub returns-then-is_end : goal.returns-then-is_end
+returns-then-is_end c =
     sym (place-here (λ (line : Line). is_end (part_of c.args.bytes.now line)) c.args.lines.now c.loop-at.at no_line c.loop-at-test.true c.loop-at.invariant.before
-    (ap is_end (sym c.part.ensures) ∙ sym c.in_ok-is_end.ensures ∙ c.if-branch.true))
+    (ap is_end (sym c.part.ensures) ∙ sym c.is_end.ensures ∙ c.if-is_end.true))
 
 pub returns : goal.returns
 returns c =

@@ -12,8 +12,8 @@ returns-in-Some-2 g c =
     elim c.if-is_unbuilt.branch [
       | then-is_unbuilt+else-is_empty w ↦ subst (Makes c.open.result c.open.new.self)
           (in_order-word (map (λ b. (goal.PortDevice-dyn g (b.vtable, b.value)).device_of b.value) c.args.devices.now.items) c.args.self.now c.args.number (part_of c.args.text.now) c.args.tokens.now c.in-Some.section no_line c.in-len1-up.len_at_least
-          (sym c.in-Some.is ∙ c.section_of.ensures ∙ ap section_of c.part-word.ensures) _ (take_rest c.args.tokens.now 1) (not-refused c.in-Some.section (part_of c.args.text.now) _ (sym w.is_empty.ensures ∙ w.if-is_empty.false))) c.open.ensures
+          (sym c.in-Some.is ∙ c.section_of.ensures ∙ ap section_of c.part.ensures) _ (take_rest c.args.tokens.now 1) (not-refused c.in-Some.section (part_of c.args.text.now) _ (sym w.is_empty.ensures ∙ w.if-is_empty.false))) c.open.ensures
       | else-is_unbuilt w ↦ subst (Makes c.open.result c.open.new.self)
           (in_order-word (map (λ b. (goal.PortDevice-dyn g (b.vtable, b.value)).device_of b.value) c.args.devices.now.items) c.args.self.now c.args.number (part_of c.args.text.now) c.args.tokens.now c.in-Some.section no_line c.in-len1-up.len_at_least
-          (sym c.in-Some.is ∙ c.section_of.ensures ∙ ap section_of c.part-word.ensures) _ (take_rest c.args.tokens.now 1) (not-unbuilt c.in-Some.section (part_of c.args.text.now) _ (sym c.is_unbuilt.ensures ∙ w.if-is_unbuilt.false))) c.open.ensures
+          (sym c.in-Some.is ∙ c.section_of.ensures ∙ ap section_of c.part.ensures) _ (take_rest c.args.tokens.now 1) (not-unbuilt c.in-Some.section (part_of c.args.text.now) _ (sym c.is_unbuilt.ensures ∙ w.if-is_unbuilt.false))) c.open.ensures
     ]

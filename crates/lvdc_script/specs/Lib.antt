@@ -1,4 +1,0 @@
-pub mod Orders
-pub mod Events
-pub mod Fields
-pub mod Lines

@@ -1,0 +1,13 @@
+//! What the lines of a fault script and of a deck's orders mean: events with their numbers in range, and orders of latching
+//! (this project's profile).
+#![tactic(auto)]
+
+mod cells;
+mod copies;
+mod fields;
+mod lines;
+
+pub use lines::{event_of, order_of, read_fault, read_order};
+
+#[cfg(test)]
+mod tests;
