@@ -1,0 +1,47 @@
+-- The parts of a line: label, operation and operand, each ended by a blank; what follows is comment.
+use Rattle.std.specs.Prelude.{ℕ, nat_lt, Bool, true, false, not, ◌==◌, ◌||◌, List, [], ◌∷◌, map, length, slice_index_or}
+use Rattle.std.specs.List.{list_all}
+use Rattle.lvdc_text.specs.Lines.{is_blank, word_texts_of, part_of}
+use Rattle.lvdc_text.specs.declared.cutting.Line.{Line}
+
+-- the bytes of a line, and its number
+pub record NumberedLine : Type 0 where
+  pub number : ℕ
+  pub text : List ℕ
+
+-- these lines of the bytes
+abbrev pub numbered : List ℕ → List Line → List NumberedLine
+numbered bytes lines = map (λ (line : Line). record { number = line.number; text = part_of bytes line }) lines
+
+-- above 120 bytes
+abbrev pub is_long : List ℕ → Bool
+is_long text = nat_lt 120 (length text)
+
+-- a blank line, or one that begins with `*`
+abbrev pub is_comment : List ℕ → Bool
+is_comment [] = true
+is_comment (b ∷ bs) = b == 42 || list_all is_blank (b ∷ bs)
+
+-- the parts of a line; one that is missing is empty
+pub record Parts : Type 0 where
+  pub label : List ℕ
+  pub operation : List ℕ
+  pub operand : List ℕ
+
+-- a line that doesn't begin with a blank begins with a label
+abbrev pub is_labelled : List ℕ → Bool
+is_labelled [] = false
+is_labelled (b ∷ bs) = not (is_blank b)
+
+-- the word at this index, or the empty text
+abbrev pub word_at : List (List ℕ) → ℕ → List ℕ
+word_at words index = slice_index_or words index []
+
+-- the first words are the parts
+abbrev pub parts_in : Bool → List (List ℕ) → Parts
+parts_in true words = record { label = word_at words 0; operation = word_at words 1; operand = word_at words 2 }
+parts_in false words = record { label = []; operation = word_at words 0; operand = word_at words 1 }
+
+-- the parts of a line
+unfoldable pub parts_of : List ℕ → Parts
+parts_of text = parts_in (is_labelled text) (word_texts_of text)

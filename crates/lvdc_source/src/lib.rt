@@ -1,0 +1,26 @@
+//! Sources of the assembler: what each line of a program's text means.
+#![tactic(auto)]
+
+mod block;
+mod bodies;
+mod fault;
+mod item;
+mod line;
+mod meaning;
+mod names;
+mod numbers;
+mod operands;
+mod operation;
+mod parts;
+mod program;
+mod read;
+
+pub use block::Block;
+pub use fault::SourceFault;
+pub use item::{Body, Constant, Item, Operand};
+pub use names::is_name;
+pub use program::Program;
+pub use read::parse_source;
+
+#[cfg(test)]
+mod tests;
