@@ -1,0 +1,14 @@
+pub mod BlocksApart
+pub mod Caps
+pub mod Distinct
+pub mod Least
+pub mod LinesApart
+pub mod Programs
+pub mod Reserved
+mod Rows
+pub mod Runs
+pub mod Sizes
+pub mod Starts
+pub mod Tables
+pub mod Walks
+pub mod Whole

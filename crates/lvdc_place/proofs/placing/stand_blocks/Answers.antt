@@ -1,0 +1,26 @@
+-- One more block.
+use Rattle.std.proofs.Common.{◌≡◌, ◌+◌, ◌<◌, [], ◌∷◌, ◌++◌, length, take, is_ok, sym, ap, ◌∙◌, arith}
+use Rattle.std.proofs.ResultArms.{chosen}
+use Rattle.std.proofs.lemmas.List.{length-take-le, length_push}
+use Rattle.lvdc_place.specs.Slots.{set_of}
+use Rattle.lvdc_place.specs.Placement.{Places}
+use Rattle.lvdc_place.proofs.Walks.{places_with-more, fit-more}
+use Rattle.lvdc_place.proofs.placing.stand_blocks.Goals as goal
+
+pub loop-block-preserved : goal.loop-block-preserved
+loop-block-preserved c =
+    let blocks = c.args.blocks.now in
+    let i = c.loop-block.block-index in
+    let block = c.block-item.result in
+    let places = c.loop-block.places.items in
+    let place = c.in-Ok.place in
+    let within : i < length blocks = c.loop-block-test.true in
+    let pushed : c.push.new.self.items ≡ places ++ place ∷ [] = chosen _ _ _ _ c.push.ensures.items (ap is_ok c.in_ok-push.was) in
+    let so_far : Places = record { places = places; taken = set_of c.loop-block.search } in
+    let now : Places = record { places = places ++ place ∷ []; taken = set_of c.stand.new.search } in
+    let count : length (take i blocks) ≡ length places = length-take-le i blocks (omega arith) ∙ sym c.loop-block.invariant.count in
+    rw pushed (record {
+      stand = places_with-more blocks i block so_far now _ within c.block-item.is (c.in-Ok.ensures.stands places) c.loop-block.invariant.stand;
+      count = length_push places place ∙ ap (λ n. n + 1) c.loop-block.invariant.count;
+      fit = fit-more blocks i block places place within c.block-item.is c.in-Ok.ensures.fits c.loop-block.invariant.fit count;
+    })
