@@ -1,0 +1,7 @@
+pub mod Tables
+pub mod Naming
+pub mod Lining
+pub mod Meant
+pub mod Imaging
+pub mod Known
+mod Rows

@@ -1,0 +1,95 @@
+-- Names in the order of their definition, looked up and added to.
+use Rattle.std.proofs.Common.{◌≡◌, ◌==◌, true≢false, ℕ, zero, suc, ◌+◌, ◌<◌, Bool, true, false, cond, List, [], ◌∷◌, ◌++◌, length, get_or, drop, map, Option, None, Some, is_some, refl, sym, ap, ◌∙◌, append_assoc, append-nil, arith}
+use Rattle.std.proofs.lemmas.List.{drop_more, map-append}
+use Rattle.std.proofs.lemmas.Map.Made.{is_some-lookup}
+use Rattle.std.specs.Map.{lookup, keys_of}
+use Rattle.std.specs.Str.{bytes_eq}
+use Rattle.lvdc_source.specs.Items.{AreItems, IsBody, block_after}
+use Rattle.lvdc_source.specs.declared.block.Block.{Block}
+use Rattle.lvdc_source.specs.declared.item.Body.{Body}
+use Rattle.lvdc_source.specs.declared.item.Body.TheVariants as says
+use Rattle.lvdc_source.specs.declared.item.Item.{Item}
+use Rattle.lvdc_asm.specs.DataPlace.{DataPlace}
+use Rattle.lvdc_asm.specs.Data.{data_after, SetsData}
+use Rattle.lvdc_asm.specs.Names.{entry_of, names_from, is_among, label_of, repeat_after}
+use Rattle.lvdc_asm.specs.declared.names.Definition.{Definition}
+
+-- a look-up among entries whose keys are seen by f
+pub lookup-view : {K X : Type 0} (f : K → List ℕ) (test : List ℕ → Bool) (es : List (K × X)) → lookup test (map (λ e. (f e.0, e.1)) es) ≡ lookup (λ k. test (f k)) es
+lookup-view f test [] = refl
+lookup-view f test (e ∷ es) = ap (λ rest. cond (test (f e.0)) (Some e.1) rest) (lookup-view f test es)
+
+-- is a label that is not empty among the names seen?
+pub is_among-view : {K X : Type 0} (f : K → List ℕ) (es : List (K × X)) (label : List ℕ) (c : ℕ) (cs : List ℕ) → label ≡ c ∷ cs
+    → is_among (keys_of (map (λ e. (f e.0, e.1)) es)) label ≡ is_some (lookup (λ k. bytes_eq label (f k)) es)
+is_among-view f es label c cs e =
+    ap (λ (l : List ℕ). is_among (keys_of (map (λ e. (f e.0, e.1)) es)) l) e
+    ∙ sym (is_some-lookup (bytes_eq (c ∷ cs)) (map (λ e. (f e.0, e.1)) es))
+    ∙ ap is_some (lookup-view f (bytes_eq (c ∷ cs)) es)
+    ∙ ap (λ (l : List ℕ). is_some (lookup (λ k. bytes_eq l (f k)) es)) (sym e)
+
+-- what a line defines gives its label as key
+pub keys_of-entry_of : (names : List (List ℕ × Definition)) (label : List ℕ) (d : Definition) → keys_of (names ++ entry_of label d) ≡ keys_of names ++ label_of label
+keys_of-entry_of names [] d = ap keys_of (append-nil names) ∙ sym (append-nil (keys_of names))
+keys_of-entry_of names (c ∷ cs) d = map-append (λ (e : List ℕ × Definition). e.0) names ((c ∷ cs, d) ∷ [])
+
+-- one line more
+pub names_from-more : (names : List (List ℕ × Definition)) (items : List Item) (i : ℕ) (assumed : DataPlace) (d : Item) → i < length items →
+    (names ++ entry_of (get_or items i d).label (record { item = i; assumed = assumed })) ++ names_from (i + 1) (data_after assumed (get_or items i d).body) (drop (i + 1) items)
+    ≡ names ++ names_from i assumed (drop i items)
+names_from-more names items i assumed d within =
+    append_assoc names (entry_of (get_or items i d).label (record { item = i; assumed = assumed })) (names_from (i + 1) (data_after assumed (get_or items i d).body) (drop (i + 1) items))
+    ∙ ap (λ (rest : List Item). names ++ names_from i assumed rest) (sym (drop_more items i d within))
+
+-- one line more that defines nothing again
+pub repeat_after-more : (names : List (List ℕ × Definition)) (items : List Item) (i : ℕ) (d : Item) (definition : Definition) → i < length items → is_among (keys_of names) (get_or items i d).label ≡ false →
+    repeat_after (keys_of (names ++ entry_of (get_or items i d).label definition)) (drop (i + 1) items) ≡ repeat_after (keys_of names) (drop i items)
+repeat_after-more names items i d definition within new =
+    ap (λ (ks : List (List ℕ)). repeat_after ks (drop (i + 1) items)) (keys_of-entry_of names (get_or items i d).label definition)
+    ∙ sym (ap (λ (b : Bool). cond b (Some (get_or items i d).line) (repeat_after (keys_of names ++ label_of (get_or items i d).label) (drop (i + 1) items))) new)
+    ∙ ap (repeat_after (keys_of names)) (sym (drop_more items i d within))
+
+-- a line that defines a name again
+pub repeat_after-found : (names : List (List ℕ × Definition)) (items : List Item) (i : ℕ) (d : Item) → i < length items → is_among (keys_of names) (get_or items i d).label ≡ true →
+    repeat_after (keys_of names) (drop i items) ≡ Some (get_or items i d).line
+repeat_after-found names items i d within again =
+    ap (repeat_after (keys_of names)) (drop_more items i d within)
+    ∙ ap (λ (b : Bool). cond b (Some (get_or items i d).line) (repeat_after (keys_of names ++ label_of (get_or items i d).label) (drop (i + 1) items))) again
+
+-- the data place that a line of a program sets is one
+pub sets_data : (block : Block) (label : List ℕ) (body : Body) → IsBody block label body → SetsData body
+sets_data block label says.Code h = tt
+sets_data block label (says.Org at syl) h = tt
+sets_data block label (says.Words pair sector loc) h = tt
+sets_data block label (says.Sector pair sector) h = h.1
+sets_data block label (says.Room count) h = tt
+sets_data block label (says.Constant constant) h = tt
+sets_data block label (says.Instruction op operand) h = tt
+
+pub SetsData-item : (block : Block) (items : List Item) (i : ℕ) (d : Item) → AreItems block items → i < length items → SetsData (get_or items i d).body
+unfolding AreItems
+SetsData-item block [] i d h within = absurd (omega arith)
+SetsData-item block (item ∷ items) zero d h within = sets_data block item.label item.body h.0
+SetsData-item block (item ∷ items) (suc i) d h within = SetsData-item (block_after block item.body) items i d h.1 (omega arith)
+
+-- a label that isn't empty is added at the end
+pub entry_of-view : {K : Type 0} (f : K → List ℕ) (es after : List (K × Definition)) (key : K) (d : Definition) (label : List ℕ) → after ≡ es ++ (key, d) ∷ [] → f key ≡ label → (length label == 0) ≡ false
+    → map (λ e. (f e.0, e.1)) after ≡ map (λ e. (f e.0, e.1)) es ++ entry_of label d
+entry_of-view f es after key d [] is same some = absurd (true≢false some)
+entry_of-view f es after key d (c ∷ cs) is same some =
+    ap (map (λ e. (f e.0, e.1))) is ∙ map-append (λ e. (f e.0, e.1)) es ((key, d) ∷ [])
+    ∙ ap (λ (k : List ℕ). map (λ e. (f e.0, e.1)) es ++ (k, d) ∷ []) same
+
+-- whether a label that isn't empty is among the names, by a look-up of its key
+pub is_among-key : {K : Type 0} (f : K → List ℕ) (es : List (K × Definition)) (key : K) (label : List ℕ) (old : Option Definition) → f key ≡ label → (length label == 0) ≡ false
+    → old ≡ lookup (λ k. bytes_eq (f key) (f k)) es → is_among (keys_of (map (λ e. (f e.0, e.1)) es)) label ≡ is_some old
+is_among-key f es key [] old same some is = absurd (true≢false some)
+is_among-key f es key (c ∷ cs) old same some is =
+    is_among-view f es (c ∷ cs) c cs refl
+    ∙ ap (λ (l : List ℕ). is_some (lookup (λ k. bytes_eq l (f k)) es)) (sym same)
+    ∙ ap is_some (sym is)
+
+-- what isn't there is none
+pub none_of : {X : Type 0} (o : Option X) → is_some o ≡ false → o ≡ None
+none_of None h = refl
+none_of (Some x) h = absurd (true≢false h)

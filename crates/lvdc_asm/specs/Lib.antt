@@ -1,0 +1,12 @@
+pub mod Assembly
+pub mod Data
+pub mod DataPlace
+pub mod Faults
+pub mod Hop
+pub mod Lines
+pub mod Locations
+pub mod Names
+pub mod Operands
+pub mod Pool
+pub mod Target
+pub mod AssemblerState
