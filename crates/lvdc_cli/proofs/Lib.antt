@@ -1,10 +1,5 @@
-pub mod Counts
-pub mod Told
-pub mod Judged
-pub mod Statuses
-pub mod PlainRuns
-pub mod VotedRuns
-pub mod Making
-pub mod Refusals
-pub mod Due
+pub mod Answered
+pub mod Commands
+pub mod Inputs
+pub mod Dues
 pub mod Ends

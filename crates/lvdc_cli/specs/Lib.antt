@@ -1,8 +1,6 @@
 pub mod Words
 pub mod Texts
-pub mod Accounts
-pub mod Answer
-pub mod Runs
-pub mod Headline
-pub mod Finished
+pub mod Commands
+pub mod Outside
 pub mod Top
+pub mod Telling

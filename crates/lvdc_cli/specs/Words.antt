@@ -5,9 +5,10 @@ use Rattle.std.specs.Str.{bytes_eq}
 use Rattle.std.specs.declared.option.Option.{Option}
 use Rattle.std.specs.declared.option.Option.TheVariants.{None, Some}
 use Rattle.lvdc_text.specs.Numbers.{number_of, below}
+use Rattle.lvdc_run.specs.declared.job.Engine.TheVariants.{Guarded, Through, Plain}
+use Rattle.lvdc_assemble.specs.declared.reply.Product.TheVariants.{Image}
 use Rattle.lvdc_cli.specs.declared.command.Command.{Command}
-use Rattle.lvdc_cli.specs.declared.command.Command.TheVariants.{Run, Soak}
-use Rattle.lvdc_cli.specs.declared.command.Engine.TheVariants.{Guarded, Through, Plain}
+use Rattle.lvdc_cli.specs.declared.command.Command.TheVariants.{Run, Soak, Assemble}
 
 -- the bytes of the words
 abbrev pub texts : List (String Global) → List (List ℕ)
@@ -23,6 +24,10 @@ flagged flag =
     if is (codes "--plain") flag then Some (Run Plain)
     else (if is (codes "--through") flag then Some (Run Through) else None)
 
+-- what a flag of `asm` asks for
+abbrev pub product_of : List ℕ → Option Command
+product_of flag = if is (codes "--image") flag then Some (Assemble Image) else None
+
 -- the number of a soak run, where it is one
 abbrev pub soaked_by : Option ℕ → Option Command
 soaked_by None = None
@@ -36,16 +41,22 @@ soak_number word = below (2 ^ 32) (number_of 10 10 word)
 abbrev pub of_two : List ℕ → List ℕ → Option Command
 of_two first second =
     if is (codes "run") first then flagged second
-    else (if is (codes "soak") first then soaked_by (soak_number second) else None)
+    else (if is (codes "asm") first then product_of second
+    else (if is (codes "soak") first then soaked_by (soak_number second) else None))
 
--- `run`, `run --plain`, `run --through` and `soak` with a number
+-- `run`, `run --plain`, `run --through`, `asm --image`, and `soak` with a number
 abbrev pub command_of : List (List ℕ) → Option Command
 command_of (first ∷ []) = if is (codes "run") first then Some (Run Guarded) else None
 command_of (first ∷ second ∷ []) = of_two first second
 command_of words = None
 
--- a deck is read for `run` alone
+-- which commands read an input: a soak run doesn't
+abbrev pub reads_for : Command → Bool
+reads_for (Run engine) = true
+reads_for (Soak number) = false
+reads_for (Assemble product) = true
+
+-- where the words are a command that reads an input
 abbrev pub reads : Option Command → Bool
 reads None = false
-reads (Some (Run engine)) = true
-reads (Some (Soak number)) = false
+reads (Some command) = reads_for command

@@ -1,26 +1,32 @@
 ghost use Rattle.std.specs.Prelude.{◌≡◌, string_bytes};
-ghost use Rattle.lvdc_cli.specs.Words.{texts, flagged, soak_number, of_two, command_of};
+ghost use Rattle.lvdc_cli.specs.Words.{texts, flagged, product_of, soak_number, of_two, command_of, reads_for};
 
+use lvdc_assemble::Product;
+use lvdc_run::Engine;
 use lvdc_text::decimal;
-
-/// Which machine runs a deck.
-#[derive(Clone, Copy, Debug, PartialEq, Eq)]
-pub enum Engine {
-    /// The voted machine, up to the first inadmissible step.
-    Guarded,
-    /// The voted machine, through every fault.
-    Through,
-    /// The plain machine, which knows no script.
-    Plain,
-}
 
 /// What is asked for.
 #[derive(Clone, Copy, Debug, PartialEq, Eq)]
 pub enum Command {
     /// `run`, `run --through` and `run --plain`: reads a deck and runs it.
     Run(Engine),
-    /// `soak` with a number: runs the deck that the number makes.
+    /// `soak` with a number: runs the deck that the number draws.
     Soak(u32),
+    /// `asm --image`: reads a source and assembles it.
+    Assemble(Product),
+}
+
+impl Command {
+    /// Whether an input is read for it.
+    pub fn reads(self) -> bool
+        ensures { result ≡ reads_for self }
+    {
+        match self {
+            Command::Run(_) => true,
+            Command::Soak(_) => false,
+            Command::Assemble(_) => true,
+        }
+    }
 }
 
 /// The command that a flag after `run` asks for.
@@ -30,6 +36,16 @@ fn flagged(flag: &String) -> Option<Command>
     match flag.as_str() {
         "--plain" => Some(Command::Run(Engine::Plain)),
         "--through" => Some(Command::Run(Engine::Through)),
+        _ => None,
+    }
+}
+
+/// The command that a flag after `asm` asks for.
+fn product_of(flag: &String) -> Option<Command>
+    ensures { result ≡ product_of (string_bytes flag.now) }
+{
+    match flag.as_str() {
+        "--image" => Some(Command::Assemble(Product::Image)),
         _ => None,
     }
 }
@@ -51,6 +67,7 @@ fn of_two(first: &String, second: &String) -> Option<Command>
 {
     match first.as_str() {
         "run" => flagged(second),
+        "asm" => product_of(second),
         "soak" => match soak_number(second) {
             Some(number) => Some(Command::Soak(number)),
             None => None,
@@ -60,7 +77,7 @@ fn of_two(first: &String, second: &String) -> Option<Command>
 }
 
 /// The command that the words are, the program's own name not among them.
-pub(crate) fn read_command(words: &[String]) -> Option<Command>
+pub fn read_command(words: &[String]) -> Option<Command>
     ensures { result ≡ command_of (texts words.now) }
 {
     match words {

@@ -1,22 +1,21 @@
-//! The top call: command lines, decks, their texts and the exit status.
+//! The top call: command lines, what each command is answered, and how that is read and written.
 #![tactic(auto)]
 
-mod answer;
+mod call;
 mod command;
-mod memory;
-mod refusal;
-mod reply;
-mod runs;
+mod due;
+mod join;
 
-pub use answer::lvdc;
-pub use command::{Command, Engine};
-pub use memory::answer_in_memory;
+pub use call::lvdc;
+pub use command::{Command, read_command};
+pub use join::reply;
+use lvdc_report::LONGEST_REPORT;
 
 /// The input has at most so many bytes.
 pub const LIMIT: usize = 1_048_576;
 
-/// A text has at most so many bytes: 128 MiB.
-pub const ROOM: usize = 134_217_728;
+/// A sink that tells its room has room for so many bytes: no text is longer than the longest report.
+pub const ROOM: usize = LONGEST_REPORT;
 
 #[cfg(test)]
 mod tests;

@@ -2,8 +2,9 @@
 ghost use Rattle.std.specs.Prelude.{map};
 ghost use Rattle.lvdc_port.specs.Devices.{AreDistinct};
 
-use crate::answer_in_memory;
+use crate::{ROOM, lvdc};
 use lvdc_port::PortDevice;
+use lvdc_text::{MemorySink, MemorySource};
 use std::alloc::Global;
 use std::process::Abort;
 use std::test::Fail;
@@ -11,7 +12,9 @@ use std::test::Fail;
 mod faults;
 mod ports;
 mod refusals;
+mod replies;
 mod soaks;
+mod sources;
 mod states;
 mod streams;
 
@@ -62,7 +65,9 @@ fn answer(
     requires distinct { AreDistinct (map device_of devices.old.items) }
 {
     let words = command(alloc, line)?;
-    let (status, sink) = answer_in_memory(alloc, words.as_slice(), deck, devices)?;
+    let mut source = MemorySource::new(deck);
+    let mut sink = MemorySink::with_room(alloc, ROOM)?;
+    let status = lvdc(alloc, words.as_slice(), &mut source, &mut sink, devices);
     let text = Vec::from_slice(alloc, sink.bytes())?;
     match String::from_utf8(text) {
         Ok(text) => Ok((status, text)),

@@ -1,0 +1,63 @@
+ghost use Rattle.std.specs.Prelude.{◌≡◌, ◌≢◌, ◌-◌, ◌^◌, ◌<◌, ◌≤◌, length, IfOk, OnOk};
+ghost use Rattle.lvdc_image.specs.declared.TheConstants.{LONGEST_IMAGE};
+ghost use Rattle.lvdc_reply.specs.Answer.{refusal_text};
+ghost use Rattle.lvdc_asm.specs.Faults.{name_of, line_of};
+ghost use Rattle.lvdc_asm.specs.declared.fault.AsmFault.TheVariants.{NoMemory as WantsMemory};
+ghost use Rattle.lvdc_assemble.specs.Answers.{assembly_in, product_text, status_of, text_of};
+
+use lvdc_asm::{AsmFault, Assembly, assemble};
+use lvdc_image::print_image;
+use lvdc_reply::{Reply, refusal};
+use lvdc_text::lines;
+use lvdc_word::{NoMemory, Seq};
+use std::alloc::Global;
+
+/// What is asked for of a source.
+#[derive(Clone, Copy, Debug, PartialEq, Eq)]
+pub enum Product {
+    /// The text of its image.
+    Image,
+}
+
+/// What was asked for, as text.
+fn print(alloc: Global, product: Product, assembly: &Assembly) -> Result<Reply, NoMemory>
+    ensures status { IfOk result (λ reply. reply.status ≡ 0) }
+    ensures text { IfOk result (λ reply. reply.text ≡ product_text product assembly.now) }
+    ensures short { IfOk result (λ reply. length reply.text ≤ LONGEST_IMAGE) }
+{
+    let text = match product {
+        Product::Image => print_image(alloc, assembly.image())?,
+    };
+    Ok(Reply {
+        status: 0,
+        text: Seq::from_vec(text),
+    })
+}
+
+/// The reply to a refused source.
+fn refuse(alloc: Global, fault: AsmFault) -> Result<Reply, NoMemory>
+    ensures refused { OnOk result (fault ≢ WantsMemory) }
+    ensures status { IfOk result (λ reply. reply.status ≡ 3) }
+    ensures text { IfOk result (λ reply. reply.text ≡ refusal_text (name_of fault) (line_of fault)) }
+    ensures short { IfOk result (λ reply. length reply.text ≤ LONGEST_IMAGE) }
+{
+    match fault {
+        AsmFault::NoMemory => Err(NoMemory),
+        fault => refusal(alloc, 3, fault.name(), fault.line()),
+    }
+}
+
+/// The reply to a source. It takes no device.
+pub fn assemble_bytes(alloc: Global, product: Product, bytes: &[u8]) -> Result<Reply, NoMemory>
+    requires { length bytes.now < 2 ^ 32 - 1 }
+    // 0 and the text that was asked for, or 3 and the source's first refusal.
+    ensures status { IfOk result (λ reply. reply.status ≡ status_of (assembly_in bytes.now)) }
+    ensures text { IfOk result (λ reply. reply.text ≡ text_of product (assembly_in bytes.now)) }
+    ensures short { IfOk result (λ reply. length reply.text ≤ LONGEST_IMAGE) }
+{
+    let found = lines(alloc, bytes)?;
+    match assemble(alloc, bytes, found.as_slice()) {
+        Ok(assembly) => print(alloc, product, &assembly),
+        Err(fault) => refuse(alloc, fault),
+    }
+}

@@ -1,0 +1,37 @@
+use Rattle.std.proofs.Common.{refl, inl, inr, map}
+use Rattle.lvdc_reply.specs.Answer.{answer_with}
+use Rattle.lvdc_run.specs.Runs.{Judges, Stops}
+use Rattle.lvdc_cli.specs.Telling.{due_status, due_text}
+use Rattle.lvdc_cli.proofs.Ends.{ended, end_usage, end_usage_only, end_read, end_read_fault, end_read_grew, end_cut, end_write_grew, end_memory, end_abandoned, end_quiet, end_too_long, end_took_more, end_kept, end_answer, end_replied, end_headline, end_has, end_is, end_failed}
+use Rattle.lvdc_cli.proofs.call.lvdc.Goals as goal
+
+-- how the call has ended, of which each clause is a part
+pub returns : goal.returns
+returns g c =
+    let e =
+    ended _ c.status.result c.text.result.now c.tell.result c.due_of-due.ensures.due refl c.status.ensures c.text.ensures c.tell.ensures in
+    record {
+      replied = λ free. end_replied free e;
+      headline = λ asked free short. end_headline c.headline_told.ensures asked free short e;
+      answer = λ bytes told free. end_answer bytes told free e;
+      usage = λ none. end_usage none e;
+      usage_only = λ is. end_usage_only is e;
+      unread = c.due_of-due.ensures.unread;
+      read = λ reads a b d f. end_read reads a b d f e;
+      inadmissible = λ bytes told is. end_has Judges 5 (inl refl) c.statuses_caused.ensures.inadmissible bytes told is e;
+      inadmissible_always = λ bytes told small free has. end_is Judges 5 c.statuses_caused.ensures.inadmissible_always bytes told small free has e;
+      stopped = λ bytes told is. end_has Stops 6 (inr refl) c.statuses_caused.ensures.stopped bytes told is e;
+      stopped_always = λ bytes told small free has. end_is Stops 6 c.statuses_caused.ensures.stopped_always bytes told small free has e;
+      read_fault = λ is. end_read_fault is e;
+      read_fault_always = λ grew. end_read_grew grew e;
+      write_fault = λ is. end_cut is e;
+      write_fault_always = λ grew. end_write_grew grew e;
+      no_memory = λ is. end_memory is e;
+      abandoned = λ is. end_abandoned is e;
+      device_fault = λ bytes told is. end_failed bytes told is e;
+      device_fault_always = λ a b d. end_quiet a b d e;
+      too_long = λ is. end_too_long is e;
+      too_long_always = λ told reads took. end_took_more told reads took e;
+      kept = λ is. end_kept is e;
+      ends = e;
+    }

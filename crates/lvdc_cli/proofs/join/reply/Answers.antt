@@ -1,0 +1,35 @@
+use Rattle.std.proofs.lemmas.Result.{IfOk-weaker}
+use Rattle.std.proofs.Common.{inl, inr, refl}
+use Rattle.lvdc_run.specs.Runs.{Judges, Stops}
+use Rattle.lvdc_cli.proofs.Answered.{reply_answer, reply_quiet, reply_kept}
+use Rattle.lvdc_cli.proofs.Commands.{reply_headline, reply_runs, reply_is}
+use Rattle.lvdc_cli.proofs.join.reply.Goals as goal
+
+pub returns-clause-answer : goal.returns-clause-answer
+returns-clause-answer g c = IfOk-weaker c.join.result _ _ (λ r h free. reply_answer _ free h) c.join.ensures.reply
+
+pub returns-clause-headline : goal.returns-clause-headline
+returns-clause-headline g c =
+    IfOk-weaker c.join.result _ _ (λ r h free deck is means. reply_headline c.args.command c.args.bytes.now c.headline_told.ensures _ free h deck is means) c.join.ensures.reply
+
+pub returns-clause-inadmissible : goal.returns-clause-inadmissible
+returns-clause-inadmissible g c =
+    IfOk-weaker c.join.result _ _ (λ r h is. reply_runs c.args.command c.args.bytes.now Judges 5 (inl refl) c.statuses_caused.ensures.inadmissible _ is h) c.join.ensures.reply
+
+pub returns-clause-inadmissible_always : goal.returns-clause-inadmissible_always
+returns-clause-inadmissible_always g c =
+    IfOk-weaker c.join.result _ _ (λ r h free runs. reply_is c.args.command c.args.bytes.now Judges 5 c.statuses_caused.ensures.inadmissible_always _ free h runs) c.join.ensures.reply
+
+pub returns-clause-stopped : goal.returns-clause-stopped
+returns-clause-stopped g c =
+    IfOk-weaker c.join.result _ _ (λ r h is. reply_runs c.args.command c.args.bytes.now Stops 6 (inr refl) c.statuses_caused.ensures.stopped _ is h) c.join.ensures.reply
+
+pub returns-clause-stopped_always : goal.returns-clause-stopped_always
+returns-clause-stopped_always g c =
+    IfOk-weaker c.join.result _ _ (λ r h free runs. reply_is c.args.command c.args.bytes.now Stops 6 c.statuses_caused.ensures.stopped_always _ free h runs) c.join.ensures.reply
+
+pub returns-clause-kept : goal.returns-clause-kept
+returns-clause-kept g c = IfOk-weaker c.join.result _ _ (λ r h refused. reply_kept _ refused h) c.join.ensures.reply
+
+pub returns-clause-quiet : goal.returns-clause-quiet
+returns-clause-quiet g c = IfOk-weaker c.join.result _ _ (λ r h free. reply_quiet _ free h) c.join.ensures.reply

@@ -1,0 +1,86 @@
+-- The answer to each command, by the definitions of its crate: a command has one case in each of these.
+use Rattle.std.specs.Prelude.{◌≡◌, ℕ, nat_lt, List, [], length, map, if◌then◌else◌}
+use Rattle.std.specs.declared.option.Option.{Option}
+use Rattle.std.specs.declared.option.Option.TheVariants.{None, Some}
+use Rattle.lvdc_port.specs.Device.{Device}
+use Rattle.lvdc_model.specs.Trial.{Trial}
+use Rattle.lvdc_reply.specs.Answer.{Answer, answer_with}
+use Rattle.lvdc_reply.specs.Replies.{IsReply}
+use Rattle.lvdc_run.specs.declared.job.Job.{Job}
+use Rattle.lvdc_run.specs.declared.job.Job.TheVariants as job
+use Rattle.lvdc_run.specs.Answers.{job_answer}
+use Rattle.lvdc_run.specs.Runs.{HasRunThat}
+use Rattle.lvdc_run.specs.Replies.{FailsInRun, IsUnanswered}
+use Rattle.lvdc_assemble.specs.Answers.{source_answer}
+use Rattle.lvdc_cli.specs.declared.TheConstants.{LIMIT}
+use Rattle.lvdc_cli.specs.declared.command.Command.{Command}
+use Rattle.lvdc_cli.specs.declared.command.Command.TheVariants.{Run, Soak, Assemble}
+use Rattle.lvdc_cli.specs.Words.{command_of, reads_for}
+use Rattle.lvdc_cli.specs.Texts.{usage_text, read_fault_text, too_long_text}
+
+-- the answer where no device fails
+abbrev pub command_answer : Command → List ℕ → List Device → Answer
+command_answer (Run engine) bytes devices = job_answer (job.Deck engine) bytes devices
+command_answer (Soak number) bytes devices = job_answer (job.Soak number) bytes devices
+command_answer (Assemble product) bytes devices = source_answer product bytes devices
+
+-- this is the answer where the device at this port fails in this step; a command that asks no device has none
+abbrev pub FailsInCommand : Command → List ℕ → List Device → ℕ → ℕ → Answer → Type 0
+FailsInCommand (Run engine) bytes devices = FailsInRun (job.Deck engine) bytes devices
+FailsInCommand (Soak number) bytes devices = FailsInRun (job.Soak number) bytes devices
+FailsInCommand (Assemble product) bytes devices = λ step port reply. ⊥
+
+-- what a want of memory leaves of the devices
+abbrev pub IsLeftUnanswered : {B : Type 0} → (B → Device) → (B → ℕ) → Command → List ℕ → List B → List B → Type 0
+IsLeftUnanswered device_of faults (Run engine) bytes old new = IsUnanswered device_of faults (job.Deck engine) bytes old new
+IsLeftUnanswered device_of faults (Soak number) bytes old new = IsUnanswered device_of faults (job.Soak number) bytes old new
+IsLeftUnanswered device_of faults (Assemble product) bytes old new = new ≡ old
+
+-- the command runs a deck, and this is so of its run
+abbrev pub RunsThat : (Job → Trial → ℕ → Type 0) → Command → List ℕ → List Device → Type 0
+RunsThat P (Run engine) bytes devices = HasRunThat P (job.Deck engine) bytes devices
+RunsThat P (Soak number) bytes devices = HasRunThat P (job.Soak number) bytes devices
+RunsThat P (Assemble product) bytes devices = ⊥
+
+-- ---- of all commands
+
+-- how a command is answered over these bytes and devices
+abbrev pub IsReplyTo : {B : Type 0} → (B → Device) → (B → ℕ) → Command → List ℕ → List B → List B → Answer → Type 0
+IsReplyTo device_of faults command bytes old new reply =
+    IsReply device_of faults (command_answer command bytes (map device_of old)) (FailsInCommand command bytes (map device_of old)) old new reply
+
+-- what a command reads of these bytes: all of them, or none
+abbrev pub input_of : Command → List ℕ → List ℕ
+input_of command bytes = if reads_for command then bytes else []
+
+-- the words are a command that runs a deck, and this is so of its run
+abbrev pub Has : (Job → Trial → ℕ → Type 0) → Option Command → List ℕ → List Device → Type 0
+Has P None bytes devices = ⊥
+Has P (Some command) bytes devices = RunsThat P command (input_of command bytes) devices
+
+-- ---- what the words and the bytes alone decide leaves the devices as they were
+
+abbrev pub usage_answer : List Device → Answer
+usage_answer devices = answer_with 1 usage_text devices
+
+abbrev pub read_fault_answer : List Device → Answer
+read_fault_answer devices = answer_with 7 read_fault_text devices
+
+abbrev pub too_long_answer : List Device → Answer
+too_long_answer devices = answer_with 11 too_long_text devices
+
+-- a want of memory is told by the status alone
+abbrev pub memory_answer : List Device → Answer
+memory_answer devices = answer_with 9 [] devices
+
+-- ---- the whole
+
+abbrev pub answer_by : Option Command → List ℕ → List Device → Answer
+answer_by None bytes devices = usage_answer devices
+answer_by (Some command) bytes devices =
+    if nat_lt LIMIT (length (input_of command bytes)) then too_long_answer devices
+    else command_answer command (input_of command bytes) devices
+
+-- the answer to these words over these bytes and devices, where no read, no write and no device fails
+abbrev pub answer : List (List ℕ) → List ℕ → List Device → Answer
+answer words bytes devices = answer_by (command_of words) bytes devices

@@ -1,0 +1,33 @@
+ghost use Rattle.std.specs.Prelude.{◌≡◌, ◌+◌, ◌≤◌, length, IfOk};
+ghost use Rattle.lvdc_reply.specs.Answer.{refusal_text};
+
+use lvdc_text::put_decimal;
+use lvdc_word::{NoMemory, Seq};
+use std::alloc::Global;
+
+/// What a command answers.
+#[derive(Debug, Drop)]
+pub struct Reply {
+    /// The exit status.
+    pub status: u8,
+    /// The text that goes with it; each line ends with LF.
+    pub text: Seq<u8>,
+}
+
+/// The refusal of an input with this status, for this cause and on this line. Lines are numbered from 1.
+pub fn refusal(alloc: Global, status: u8, cause: &[u8], line: u32) -> Result<Reply, NoMemory>
+    ensures status { IfOk result (λ reply. reply.status ≡ status) }
+    ensures text { IfOk result (λ reply. reply.text ≡ refusal_text cause.now line) }
+    ensures short { IfOk result (λ reply. length reply.text ≤ length cause.now + 30) }
+{
+    let mut text = Vec::new(alloc);
+    text.extend_from_slice(b"REFUSED ")?;
+    text.extend_from_slice(cause)?;
+    text.extend_from_slice(b" ")?;
+    put_decimal(&mut text, u64::from(line))?;
+    text.extend_from_slice(b"\n")?;
+    Ok(Reply {
+        status,
+        text: Seq::from_vec(text),
+    })
+}

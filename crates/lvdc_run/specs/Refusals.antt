@@ -1,0 +1,16 @@
+-- The refusals of decks: name, line and status.
+use Rattle.std.specs.Prelude.{ℕ, List}
+use Rattle.lvdc_port.specs.Device.{Device}
+use Rattle.lvdc_deck.specs.Faults.{name_of, line_of}
+use Rattle.lvdc_deck.specs.declared.fault.DeckFault.{DeckFault}
+use Rattle.lvdc_deck.specs.declared.fault.DeckFault.TheVariants.{Image}
+use Rattle.lvdc_reply.specs.Answer.{Answer, answer_with, refusal_text}
+
+-- 4 where the program is no image, else 2
+abbrev pub refusal_status : DeckFault → ℕ
+refusal_status (Image fault) = 4
+refusal_status fault = 2
+
+-- a refusal leaves the devices as they were
+abbrev pub refused_answer : List Device → DeckFault → Answer
+refused_answer devices fault = answer_with (refusal_status fault) (refusal_text (name_of fault) (line_of fault)) devices

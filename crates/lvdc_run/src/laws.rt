@@ -1,0 +1,35 @@
+//! What the answers of jobs tell, as laws over their definitions: functions that do nothing.
+
+ghost use Rattle.std.specs.Prelude.{◌≡◌, ℕ, List, Ok};
+ghost use Rattle.lvdc_port.specs.Device.{Device};
+ghost use Rattle.lvdc_deck.specs.Deck.{deck_of};
+ghost use Rattle.lvdc_deck.specs.declared.deck.Deck.{Deck};
+ghost use Rattle.lvdc_run.specs.Trials.{trial_of};
+ghost use Rattle.lvdc_run.specs.Headline.{Headline};
+ghost use Rattle.lvdc_run.specs.Answers.{job_answer};
+ghost use Rattle.lvdc_run.specs.Runs.{Judges, Stops, HasRunThat};
+ghost use Rattle.lvdc_run.specs.declared.job.Engine.TheVariants as engines;
+ghost use Rattle.lvdc_run.specs.declared.job.Job.{Job};
+ghost use Rattle.lvdc_run.specs.declared.job.Job.TheVariants as jobs;
+
+/// The answer of `run` to a deck carries the headline.
+pub fn headline_told()
+    ensures { (bytes : List ℕ) (devices : List Device) (deck : Deck) → deck_of bytes devices ≡ Ok deck →
+        Headline (trial_of devices deck) deck.count (job_answer (jobs.Deck engines.Guarded) bytes devices).text
+        (job_answer (jobs.Deck engines.Guarded) bytes devices).devices }
+{}
+
+/// The statuses 5 and 6 have their causes in the run of the job.
+pub fn statuses_caused()
+    // 5 exactly where the job judges the script and finds a step that isn't admissible.
+    ensures inadmissible { (job : Job) (bytes : List ℕ) (devices : List Device) → (job_answer job bytes devices).status ≡ 5
+        → HasRunThat Judges job bytes devices }
+    ensures inadmissible_always { (job : Job) (bytes : List ℕ) (devices : List Device) → HasRunThat Judges job bytes devices
+        → (job_answer job bytes devices).status ≡ 5 }
+
+    // 6 exactly where the run of the job stops, which for a job that judges is one without such a step.
+    ensures stopped { (job : Job) (bytes : List ℕ) (devices : List Device) → (job_answer job bytes devices).status ≡ 6
+        → HasRunThat Stops job bytes devices }
+    ensures stopped_always { (job : Job) (bytes : List ℕ) (devices : List Device) → HasRunThat Stops job bytes devices
+        → (job_answer job bytes devices).status ≡ 6 }
+{}

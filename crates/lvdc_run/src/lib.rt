@@ -1,0 +1,15 @@
+//! Runs of decks: a deck that is read or drawn is run by one of the machines, and its report is the reply.
+#![tactic(auto)]
+
+mod job;
+mod laws;
+mod perform;
+mod refusal;
+mod runs;
+
+pub use job::{Engine, Job};
+pub use laws::{headline_told, statuses_caused};
+pub use perform::run_job;
+
+#[cfg(test)]
+mod tests;
