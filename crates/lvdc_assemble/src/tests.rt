@@ -13,8 +13,15 @@ fn a_source_becomes_its_image(rt: HostRuntime) -> Result<(), Fail> {
 
 #[test]
 fn a_refused_source_names_its_line(rt: HostRuntime) -> Result<(), Fail> {
-    let reply = assemble_bytes(rt.alloc(), Product::Image, b"        CODE\n        EXM   000\n")?;
+    let reply = assemble_bytes(
+        rt.alloc(),
+        Product::Image,
+        b"        CODE\n        EXM   000\n",
+    )?;
     assert_eq!(rt; reply.status, 3);
-    assert_eq!(rt; reply.text.items(), b"REFUSED ExecuteModified 2\n".as_slice());
+    assert_eq!(rt;
+        reply.text.items(),
+        b"REFUSED ExecuteModified 2\n".as_slice()
+    );
     Ok(())
 }

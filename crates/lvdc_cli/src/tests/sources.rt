@@ -4,12 +4,14 @@ use lvdc_port::{Latch, PortDevice};
 use std::alloc::Global;
 use std::test::Fail;
 
-/// A block of so many instructions, and END.
-fn block_of(alloc: Global, count: usize) -> Result<Vec<u8>, Fail> {
+/// Blocks of so many instructions each, and END.
+fn blocks_of(alloc: Global, counts: &[usize]) -> Result<Vec<u8>, Fail> {
     let mut text = Vec::new(alloc);
-    text.extend_from_slice(b"        CODE\n")?;
-    for _line in 0..count {
-        text.extend_from_slice(b"        CLA   000\n")?;
+    for count in counts {
+        text.extend_from_slice(b"        CODE\n")?;
+        for _line in 0..*count {
+            text.extend_from_slice(b"        CLA   000\n")?;
+        }
     }
     text.extend_from_slice(b"        END\n")?;
     Ok(text)
@@ -80,17 +82,35 @@ fn literals_of_one_value_are_one_word(rt: HostRuntime) -> Result<(), Fail> {
 fn a_block_fills_its_slots_and_one_more_has_no_room(rt: HostRuntime) -> Result<(), Fail> {
     let alloc = rt.alloc();
     let mut devices = Vec::new(alloc);
-    let (status, text) = answer(alloc, "asm --image", block_of(alloc, 256)?, &mut devices)?;
+    let (status, text) = answer(
+        alloc,
+        "asm --image",
+        blocks_of(alloc, &[256])?,
+        &mut devices,
+    )?;
     assert_eq!(rt; status, 0);
     assert!(rt; text.as_str().ends_with("0 00 377 000017000\nEND\n"));
     answers(
         &rt,
         alloc,
         "asm --image",
-        block_of(alloc, 257)?,
+        blocks_of(alloc, &[257])?,
         3,
         "REFUSED NoRoom 1\n",
     )
+}
+
+#[test]
+fn a_block_is_not_split_between_syllables(rt: HostRuntime) -> Result<(), Fail> {
+    let alloc = rt.alloc();
+    let mut devices = Vec::new(alloc);
+    let source = blocks_of(alloc, &[250, 10])?;
+    let (status, text) = answer(alloc, "asm --image", source, &mut devices)?;
+    assert_eq!(rt; status, 0);
+    let second = "\n0 00 011 360017000\n0 00 012 000017000\n";
+    assert!(rt; text.as_str().find(second).is_some());
+    assert!(rt; text.as_str().ends_with("0 00 371 000017000\nEND\n"));
+    Ok(())
 }
 
 #[test]
@@ -121,7 +141,7 @@ fn a_source_leaves_the_devices(rt: HostRuntime) -> Result<(), Fail> {
     let alloc = rt.alloc();
     let mut devices: Vec<Box<dyn PortDevice>> = Vec::new(alloc);
     devices.push(Box::new(alloc, Latch::new(0o14))?)?;
-    let (status, _text) = answer(alloc, "asm --image", block_of(alloc, 1)?, &mut devices)?;
+    let (status, _text) = answer(alloc, "asm --image", blocks_of(alloc, &[1])?, &mut devices)?;
     assert_eq!(rt; (status, devices.len()), (0, 1));
     Ok(())
 }
