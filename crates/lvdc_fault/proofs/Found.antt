@@ -1,5 +1,5 @@
 -- The event at a position, as `get` looks it up.
-use Rattle.std.proofs.Common.{◌≡◌, ℕ, List, Bool, true, false, length, get_or, ltb, slice_get, Some, None, sym, ap, ◌∙◌, subst}
+use Rattle.std.proofs.Common.{◌≡◌, ℕ, List, true, false, length, get_or, ltb, slice_get, Some, None, sym, ap, ◌∙◌, subst}
 use Rattle.std.proofs.lemmas.Bool.{ltb-true, ltb-false}
 use Rattle.std.proofs.lemmas.Option.{slice_get-get_or, slice_get_past}
 use Rattle.lvdc_fault.specs.declared.event.Event.{Event}

@@ -2,6 +2,7 @@
 use Rattle.std.specs.Prelude.{◌≡◌, ◌≤◌, ℕ, suc, Bool, true, false, ◌==◌, ◌&&◌, ◌||◌, nat_le, List, [], ◌∷◌, Option, None, Some, find, filter}
 use Rattle.std.specs.List.{list_any}
 use Rattle.lvdc_fault.specs.declared.event.Event.{Event}
+use Rattle.lvdc_fault.specs.declared.event.Span.{Span}
 use Rattle.lvdc_fault.specs.declared.event.Event.TheVariants.{Flip, Force, Lag, Deaf, Damage, Stick, Dead}
 
 -- does a step lie from the first to the last?
@@ -20,9 +21,7 @@ hurts step m c (Flip number copy first last index mask) = acts_on number copy fi
 hurts step m c (Force number copy first last index mask value) = acts_on number copy first last step m c
 hurts step m c (Lag number copy first last) = acts_on number copy first last step m c
 hurts step m c (Deaf number copy first last) = acts_on number copy first last step m c
-hurts step m c (Damage twin at t mask) = false
-hurts step m c (Stick twin at first last mask value) = false
-hurts step m c (Dead twin pair first last) = false
+hurts step m c _ = false
 
 -- does the event, if there is one?
 abbrev pub hurts_in : Option Event → ℕ → ℕ → ℕ → Bool
@@ -50,13 +49,8 @@ NoneWrong script step = (m : ℕ) → 1 ≤ m → m ≤ 7 → two_wrong script s
 
 -- does an event make a copy of a module deaf at a step?
 abbrev pub deafens : ℕ → ℕ → ℕ → Event → Bool
-deafens step m c (Flip number copy first last index mask) = false
-deafens step m c (Force number copy first last index mask value) = false
-deafens step m c (Lag number copy first last) = false
 deafens step m c (Deaf number copy first last) = acts_on number copy first last step m c
-deafens step m c (Damage twin at t mask) = false
-deafens step m c (Stick twin at first last mask value) = false
-deafens step m c (Dead twin pair first last) = false
+deafens step m c _ = false
 
 -- a deaf copy of a module follows the copies of its own number in place of the votes
 abbrev pub is_deaf : List Event → ℕ → ℕ → ℕ → Bool
@@ -64,25 +58,24 @@ is_deaf script step m c = list_any (deafens step m c) script
 
 -- ---- what is active
 
--- is an event active at a step? Damage is at its step alone
+-- the steps of an event, from the first to the last: damage is at its step alone
+abbrev pub span_of : Event → Span
+span_of (Flip number copy first last index mask) = record { first = first; last = last }
+span_of (Force number copy first last index mask value) = record { first = first; last = last }
+span_of (Lag number copy first last) = record { first = first; last = last }
+span_of (Deaf number copy first last) = record { first = first; last = last }
+span_of (Damage twin at t mask) = record { first = t; last = t }
+span_of (Stick twin at first last mask value) = record { first = first; last = last }
+span_of (Dead twin pair first last) = record { first = first; last = last }
+
+-- is an event active at a step?
 abbrev pub is_active : ℕ → Event → Bool
-is_active step (Flip number copy first last index mask) = is_within first last step
-is_active step (Force number copy first last index mask value) = is_within first last step
-is_active step (Lag number copy first last) = is_within first last step
-is_active step (Deaf number copy first last) = is_within first last step
 is_active step (Damage twin at t mask) = t == step
-is_active step (Stick twin at first last mask value) = is_within first last step
-is_active step (Dead twin pair first last) = is_within first last step
+is_active step e = is_within (span_of e).first (span_of e).last step
 
 -- the first step of an event
 abbrev pub first_of : Event → ℕ
-first_of (Flip number copy first last index mask) = first
-first_of (Force number copy first last index mask value) = first
-first_of (Lag number copy first last) = first
-first_of (Deaf number copy first last) = first
-first_of (Damage twin at t mask) = t
-first_of (Stick twin at first last mask value) = first
-first_of (Dead twin pair first last) = first
+first_of e = (span_of e).first
 
 -- a position before others, where it is wanted
 abbrev pub put_if : Bool → ℕ → List ℕ → List ℕ

@@ -1,5 +1,5 @@
-ghost use Rattle.std.specs.Prelude.{◌≡◌};
-ghost use Rattle.lvdc_fault.specs.Script.{first_of, hurts, is_active};
+ghost use Rattle.std.specs.Prelude.{◌≡◌, ℕ};
+ghost use Rattle.lvdc_fault.specs.Script.{first_of, span_of, hurts, is_active, is_within};
 
 use lvdc_map::Address;
 use lvdc_word::{Cell, Word};
@@ -66,25 +66,18 @@ pub enum Event {
     },
 }
 
-impl Event {
-    /// The first step at which it acts.
-    pub(crate) fn first(&self) -> u64
-        ensures { result ≡ first_of self.now }
-    {
-        match *self {
-            Event::Flip { first, .. }
-            | Event::Force { first, .. }
-            | Event::Lag { first, .. }
-            | Event::Deaf { first, .. }
-            | Event::Stick { first, .. }
-            | Event::Dead { first, .. } => first,
-            Event::Damage { step, .. } => step,
-        }
-    }
+/// The steps from the first to the last.
+#[derive(Clone, Copy, Debug, PartialEq, Eq)]
+pub(crate) struct Span {
+    pub(crate) first: u64,
+    pub(crate) last: u64,
+}
 
-    /// Is it active at the step?
-    pub(crate) fn is_active(&self, step: u64) -> bool
-        ensures { result ≡ is_active step self.now }
+impl Event {
+    /// The steps at which it acts.
+    fn span(&self) -> Span
+        ensures span { result ≡ span_of self.now }
+        ensures active { (step : ℕ) → is_active step self.now ≡ is_within result.first result.last step }
     {
         match *self {
             Event::Flip { first, last, .. }
@@ -92,9 +85,27 @@ impl Event {
             | Event::Lag { first, last, .. }
             | Event::Deaf { first, last, .. }
             | Event::Stick { first, last, .. }
-            | Event::Dead { first, last, .. } => first <= step && step <= last,
-            Event::Damage { step: at_step, .. } => at_step == step,
+            | Event::Dead { first, last, .. } => Span { first, last },
+            Event::Damage { step, .. } => Span {
+                first: step,
+                last: step,
+            },
         }
+    }
+
+    /// The first step at which it acts.
+    pub(crate) fn first(&self) -> u64
+        ensures { result ≡ first_of self.now }
+    {
+        self.span().first
+    }
+
+    /// Is it active at the step?
+    pub(crate) fn is_active(&self, step: u64) -> bool
+        ensures { result ≡ is_active step self.now }
+    {
+        let span = self.span();
+        span.first <= step && step <= span.last
     }
 
     /// Does it act on this copy of this module at the step?

@@ -12,7 +12,8 @@ use Rattle.lvdc_map.specs.declared.placed.Placed.{Placed}
 use Rattle.lvdc_image.specs.declared.fault.ImageFault.{ImageFault}
 use Rattle.lvdc_image.specs.declared.fault.ImageFault.TheVariants.{BadImageLine}
 use Rattle.lvdc_image.specs.Image.{Contents, IsPlaced, IsImage, word_line, start_line, simplex_line, simplex_lines, image_lines}
-use Rattle.lvdc_image.specs.Reading.{NumberedLine, texts, words_from, image_with, banks_in, by_banks, after_start, start_number, start_of, by_start, from_start, image_of}
+use Rattle.lvdc_text.specs.Lines.{NumberedLine}
+use Rattle.lvdc_image.specs.Reading.{texts, words_from, image_with, banks_in, by_banks, after_start, start_number, start_of, by_start, from_start, image_of}
 use Rattle.lvdc_image.proofs.Parts.{both, heads}
 use Rattle.lvdc_image.proofs.Rising.{RiseFrom}
 use Rattle.lvdc_image.proofs.WordsBack.{body_lines, words_from-texts, words_from-again}

@@ -10,7 +10,8 @@ use Rattle.lvdc_map.specs.declared.placed.Placed.{Placed}
 use Rattle.lvdc_image.specs.declared.entry.Entry.{Entry}
 use Rattle.lvdc_image.specs.declared.fault.ImageFault.{ImageFault}
 use Rattle.lvdc_image.specs.declared.fault.ImageFault.TheVariants.{AddressOrder, BadWord}
-use Rattle.lvdc_image.specs.Reading.{NumberedLine, field, is_spaced, entry_of, entry_in, placed_of, least_after, with_word, after_end, words_from}
+use Rattle.lvdc_text.specs.Lines.{NumberedLine}
+use Rattle.lvdc_image.specs.Reading.{field, is_spaced, entry_of, entry_in, placed_of, least_after, with_word, after_end, words_from}
 use Rattle.lvdc_image.proofs.Parts.{both, some_if}
 use Rattle.lvdc_image.proofs.WordLines.{words_from-end, words_from-line, words_from-none}
 

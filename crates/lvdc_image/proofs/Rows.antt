@@ -2,7 +2,8 @@
 use Rattle.std.proofs.Common.{◌≡◌, ℕ, ◌+◌, List, [], ◌∷◌, Ok, Err, Some, Result, refl, codes}
 use Rattle.lvdc_map.specs.Hop.{hop_of}
 use Rattle.lvdc_image.specs.Image.{Contents, image_lines}
-use Rattle.lvdc_image.specs.Reading.{NumberedLine, entry_in, words_from, banks_named, banks_in, image_of}
+use Rattle.lvdc_text.specs.Lines.{NumberedLine}
+use Rattle.lvdc_image.specs.Reading.{entry_in, words_from, banks_named, banks_in, image_of}
 use Rattle.lvdc_text.specs.Numbers.{octal_text}
 use Rattle.lvdc_image.specs.declared.fault.ImageFault.{ImageFault}
 use Rattle.lvdc_image.specs.declared.fault.ImageFault.TheVariants.{BadImageLine, AddressOrder, BadWord}

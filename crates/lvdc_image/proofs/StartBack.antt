@@ -4,8 +4,8 @@ use Rattle.std.specs.Str.{bytes_eq}
 use Rattle.std.proofs.lemmas.Bool.{lt-ltb, ltb-true, eqb-true, eq-eqb}
 use Rattle.std.proofs.lemmas.List.{take-append-drop}
 use Rattle.std.proofs.lemmas.Slice.Eq.{bytes_eq-Decides}
-use Rattle.lvdc_map.specs.Hop.{HopConstant, IsHopConstant, hop_of, word_of_hop, bit_of}
-use Rattle.lvdc_map.proofs.HopLaws.{word_of_hop-hop_of, hop_of-word_of_hop}
+use Rattle.lvdc_map.specs.Hop.{HopConstant, IsHopConstant, hop_of, word_of_hop}
+use Rattle.lvdc_map.proofs.HopLaws.{word_of_hop-hop_of, hop_of-word_of_hop, word_of_hop-fits}
 use Rattle.lvdc_text.specs.Numbers.{number_of, octal_text}
 use Rattle.lvdc_text.proofs.ReadBack.{number_of-octal_text, length-octal_text}
 use Rattle.lvdc_image.specs.declared.fault.ImageFault.TheVariants.{BadWord}
@@ -14,13 +14,6 @@ use Rattle.lvdc_image.specs.Reading.{start_number, start_of}
 use Rattle.lvdc_image.proofs.Parts.{both, some_if, ok_if}
 use Rattle.lvdc_image.proofs.Digits.{octal_text-number_of}
 
-bit_of_small : (b : Bool) → bit_of b < 2
-bit_of_small true = omega arith
-bit_of_small false = omega arith
-
-word_of_hop-small : (start : HopConstant) → IsHopConstant start → word_of_hop start < 2 ^ 26
-word_of_hop-small start ok = omega (arith, ok.imod, ok.isec, ok.syl, ok.loc, ok.dmod, ok.dsec, bit_of_small start.dupin, bit_of_small start.dupdn)
-
 word_of_hop-even : (start : HopConstant) → word_of_hop start % 2 ≡ 0
 word_of_hop-even start = omega arith
 
@@ -28,11 +21,11 @@ word_of_hop-even start = omega arith
 pub start_number-start_line : (start : HopConstant) → IsHopConstant start → start_number (start_line start) ≡ Some (word_of_hop start)
 start_number-start_line start ok =
     ap (λ (n : ℕ). if eqb n 9 then number_of 8 9 (octal_text 9 (word_of_hop start)) else None) (length-octal_text 9 (word_of_hop start))
-    ∙ number_of-octal_text 9 9 (word_of_hop start) (omega arith) (omega arith) (omega (arith, word_of_hop-small start ok))
+    ∙ number_of-octal_text 9 9 (word_of_hop start) (omega arith) (omega arith) (omega (arith, word_of_hop-fits start ok))
 
 pub start_of-again : (number : ℕ) (start : HopConstant) → IsHopConstant start → start_of number (Some (word_of_hop start)) ≡ Ok start
 start_of-again number start ok =
-    ap (λ (b : Bool). if b && (word_of_hop start % 2 == 0) then Ok (hop_of (word_of_hop start)) else Err (BadWord number)) (lt-ltb (word_of_hop start) (2 ^ 26) (word_of_hop-small start ok))
+    ap (λ (b : Bool). if b && (word_of_hop start % 2 == 0) then Ok (hop_of (word_of_hop start)) else Err (BadWord number)) (lt-ltb (word_of_hop start) (2 ^ 26) (word_of_hop-fits start ok))
     ∙ ap (λ (b : Bool). if b then Ok (hop_of (word_of_hop start)) else Err (BadWord number)) (eq-eqb (word_of_hop start % 2) 0 (word_of_hop-even start))
     ∙ ap (λ (h : HopConstant). Ok h) (hop_of-word_of_hop start ok)
 

@@ -10,13 +10,13 @@ use Rattle.std.proofs.lemmas.List.Splits.{slice_split_at, length-slice_split}
 use Rattle.lvdc_map.specs.Banks.{is_simplex}
 use Rattle.lvdc_map.specs.Hop.{HopConstant, word_of_hop}
 use Rattle.lvdc_map.specs.declared.placed.Placed.{Placed}
-use Rattle.lvdc_text.specs.Lines.{is_line_feed, part_of, lines_of, texts_of}
+use Rattle.lvdc_text.specs.Lines.{is_line_feed, part_of, lines_of, texts_of, numbered}
 use Rattle.lvdc_text.specs.Numbers.{octal_text}
 use Rattle.lvdc_text.specs.declared.cutting.Line.{Line}
 use Rattle.lvdc_text.proofs.Digits.{octal_text-zero, octal_text-suc}
 use Rattle.lvdc_text.proofs.Texts.{texts-lines_of}
 use Rattle.lvdc_image.specs.Image.{Contents, word_line, start_line, pair_name, simplex_line, head_lines, image_lines, text_of, image_text}
-use Rattle.lvdc_image.specs.Reading.{numbered, texts}
+use Rattle.lvdc_image.specs.Reading.{texts}
 use Rattle.lvdc_image.proofs.Parts.{both, same_lines}
 
 -- no control byte, such as LF or CR

@@ -5,10 +5,10 @@ use Rattle.std.proofs.lemmas.List.{append-nil, drop_more, drop_all}
 use Rattle.lvdc_map.specs.Address.{number_of}
 use Rattle.lvdc_map.specs.declared.placed.Placed.{Placed}
 use Rattle.lvdc_text.specs.declared.cutting.Line.{Line}
-use Rattle.lvdc_text.specs.Lines.{part_of}
+use Rattle.lvdc_text.specs.Lines.{part_of, NumberedLine, numbered}
 use Rattle.lvdc_image.specs.declared.fault.ImageFault.{ImageFault}
 use Rattle.lvdc_image.specs.declared.fault.ImageFault.TheVariants.{BadImageLine}
-use Rattle.lvdc_image.specs.Reading.{NumberedLine, numbered, entry_in, placed_of, least_after, with_word, after_end, words_from}
+use Rattle.lvdc_image.specs.Reading.{entry_in, placed_of, least_after, with_word, after_end, words_from}
 
 -- these words stand before the others
 abbrev pub with_words : List Placed → Result (List Placed) ImageFault → Result (List Placed) ImageFault
@@ -23,12 +23,6 @@ with_words-word : (words : List Placed) (placed : Placed) (read : Result (List P
     → with_words words (with_word (Ok placed) read) ≡ with_words (words ++ placed ∷ []) read
 with_words-word words placed (Ok more) = ap (λ (all : List Placed). Ok all) (sym (append_assoc words (placed ∷ []) more))
 with_words-word words placed (Err fault) = refl
-
--- the first of the numbered lines
-pub first_numbered : (bytes : List ℕ) (lines : List Line) (index : ℕ) (d : Line) → index < length lines
-    → numbered bytes (drop index lines)
-    ≡ record { number = (get_or lines index d).number; text = part_of bytes (get_or lines index d) } ∷ numbered bytes (drop (index + 1) lines)
-first_numbered bytes lines index d l = ap (numbered bytes) (drop_more lines index d l)
 
 pub words_from-end : (banks least next : ℕ) (line : NumberedLine) (lines : List NumberedLine) → bytes_eq line.text (codes "END") ≡ true
     → words_from banks least next (line ∷ lines) ≡ after_end lines
@@ -50,7 +44,7 @@ module _ (bytes : List ℕ) (words : List Placed) (banks least next index : ℕ)
     (total : Result (List Placed) ImageFault) (within : index < length lines) (reads : text ≡ part_of bytes (get_or lines index d))
     (tests : ends ≡ bytes_eq text (codes "END")) (so_far : with_words words (words_from banks least next (numbered bytes (drop index lines))) ≡ total) where
   by_this : with_words words (words_from banks least next (record { number = (get_or lines index d).number; text = part_of bytes (get_or lines index d) } ∷ numbered bytes (drop (index + 1) lines))) ≡ total
-  by_this = ap (λ (found : List NumberedLine). with_words words (words_from banks least next found)) (sym (first_numbered bytes lines index d within)) ∙ so_far
+  by_this = ap (λ (found : List NumberedLine). with_words words (words_from banks least next found)) (sym (ap (numbered bytes) (drop_more lines index d within))) ∙ so_far
 
   ended : ends ≡ true → with_words words (after_end (numbered bytes (drop (index + 1) lines))) ≡ total
   ended e =
@@ -64,7 +58,7 @@ module _ (bytes : List ℕ) (words : List Placed) (banks least next index : ℕ)
       ∙ ap (λ (all : List Placed). Ok all) (append-nil words)
 
   pub at_line_after_end : ends ≡ true → index + 1 < length lines → total ≡ Err (BadImageLine (get_or lines (index + 1) d).number)
-  at_line_after_end e l = sym (ended e) ∙ ap (λ (found : List NumberedLine). with_words words (after_end found)) (first_numbered bytes lines (index + 1) d l)
+  at_line_after_end e l = sym (ended e) ∙ ap (λ (found : List NumberedLine). with_words words (after_end found)) (ap (numbered bytes) (drop_more lines (index + 1) d l))
 
   by_line : (read : Result Placed ImageFault) → ends ≡ false → read ≡ placed_of least (get_or lines index d).number (entry_in banks text)
       → with_words words (with_word read (words_from banks (least_after read) ((get_or lines index d).number + 1) (numbered bytes (drop (index + 1) lines)))) ≡ total

@@ -8,7 +8,8 @@ use Rattle.lvdc_map.specs.declared.placed.Placed.{Placed}
 use Rattle.lvdc_image.specs.declared.fault.ImageFault.{ImageFault}
 use Rattle.lvdc_image.specs.declared.fault.ImageFault.TheVariants.{AddressOrder, BadWord}
 use Rattle.lvdc_image.specs.Image.{word_line}
-use Rattle.lvdc_image.specs.Reading.{NumberedLine, texts, entry_in, placed_of, least_after, with_word, words_from}
+use Rattle.lvdc_text.specs.Lines.{NumberedLine}
+use Rattle.lvdc_image.specs.Reading.{texts, entry_in, placed_of, least_after, with_word, words_from}
 use Rattle.lvdc_image.proofs.Parts.{heads, same_lines}
 use Rattle.lvdc_image.proofs.WordLines.{words_from-end, words_from-line, words_from-none}
 use Rattle.lvdc_image.proofs.Rising.{StandsIn, RiseFrom, placed_of-ok, with_word-ok, after_end-ok}

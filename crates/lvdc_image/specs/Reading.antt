@@ -5,22 +5,12 @@ use Rattle.lvdc_map.specs.Address.{number_of as number_of_spot}
 use Rattle.lvdc_map.specs.Banks.{is_there}
 use Rattle.lvdc_map.specs.Hop.{HopConstant, hop_of}
 use Rattle.lvdc_map.specs.declared.placed.Placed.{Placed}
-use Rattle.lvdc_text.specs.Lines.{part_of}
+use Rattle.lvdc_text.specs.Lines.{NumberedLine}
 use Rattle.lvdc_text.specs.Numbers.{number_of}
-use Rattle.lvdc_text.specs.declared.cutting.Line.{Line}
 use Rattle.lvdc_image.specs.Image.{Contents}
 use Rattle.lvdc_image.specs.declared.entry.Entry.{Entry}
 use Rattle.lvdc_image.specs.declared.fault.ImageFault.{ImageFault}
 use Rattle.lvdc_image.specs.declared.fault.ImageFault.TheVariants.{BadImageLine, AddressOrder, BadWord}
-
--- the bytes of a line, and its number
-pub record NumberedLine : Type 0 where
-  pub number : ℕ
-  pub text : List ℕ
-
--- these lines of the bytes
-abbrev pub numbered : List ℕ → List Line → List NumberedLine
-numbered bytes lines = map (λ (line : Line). record { number = line.number; text = part_of bytes line }) lines
 
 -- the bytes of the lines
 abbrev pub texts : List NumberedLine → List (List ℕ)

@@ -1,9 +1,9 @@
 -- Which banks are there, and which twins hold them.
 use Rattle.std.proofs.Common.{◌≡◌, ℕ, ◌+◌, ◌-◌, ◌*◌, ◌/◌, ◌%◌, ◌<◌, Bool, true, false, cond, ◌||◌, inl, inr, refl, sym, ap, ◌∙◌, arith}
-use Rattle.std.specs.Prelude.{◌==◌, nat_lt}
+use Rattle.std.specs.Prelude.{nat_lt}
 use Rattle.std.proofs.lemmas.Bool.{true≢false, lt-ltb, le-ltb, cases_lt}
 use Rattle.lvdc_map.specs.Address.{Spot}
-use Rattle.lvdc_map.specs.Banks.{is_simplex, bank_of, is_there, holds, HasBank}
+use Rattle.lvdc_map.specs.Banks.{is_simplex, bank_of, holds, HasBank}
 
 or_true : (a : Bool) → (a || true) ≡ true
 or_true true = refl

@@ -1,6 +1,6 @@
 -- HOP constants: the fields of a word that says where to go on.
 use Rattle.std.specs.Prelude.{ℕ, ◌+◌, ◌*◌, ◌/◌, ◌%◌, ◌^◌, ◌<◌, Bool, ◌==◌, if◌then◌else◌}
-use Rattle.lvdc_word.specs.Word.{upper, lower}
+use Rattle.lvdc_word.specs.Word.{bit_of, upper, lower}
 use Rattle.lvdc_map.specs.Address.{Spot}
 use Rattle.lvdc_map.specs.Banks.{bank_of}
 
@@ -27,10 +27,6 @@ pub record IsHopConstant (h : HopConstant) : Type 0 where
 -- bit k of a word
 abbrev pub bit : ℕ → ℕ → Bool
 bit w k = w / 2 ^ k % 2 == 1
-
--- the number of a bit
-abbrev pub bit_of : Bool → ℕ
-bit_of b = if b then 1 else 0
 
 -- the fields of a word; its lowest bit is spare
 abbrev pub hop_of : ℕ → HopConstant

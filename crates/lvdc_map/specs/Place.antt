@@ -12,6 +12,10 @@ use Rattle.lvdc_map.specs.declared.place.Place.TheVariants.{Memory, Pq, Saver}
 abbrev pub a9 : ℕ → Bool
 a9 address = address / 2 ^ 8 == 1
 
+-- the low eight bits of an operand address: a location, and of PIO the port
+abbrev pub low_bits : ℕ → ℕ
+low_bits address = address % 2 ^ 8
+
 -- what an operand address names, whatever the data place is: 775 is PQ, 776 and 777 are the saver's words, all else is memory
 abbrev pub operand_kind : ℕ → OperandKind
 operand_kind address =
@@ -24,7 +28,7 @@ data_sector h address = if a9 address then 15 else h.dsec
 
 -- the location of the data bank that an operand address means
 abbrev pub data_spot : ℕ → HopConstant → ℕ → Spot
-data_spot banks h address = record { pair = bank_of banks h.dmod; sector = data_sector h address; loc = address % 2 ^ 8 }
+data_spot banks h address = record { pair = bank_of banks h.dmod; sector = data_sector h address; loc = low_bits address }
 
 -- the place of a kind, which stands at this address unless it is PQ
 abbrev pub place_at : OperandKind → Spot → Place
@@ -38,7 +42,7 @@ place_of banks h address = place_at (operand_kind address) (data_spot banks h ad
 
 -- the constant after a transfer to an address: its highest bit is the syllable, the others are the location
 abbrev pub jumped : HopConstant → ℕ → HopConstant
-jumped h address = record h { syl = if a9 address then 1 else 0; loc = address % 2 ^ 8 }
+jumped h address = record h { syl = if a9 address then 1 else 0; loc = low_bits address }
 
 -- the constant with the data fields of an address: module in bits 6 to 4, sector in bits 3 to 0, DUPDN in bit 8
 abbrev pub with_data : HopConstant → ℕ → HopConstant

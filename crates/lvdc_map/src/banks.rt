@@ -76,3 +76,5 @@ pub fn banks_are_held()
     ensures there { (banks number : ℕ) (at : Spot) → number < 8 → at.pair ≡ bank_of banks number → HasBank banks at }
     ensures duplex { (banks twin : ℕ) (at : Spot) → HasBank banks at → is_simplex banks (at.pair % 4) ≡ false → holds banks twin at ≡ true }
 {}
+
+const _: () = prove!(Banks::DUPLEX.simplex == 0);

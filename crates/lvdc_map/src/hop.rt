@@ -1,6 +1,6 @@
 ghost use Rattle.std.specs.Prelude.{◌≡◌, ◌<◌};
 
-use crate::{Address, Banks, is_a9};
+use crate::{Address, Banks, is_a9, low_bits};
 use lvdc_word::{Syllable, Word};
 use std::marker::Model;
 
@@ -121,7 +121,7 @@ impl Hop {
     {
         Hop {
             syl: if is_a9(address) { 1 } else { 0 },
-            loc: (address & 255) as u8,
+            loc: low_bits(address),
             ..self
         }
     }

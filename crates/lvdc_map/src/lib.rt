@@ -12,7 +12,7 @@ mod words;
 pub use address::{Address, same_address};
 pub use banks::{Banks, banks_are_held};
 pub use hop::Hop;
-pub use operand::{OperandKind, is_a9, operand_place};
+pub use operand::{OperandKind, is_a9, low_bits, operand_place};
 pub use place::Place;
 pub use placed::Placed;
 pub use words::Words;

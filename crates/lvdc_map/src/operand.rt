@@ -1,5 +1,5 @@
 ghost use Rattle.std.specs.Prelude.{◌≡◌, ◌<◌};
-ghost use Rattle.lvdc_map.specs.Place.{a9, operand_kind, place_of, IsThereIn};
+ghost use Rattle.lvdc_map.specs.Place.{a9, low_bits, operand_kind, place_of, IsThereIn};
 
 use crate::{Address, Banks, Hop, Place};
 
@@ -35,6 +35,13 @@ pub fn is_a9(address: u16) -> bool
     address >> 8 == 1
 }
 
+/// The low eight bits of an address: a location, and of PIO the port.
+pub fn low_bits(address: u16) -> u8
+    ensures { result ≡ low_bits address }
+{
+    (address & 255) as u8
+}
+
 /// The place that the nine bits of an operand address name.
 pub fn operand_place(hop: Hop, address: u16, banks: Banks) -> Place
     requires { address < 512 }
@@ -44,7 +51,7 @@ pub fn operand_place(hop: Hop, address: u16, banks: Banks) -> Place
     let at = Address {
         pair: banks.of(hop.dmod),
         sector: hop.data_sector(address),
-        loc: (address & 255) as u8,
+        loc: low_bits(address),
     };
     match OperandKind::of(address) {
         OperandKind::Memory => Place::Memory(at),

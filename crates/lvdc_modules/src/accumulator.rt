@@ -1,4 +1,4 @@
-ghost use Rattle.std.specs.Prelude.{◌≡◌, refl};
+ghost use Rattle.std.specs.Prelude.{◌≡◌, ◌<◌, refl, slice_set};
 ghost use Rattle.std.proofs.Common.{ap};
 ghost use Rattle.lvdc_modules.specs.States.{accumulator_latches, accumulator_of};
 ghost use Rattle.lvdc_isa.specs.Instr.{takes_operand};
@@ -23,6 +23,22 @@ pub struct AccumulatorState {
     pub operand: Word,
 }
 
+impl AccumulatorState {
+    /// The state with this word in one latch.
+    fn with(&self, index: u8, word: Word) -> AccumulatorState
+        requires { index < 2 }
+        ensures { accumulator_latches result ≡ slice_set (accumulator_latches self.now) index word }
+    {
+        match index {
+            0 => AccumulatorState { a: word, ..*self },
+            _ => AccumulatorState {
+                operand: word,
+                ..*self
+            },
+        }
+    }
+}
+
 impl Vote for AccumulatorState {
     ghost LATCHES = { 2 };
 
@@ -45,29 +61,11 @@ impl Vote for AccumulatorState {
     }
 
     fn with_flip(&self, index: u8, mask: Word) -> Self {
-        match index {
-            0 => AccumulatorState {
-                a: flipped(self.a, mask),
-                ..*self
-            },
-            _ => AccumulatorState {
-                operand: flipped(self.operand, mask),
-                ..*self
-            },
-        }
+        self.with(index, flipped(self.latch(index), mask))
     }
 
     fn with_force(&self, index: u8, mask: Word, value: Word) -> Self {
-        match index {
-            0 => AccumulatorState {
-                a: forced(self.a, mask, value),
-                ..*self
-            },
-            _ => AccumulatorState {
-                operand: forced(self.operand, mask, value),
-                ..*self
-            },
-        }
+        self.with(index, forced(self.latch(index), mask, value))
     }
 
     fn same(&self, other: &Self) -> bool {

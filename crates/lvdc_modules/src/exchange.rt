@@ -1,4 +1,4 @@
-ghost use Rattle.std.specs.Prelude.{◌≡◌, refl, ◌<◌, ◌^◌};
+ghost use Rattle.std.specs.Prelude.{◌≡◌, refl, ◌<◌, ◌^◌, slice_set};
 ghost use Rattle.std.proofs.Common.{ap};
 ghost use Rattle.lvdc_modules.specs.States.{exchange_latches, exchange_of};
 ghost use Rattle.lvdc_modules.specs.Request.{IsRequest};
@@ -7,7 +7,7 @@ ghost use Rattle.lvdc_modules.specs.Exchange.{requested, stopped, exchange_row};
 use crate::seen::{Doing, doing_of, here_of, instruction_of};
 use crate::{Bus, Request, Target};
 use lvdc_isa::Op;
-use lvdc_map::{Hop, OperandKind, is_a9};
+use lvdc_map::{Hop, OperandKind, is_a9, low_bits};
 use lvdc_vote::{LogicModule, Vote, flipped, forced, majority};
 use lvdc_word::Word;
 
@@ -18,6 +18,25 @@ pub struct ExchangeState {
     pub stop: Word,
     /// REQUEST, what the next phase C exchanges.
     pub request: Word,
+}
+
+impl ExchangeState {
+    /// The state with this word in one latch.
+    fn with(&self, index: u8, word: Word) -> ExchangeState
+        requires { index < 2 }
+        ensures { exchange_latches result ≡ slice_set (exchange_latches self.now) index word }
+    {
+        match index {
+            0 => ExchangeState {
+                stop: word,
+                ..*self
+            },
+            _ => ExchangeState {
+                request: word,
+                ..*self
+            },
+        }
+    }
 }
 
 impl Vote for ExchangeState {
@@ -42,29 +61,11 @@ impl Vote for ExchangeState {
     }
 
     fn with_flip(&self, index: u8, mask: Word) -> Self {
-        match index {
-            0 => ExchangeState {
-                stop: flipped(self.stop, mask),
-                ..*self
-            },
-            _ => ExchangeState {
-                request: flipped(self.request, mask),
-                ..*self
-            },
-        }
+        self.with(index, flipped(self.latch(index), mask))
     }
 
     fn with_force(&self, index: u8, mask: Word, value: Word) -> Self {
-        match index {
-            0 => ExchangeState {
-                stop: forced(self.stop, mask, value),
-                ..*self
-            },
-            _ => ExchangeState {
-                request: forced(self.request, mask, value),
-                ..*self
-            },
-        }
+        self.with(index, forced(self.latch(index), mask, value))
     }
 
     fn same(&self, other: &Self) -> bool {
@@ -86,7 +87,7 @@ fn requested(op: Op, place: Hop, address: u16) -> Request
     ensures value { result ≡ requested op place address }
     ensures ranges { IsRequest result }
 {
-    let port = (address & 0xff) as u8;
+    let port = low_bits(address);
     match op {
         Op::Sto => match OperandKind::of(address) {
             OperandKind::Memory => Request::StoreA(Target::at(place, address)),

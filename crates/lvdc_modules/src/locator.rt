@@ -1,4 +1,4 @@
-ghost use Rattle.std.specs.Prelude.{◌≡◌, refl};
+ghost use Rattle.std.specs.Prelude.{◌≡◌, ◌<◌, refl, slice_set};
 ghost use Rattle.std.proofs.Common.{ap};
 ghost use Rattle.lvdc_modules.specs.States.{locator_latches, locator_of};
 ghost use Rattle.lvdc_modules.specs.Locator.{place_fields, moves_on, moves_to, jumps, located, locator_row};
@@ -17,6 +17,25 @@ pub struct LocatorState {
     pub place: Word,
     /// SAVER, the HOP constant of the place after the last transfer.
     pub saver: Word,
+}
+
+impl LocatorState {
+    /// The state with this word in one latch.
+    fn with(&self, index: u8, word: Word) -> LocatorState
+        requires { index < 2 }
+        ensures { locator_latches result ≡ slice_set (locator_latches self.now) index word }
+    {
+        match index {
+            0 => LocatorState {
+                place: word,
+                ..*self
+            },
+            _ => LocatorState {
+                saver: word,
+                ..*self
+            },
+        }
+    }
 }
 
 impl Vote for LocatorState {
@@ -41,29 +60,11 @@ impl Vote for LocatorState {
     }
 
     fn with_flip(&self, index: u8, mask: Word) -> Self {
-        match index {
-            0 => LocatorState {
-                place: flipped(self.place, mask),
-                ..*self
-            },
-            _ => LocatorState {
-                saver: flipped(self.saver, mask),
-                ..*self
-            },
-        }
+        self.with(index, flipped(self.latch(index), mask))
     }
 
     fn with_force(&self, index: u8, mask: Word, value: Word) -> Self {
-        match index {
-            0 => LocatorState {
-                place: forced(self.place, mask, value),
-                ..*self
-            },
-            _ => LocatorState {
-                saver: forced(self.saver, mask, value),
-                ..*self
-            },
-        }
+        self.with(index, forced(self.latch(index), mask, value))
     }
 
     fn same(&self, other: &Self) -> bool {
@@ -123,19 +124,19 @@ fn jumps(place: Hop, address: u16) -> LocatorState
 fn located(op: Op, bus: &Bus, place: Hop, address: u16) -> LocatorState
     ensures { result ≡ located op bus.now place address }
 {
-    let a = bus.accumulator.a.value();
+    let a = bus.accumulator.a;
     match op {
         Op::Hop => moves_to(place, Hop::of(bus.accumulator.operand)),
         Op::Tra => jumps(place, address),
         Op::Tnz => {
-            if a == 0 {
+            if a == Word::ZERO {
                 moves_on(bus, place)
             } else {
                 jumps(place, address)
             }
         }
         Op::Tmi => {
-            if (a >> 25) & 1 == 1 {
+            if a.is_negative() {
                 jumps(place, address)
             } else {
                 moves_on(bus, place)

@@ -1,4 +1,4 @@
-ghost use Rattle.std.specs.Prelude.{◌≡◌, refl};
+ghost use Rattle.std.specs.Prelude.{◌≡◌, ◌<◌, refl, slice_set};
 ghost use Rattle.std.proofs.Common.{ap};
 ghost use Rattle.lvdc_modules.specs.States.{multiplier_latches, multiplier_of};
 ghost use Rattle.lvdc_modules.specs.Multiplier.{working, unit_pq, unit_working, pq_after, working_after, multiplier_with, multiplier_row};
@@ -24,6 +24,25 @@ pub struct MultiplierState {
     pub h: Word,
     /// Q, the multiplier and the lower part of the product, or the quotient.
     pub q: Word,
+}
+
+impl MultiplierState {
+    /// The state with this word in one latch.
+    fn with(&self, index: u8, word: Word) -> MultiplierState
+        requires { index < 5 }
+        ensures { multiplier_latches result ≡ slice_set (multiplier_latches self.now) index word }
+    {
+        match index {
+            0 => MultiplierState { pq: word, ..*self },
+            1 => MultiplierState {
+                control: word,
+                ..*self
+            },
+            2 => MultiplierState { m: word, ..*self },
+            3 => MultiplierState { h: word, ..*self },
+            _ => MultiplierState { q: word, ..*self },
+        }
+    }
 }
 
 impl Vote for MultiplierState {
@@ -54,53 +73,11 @@ impl Vote for MultiplierState {
     }
 
     fn with_flip(&self, index: u8, mask: Word) -> Self {
-        match index {
-            0 => MultiplierState {
-                pq: flipped(self.pq, mask),
-                ..*self
-            },
-            1 => MultiplierState {
-                control: flipped(self.control, mask),
-                ..*self
-            },
-            2 => MultiplierState {
-                m: flipped(self.m, mask),
-                ..*self
-            },
-            3 => MultiplierState {
-                h: flipped(self.h, mask),
-                ..*self
-            },
-            _ => MultiplierState {
-                q: flipped(self.q, mask),
-                ..*self
-            },
-        }
+        self.with(index, flipped(self.latch(index), mask))
     }
 
     fn with_force(&self, index: u8, mask: Word, value: Word) -> Self {
-        match index {
-            0 => MultiplierState {
-                pq: forced(self.pq, mask, value),
-                ..*self
-            },
-            1 => MultiplierState {
-                control: forced(self.control, mask, value),
-                ..*self
-            },
-            2 => MultiplierState {
-                m: forced(self.m, mask, value),
-                ..*self
-            },
-            3 => MultiplierState {
-                h: forced(self.h, mask, value),
-                ..*self
-            },
-            _ => MultiplierState {
-                q: forced(self.q, mask, value),
-                ..*self
-            },
-        }
+        self.with(index, forced(self.latch(index), mask, value))
     }
 
     fn same(&self, other: &Self) -> bool {

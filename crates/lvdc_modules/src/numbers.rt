@@ -2,10 +2,10 @@ ghost use Rattle.std.specs.Prelude.{◌≡◌, ◌<◌, ◌≤◌};
 ghost use Rattle.lvdc_modules.specs.States.{latches_of};
 
 use crate::{
-    AccumulatorState, DecoderState, ExchangeState, LocatorState, MultiplierState, SelectorState,
-    TimerState,
+    Accumulator, AccumulatorState, Decoder, DecoderState, ExchangeState, Exchanger, Locator,
+    LocatorState, Multiplier, MultiplierState, Selector, SelectorState, Timer, TimerState,
 };
-use lvdc_vote::Vote;
+use lvdc_vote::{LogicModule, Vote};
 
 /// How many latches the module of this number has, 1 to 7.
 pub fn latches(number: u8) -> u8
@@ -14,12 +14,13 @@ pub fn latches(number: u8) -> u8
     ensures { result ≡ latches_of number }
 {
     match number {
-        1 => TimerState::LATCHES,
-        2 => LocatorState::LATCHES,
-        3 => DecoderState::LATCHES,
-        4 => SelectorState::LATCHES,
-        5 => AccumulatorState::LATCHES,
-        6 => MultiplierState::LATCHES,
-        _ => ExchangeState::LATCHES,
+        Timer::NUMBER => TimerState::LATCHES,
+        Locator::NUMBER => LocatorState::LATCHES,
+        Decoder::NUMBER => DecoderState::LATCHES,
+        Selector::NUMBER => SelectorState::LATCHES,
+        Accumulator::NUMBER => AccumulatorState::LATCHES,
+        Multiplier::NUMBER => MultiplierState::LATCHES,
+        Exchanger::NUMBER => ExchangeState::LATCHES,
+        _ => unreachable!(),
     }
 }

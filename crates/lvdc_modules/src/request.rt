@@ -2,7 +2,7 @@ ghost use Rattle.std.specs.Prelude.{◌≡◌, ◌<◌, ◌^◌, ◌-◌, true};
 ghost use Rattle.lvdc_map.specs.Banks.{is_there};
 ghost use Rattle.lvdc_modules.specs.Request.{target, spot_of, target_bits, word_of_request, target_in, request_of, IsTarget, IsRequest};
 
-use lvdc_map::{Address, Banks, Hop};
+use lvdc_map::{Address, Banks, Hop, low_bits};
 use lvdc_word::Word;
 
 /// A word of memory by the number of its module, before the banks are known.
@@ -41,7 +41,7 @@ impl Target {
         Target {
             dmod: place.dmod,
             sector: place.data_sector(address),
-            loc: (address & 0xff) as u8,
+            loc: low_bits(address),
         }
     }
 

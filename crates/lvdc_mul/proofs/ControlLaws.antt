@@ -1,17 +1,11 @@
 -- The fields of CONTROL and the word of them.
-use Rattle.std.proofs.Common.{◌≡◌, ℕ, ◌/◌, ◌%◌, ◌^◌, ◌<◌, ◌==◌, Bool, true, false, refl, ap, ◌∙◌, arith}
+use Rattle.std.proofs.Common.{◌≡◌, ℕ, ◌/◌, ◌%◌, ◌^◌, ◌<◌, ◌==◌, refl, ap, ◌∙◌, arith}
+use Rattle.lvdc_word.specs.Word.{bit_of}
+use Rattle.lvdc_word.proofs.Bits.{bit_of-small, bit_of-one}
 use Rattle.lvdc_mul.specs.declared.control.Kind.{Kind}
 use Rattle.lvdc_mul.specs.declared.control.Kind.TheVariants.{Idle, Multiply, MultiplyHigh, Divide}
 use Rattle.lvdc_mul.specs.declared.control.Control.{Control}
-use Rattle.lvdc_mul.specs.Control.{kind_of, code_of, bit_of, control_of, control_word}
-
-bit_small : (b : Bool) → bit_of b < 2
-bit_small true = omega arith
-bit_small false = omega arith
-
-bit_again : (b : Bool) → (bit_of b == 1) ≡ b
-bit_again true = refl
-bit_again false = refl
+use Rattle.lvdc_mul.specs.Control.{kind_of, code_of, control_of, control_word}
 
 code_small : (k : Kind) → code_of k < 4
 code_small Idle = omega arith
@@ -28,8 +22,8 @@ kind_again Divide = refl
 -- the fields of the word of fields are these
 pub control_of-control_word : (c : Control) → c.count < 32 → control_of (control_word c) ≡ c
 control_of-control_word c small =
-    let n : bit_of c.negative < 2 = bit_small c.negative in
-    let s : bit_of c.saturated < 2 = bit_small c.saturated in
+    let n : bit_of c.negative < 2 = bit_of-small c.negative in
+    let s : bit_of c.saturated < 2 = bit_of-small c.saturated in
     let k : code_of c.kind < 4 = code_small c.kind in
     let code : control_word c % 4 ≡ code_of c.kind = omega arith in
     let count : control_word c / 2 ^ 2 % 2 ^ 5 ≡ c.count = omega arith in
@@ -37,6 +31,6 @@ control_of-control_word c small =
     let sat : control_word c / 2 ^ 8 % 2 ≡ bit_of c.saturated = omega arith in
     let unnamed : control_word c / 2 ^ 9 ≡ c.unnamed = omega arith in
     let kind : kind_of (control_word c % 4) ≡ c.kind = ap kind_of code ∙ kind_again c.kind in
-    let negative : (control_word c / 2 ^ 7 % 2 == 1) ≡ c.negative = ap (λ (b : ℕ). b == 1) neg ∙ bit_again c.negative in
-    let saturated : (control_word c / 2 ^ 8 % 2 == 1) ≡ c.saturated = ap (λ (b : ℕ). b == 1) sat ∙ bit_again c.saturated in
+    let negative : (control_word c / 2 ^ 7 % 2 == 1) ≡ c.negative = ap (λ (b : ℕ). b == 1) neg ∙ bit_of-one c.negative in
+    let saturated : (control_word c / 2 ^ 8 % 2 == 1) ≡ c.saturated = ap (λ (b : ℕ). b == 1) sat ∙ bit_of-one c.saturated in
     λ i. record { kind = kind i; count = count i; negative = negative i; saturated = saturated i; unnamed = unnamed i }

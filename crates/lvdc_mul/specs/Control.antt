@@ -1,5 +1,6 @@
 -- CONTROL, the latch that counts the phases of a multiply or a divide: its fields, and the word of them.
 use Rattle.std.specs.Prelude.{ℕ, ◌+◌, ◌-◌, ◌*◌, ◌/◌, ◌%◌, ◌^◌, Bool, true, false, not, ◌==◌, ◌&&◌, if◌then◌else◌}
+use Rattle.lvdc_word.specs.Word.{bit_of}
 use Rattle.lvdc_mul.specs.declared.control.Kind.{Kind}
 use Rattle.lvdc_mul.specs.declared.control.Kind.TheVariants.{Idle, Multiply, MultiplyHigh, Divide}
 use Rattle.lvdc_mul.specs.declared.control.Control.{Control}
@@ -17,10 +18,6 @@ code_of Idle = 0
 code_of Multiply = 1
 code_of MultiplyHigh = 2
 code_of Divide = 3
-
--- the number of a bit
-abbrev pub bit_of : Bool → ℕ
-bit_of b = if b then 1 else 0
 
 -- the fields of a word: the kind in bits 1 and 0, the phases left in bits 6 to 2, NEG in bit 7, SAT in bit 8, the others without a name
 abbrev pub control_of : ℕ → Control

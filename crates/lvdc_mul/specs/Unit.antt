@@ -4,7 +4,7 @@ use Rattle.std.specs.Int.{is_negative}
 use Rattle.std.specs.declared.option.Option.{Option}
 use Rattle.std.specs.declared.option.Option.TheVariants.{None, Some}
 use Rattle.lvdc_word.specs.Word.{signed, word_of, shifted_left, shifted_right}
-use Rattle.lvdc_word.specs.Results.{exactly_one}
+use Rattle.lvdc_word.specs.Results.{exactly_one, saturated}
 use Rattle.lvdc_mul.specs.declared.control.Kind.{Kind}
 use Rattle.lvdc_mul.specs.declared.control.Kind.TheVariants.{Idle, Multiply, MultiplyHigh, Divide}
 use Rattle.lvdc_mul.specs.declared.control.Control.{Control}
@@ -124,7 +124,7 @@ multiply_result h q = (8 * h + q / 2 ^ 21) % 2 ^ 26
 -- of a divide: the greatest word of its sign where H was not below M, else four times Q with its sign
 abbrev pub divide_result : Control → ℕ → ℕ
 divide_result c q =
-    if c.saturated then (if c.negative then 0o200000000 else 0o177777774)
+    if c.saturated then saturated c.negative
     else (if c.negative then word_of (neg_ℤ (pos (4 * q))) else shifted_left q 2)
 
 -- of work of this kind

@@ -1,25 +1,17 @@
 ghost use Rattle.std.specs.Prelude.{◌≡◌, ◌<◌, ◌^◌, neg_ℤ, pos, unsigned_abs};
-ghost use Rattle.std.specs.Int.{is_negative};
 ghost use Rattle.lvdc_word.specs.Word.{signed, word_of};
 ghost use Rattle.lvdc_mul.specs.Control.{control_of};
 ghost use Rattle.lvdc_mul.specs.Unit.{sign_phase, bit_phase, divide_phase, divide_result};
 
 use crate::Unit;
 use crate::control::Control;
-use lvdc_word::Word;
+use lvdc_word::{Word, saturated};
 
 /// The magnitude of a word, as a word: 2^25 at most.
 fn magnitude(word: Word) -> Word
     ensures { result ≡ unsigned_abs (signed word) }
 {
     Word::within(word.signed().unsigned_abs())
-}
-
-/// Is the word's bit 25 a 1?
-fn is_negative(word: Word) -> bool
-    ensures { result ≡ is_negative (signed word) }
-{
-    word.signed() < 0
 }
 
 /// The first phase of a divide: the signs are noted, and the magnitudes are left.
@@ -31,7 +23,7 @@ fn sign_phase(unit: Unit, control: Control) -> Unit
     let m = magnitude(unit.m);
     let h = magnitude(unit.h);
     let control = Control {
-        negative: is_negative(unit.h) != is_negative(unit.m),
+        negative: unit.h.is_negative() != unit.m.is_negative(),
         saturated: h >= m,
         ..control.counted_down()
     };
@@ -81,10 +73,11 @@ pub(crate) fn result(control: Control, q: Word) -> Word
     ensures { result ≡ divide_result control q }
 {
     let magnitude = q.left(2);
-    match (control.saturated, control.negative) {
-        (true, true) => Word::within(0o200000000),
-        (true, false) => Word::within(0o177777774),
-        (false, true) => Word::ZERO.minus(magnitude),
-        (false, false) => magnitude,
+    if control.saturated {
+        saturated(control.negative)
+    } else if control.negative {
+        Word::ZERO.minus(magnitude)
+    } else {
+        magnitude
     }
 }

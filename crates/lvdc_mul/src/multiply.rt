@@ -66,5 +66,5 @@ pub(crate) fn phase(unit: Unit, control: Control) -> Unit
 pub(crate) fn result(h: Word, q: Word) -> Word
     ensures { result ≡ multiply_result h q }
 {
-    Word::within((h.value() * 8 + (q.value() >> 21)) & 0x3ff_ffff)
+    Word::within((h.value() * 8 + (q.value() >> 21)) & (Word::LIMIT - 1))
 }

@@ -1,6 +1,6 @@
 -- The numbers of an event in their ranges.
 use Rattle.std.specs.Prelude.{ℕ, ◌<◌, ◌≤◌, ◌^◌}
-use Rattle.lvdc_map.specs.Address.{Spot}
+use Rattle.lvdc_twin.specs.Store.{IsPlace}
 use Rattle.lvdc_modules.specs.States.{latches_of}
 use Rattle.lvdc_fault.specs.declared.event.Event.{Event}
 use Rattle.lvdc_fault.specs.declared.event.Event.TheVariants.{Flip, Force, Lag, Deaf, Damage, Stick, Dead}
@@ -21,12 +21,6 @@ pub record IsSpan (first last : ℕ) : Type 0 where
   pub in_order : first ≤ last
   pub below : last < STEPS
 
--- a place of the twins
-pub record IsPhysical (at : Spot) : Type 0 where
-  pub pair : at.pair < 4
-  pub sector : at.sector < 16
-  pub loc : at.loc < 256
-
 -- all numbers of an event are in their ranges
 abbrev pub IsEvent : Event → Type 0
 IsEvent (Flip number copy first last index mask) = IsCopy number copy × IsSpan first last × (index < latches_of number) × (mask < 2 ^ 26)
@@ -34,6 +28,6 @@ IsEvent (Force number copy first last index mask value) =
     IsCopy number copy × IsSpan first last × (index < latches_of number) × (mask < 2 ^ 26) × (value < 2 ^ 26)
 IsEvent (Lag number copy first last) = IsCopy number copy × IsSpan first last
 IsEvent (Deaf number copy first last) = IsCopy number copy × IsSpan first last
-IsEvent (Damage twin at step mask) = (twin < 2) × IsPhysical at × (step < STEPS) × (mask < 2 ^ 28)
-IsEvent (Stick twin at first last mask value) = (twin < 2) × IsPhysical at × IsSpan first last × (mask < 2 ^ 28) × (value < 2 ^ 28)
+IsEvent (Damage twin at step mask) = (twin < 2) × IsPlace at × (step < STEPS) × (mask < 2 ^ 28)
+IsEvent (Stick twin at first last mask value) = (twin < 2) × IsPlace at × IsSpan first last × (mask < 2 ^ 28) × (value < 2 ^ 28)
 IsEvent (Dead twin pair first last) = (twin < 2) × (pair < 4) × IsSpan first last

@@ -1,7 +1,6 @@
 mod Rows
 pub mod Runs
 pub mod Effects
-pub mod Fractions
 pub mod Instructions
 pub mod Lefts
 pub mod Causes

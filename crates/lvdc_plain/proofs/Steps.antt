@@ -6,6 +6,7 @@ use Rattle.std.specs.declared.option.Option.TheVariants.{None, Some}
 use Rattle.lvdc_isa.specs.Instr.{takes_operand}
 use Rattle.lvdc_isa.specs.declared.instr.Instr.{Instr}
 use Rattle.lvdc_port.specs.Device as device
+use Rattle.lvdc_port.specs.Device.{word_of_time}
 use Rattle.lvdc_port.specs.declared.requests.PortRequest.{PortRequest}
 use Rattle.lvdc_plain.proofs.Runs.{time-stopped}
 use Rattle.lvdc_plain.specs.Plain.{PlainState, World}
@@ -94,14 +95,14 @@ ends_made o t before m ds (Some stop) shows left stops times more =
 
 -- the world after an instruction that took this word, its exchange answered
 world_made : (p : PlainState) (i j : Instr) (word : ℕ) (left devices : List device.Device) (request : Option PortRequest) (answer : ℕ) →
-    i ≡ j → request ≡ request_by i.op p i.address → answer ≡ answered request (p.times % 2 ^ 26) left →
+    i ≡ j → request ≡ request_by i.op p i.address → answer ≡ answered request (word_of_time p.times) left →
     devices ≡ exchanged request left →
     word ≡ (if takes_operand i.op then word_of_place p (operand_place p i.address) else answer) →
     executes j p left ≡ record { plain = makes i p word; devices = devices }
 world_made p i j word left devices request answer fetch asks answers does takes =
-    let reply : answer ≡ answered (request_by i.op p i.address) (p.times % 2 ^ 26) left =
-    answers ∙ ap (λ r. answered r (p.times % 2 ^ 26) left) asks in
-    let took : (if takes_operand i.op then word_of_place p (operand_place p i.address) else answered (request_by i.op p i.address) (p.times % 2 ^ 26) left) ≡ word =
+    let reply : answer ≡ answered (request_by i.op p i.address) (word_of_time p.times) left =
+    answers ∙ ap (λ r. answered r (word_of_time p.times) left) asks in
+    let took : (if takes_operand i.op then word_of_place p (operand_place p i.address) else answered (request_by i.op p i.address) (word_of_time p.times) left) ≡ word =
     sym (takes ∙ ap (λ n. if takes_operand i.op then word_of_place p (operand_place p i.address) else n) reply) in
     let did : exchanged (request_by i.op p i.address) left ≡ devices =
     sym (does ∙ ap (λ r. exchanged r left) asks) in
@@ -113,7 +114,7 @@ pub stands-go : (o : Opening) (t : ℕ) (m new : View) (ds left devices : List d
     Stands o t m ds → m.end ≡ None → m.hold ≡ 0 → left ≡ plugged m.unplugs m.times ds →
     ((p : PlainState) → Shows m p → i ≡ fetched_instr p) →
     ((p : PlainState) → Shows m p → request ≡ request_by i.op p i.address) →
-    answer ≡ answered request (m.times % 2 ^ 26) left → devices ≡ exchanged request left →
+    answer ≡ answered request (word_of_time m.times) left → devices ≡ exchanged request left →
     ((p : PlainState) → Shows m p → word ≡ (if takes_operand i.op then word_of_place p (operand_place p i.address) else answer)) →
     ((p : PlainState) → Shows m p → p.stop ≡ None → Shows new (makes i p word)) →
     ((p : PlainState) → p.stop ≡ None → new.end ≡ end_of m.times (makes i p word).stop) →
@@ -122,7 +123,7 @@ stands-go o t m new ds left devices i word request answer h none free is fetch a
     let now = running o t m ds h none in
     let p = (run o t).plain in
     let lines : left ≡ plugged o.unplugs (run o t).plain.times (run o t).devices = left_run o t m ds left h now is in
-    let told : answer ≡ answered request ((run o t).plain.times % 2 ^ 26) left =
+    let told : answer ≡ answered request (word_of_time (run o t).plain.times) left =
     answers ∙ ap (λ n. answered request (n % 2 ^ 26) left) now.shows.times in
     let next : run o (t + 1) ≡ record { plain = makes i (run o t).plain word; devices = devices } =
     rw add-one (time-executes o.unplugs (run o t) now.stop (sym now.shows.hold ∙ free)

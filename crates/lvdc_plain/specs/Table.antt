@@ -6,7 +6,7 @@ use Rattle.lvdc_word.specs.Word.{sum, difference}
 use Rattle.lvdc_word.specs.Results.{product, quotient}
 use Rattle.lvdc_map.specs.Hop.{HopConstant, hop_of, word_of_hop, after, fetch_of, syllable_at, bit}
 use Rattle.lvdc_map.specs.Memory as memory
-use Rattle.lvdc_map.specs.Place.{place_of, a9, jumped, with_data}
+use Rattle.lvdc_map.specs.Place.{place_of, a9, low_bits, jumped, with_data}
 use Rattle.lvdc_map.specs.declared.place.Place.{Place}
 use Rattle.lvdc_map.specs.declared.place.Place.TheVariants.{Memory, Pq, Saver}
 use Rattle.lvdc_isa.specs.Instr.{instr, takes_operand}
@@ -14,7 +14,7 @@ use Rattle.lvdc_isa.specs.Shift.{shifted}
 use Rattle.lvdc_isa.specs.declared.instr.Instr.{Instr}
 use Rattle.lvdc_isa.specs.declared.op.Op.{Op}
 use Rattle.lvdc_isa.specs.declared.op.Op.TheVariants.{Hop, Mpy, Sub, Div, Tnz, Mph, And, Add, Tra, Xor, Pio, Sto, Tmi, Rsu, Cds, Shf, WrongShift, Exm, Cla}
-use Rattle.lvdc_port.specs.Device.{Device}
+use Rattle.lvdc_port.specs.Device.{Device, word_of_time}
 use Rattle.lvdc_port.specs.Devices.{exchange_word, after_exchange}
 use Rattle.lvdc_port.specs.declared.requests.PortRequest.{PortRequest}
 use Rattle.lvdc_port.specs.declared.requests.PortRequest.TheVariants.{Read, Write}
@@ -42,12 +42,12 @@ word_of_place p (Saver at) = memory.word_at p.memory at
 
 -- what an instruction asks of the ports: only PIO does, and A9 tells a read from a write of A
 abbrev pub request_by : Op → PlainState → ℕ → Option PortRequest
-request_by Pio p address = Some (if a9 address then Read (address % 2 ^ 8) else Write (address % 2 ^ 8) p.a)
+request_by Pio p address = Some (if a9 address then Read (low_bits address) else Write (low_bits address) p.a)
 request_by _ p address = None
 
 -- the time as a device is told it
 abbrev pub device_time : PlainState → ℕ
-device_time p = p.times % 2 ^ 26
+device_time p = word_of_time p.times
 
 -- the word that the ports answer
 abbrev pub answered : Option PortRequest → ℕ → List Device → ℕ
@@ -160,7 +160,7 @@ pending_after _ p address m r = r
 -- the log with the port exchange of an instruction
 abbrev pub logged : Op → PlainState → ℕ → ℕ → List Exchange
 logged Pio p address m =
-    p.log ++ record { time = p.times; port = address % 2 ^ 8; reading = a9 address; word = if a9 address then m else p.a } ∷ []
+    p.log ++ record { time = p.times; port = low_bits address; reading = a9 address; word = if a9 address then m else p.a } ∷ []
 logged _ p address m = p.log
 
 -- ---- one instruction time

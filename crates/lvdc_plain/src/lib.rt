@@ -5,7 +5,6 @@ mod laws;
 mod plain;
 mod processor;
 mod records;
-mod results;
 mod unplugs;
 
 pub use laws::stopped_run_stays;

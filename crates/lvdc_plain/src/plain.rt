@@ -5,6 +5,7 @@ ghost use Rattle.lvdc_map.specs.Address.{number_of};
 ghost use Rattle.lvdc_map.specs.Banks.{is_there};
 ghost use Rattle.lvdc_map.specs.Memory.{Memory, word_at, IsMemory, are_rising, AllThere};
 ghost use Rattle.lvdc_port.specs.Causes.{Rose};
+ghost use Rattle.lvdc_port.specs.Device.{word_of_time};
 ghost use Rattle.lvdc_port.specs.Devices.{has_port, count_at, HasSpare, HoldWords, AreDistinct};
 ghost use Rattle.lvdc_plain.specs.Plain.{PlainState};
 ghost use Rattle.lvdc_plain.specs.Processor.{end_of};
@@ -18,8 +19,8 @@ use crate::processor::Processor;
 use crate::records::{Exchange, PlainEnd, Stop, Unplug, Visible};
 use crate::unplugs::unplug_all;
 use lvdc_isa::{Instr, Op};
-use lvdc_map::{Address, Banks, Hop, Placed, Words, is_a9};
-use lvdc_port::{DeviceFault, PortDevice, PortRequest, exchange, prepare_all};
+use lvdc_map::{Address, Banks, Hop, Placed, Words, is_a9, low_bits};
+use lvdc_port::{DeviceFault, PortDevice, PortRequest, exchange, prepare_all, word_of_time};
 use lvdc_word::{NoMemory, Word};
 use std::alloc::Global;
 use std::marker::Model;
@@ -62,13 +63,6 @@ impl Model for Plain {
     ghost invariant = { λ p. (vec_len p.log ≤ p.times) × (p.times ≤ p.limit) × (p.limit ≤ vec_capacity p.log) × (p.limit ≤ 1000000) × IsPlainEnd (answer_of_end p.end) };
 }
 
-/// The time as a device is told it: modulo 2^26.
-fn device_time(times: u64) -> Word
-    ensures { result ≡ times % 2 ^ 26 }
-{
-    Word::within((times % u64::from(Word::LIMIT)) as u32)
-}
-
 /// Makes the exchange that is asked for. Where none is, and after a write, the answer is 0.
 fn answer(
     devices: &mut Vec<Box<dyn PortDevice>>,
@@ -76,7 +70,7 @@ fn answer(
     request: Option<PortRequest>,
 ) -> Result<Word, DeviceFault>
     requires { HasSpare spare 1 devices.old.items }
-    ensures word { IfOk result (λ word. word ≡ answered request (times % 2 ^ 26) (map device_of devices.old.items)) }
+    ensures word { IfOk result (λ word. word ≡ answered request (word_of_time times) (map device_of devices.old.items)) }
     ensures ok { OnOk result (map device_of devices.new.items ≡ exchanged request (map device_of devices.old.items)) }
     ensures err { OnErr result (map device_of devices.new.items ≡ map device_of devices.old.items) }
     ensures spare { (n : ℕ) → HasSpare spare (n + 1) devices.old.items → HasSpare spare n devices.new.items }
@@ -90,7 +84,7 @@ fn answer(
 {
     match request {
         None => Ok(Word::ZERO),
-        Some(request) => match exchange(devices, device_time(times), request) {
+        Some(request) => match exchange(devices, word_of_time(times), request) {
             Ok(word) => Ok(word),
             Err(fault) => Err(fault),
         },
@@ -110,7 +104,7 @@ fn log_exchange(log: &mut Vec<Exchange>, instr: Instr, time: u64, a: Word, m: Wo
         let reading = is_a9(instr.address);
         let pushed = log.push(Exchange {
             time,
-            port: (instr.address & 255) as u8,
+            port: low_bits(instr.address),
             reading,
             word: if reading { m } else { a },
         });

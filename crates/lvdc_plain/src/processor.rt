@@ -2,7 +2,7 @@
 
 ghost use Rattle.std.specs.Prelude.{◌≡◌, ◌-◌, ◌<◌, ℕ, None, if◌then◌else◌};
 ghost use Rattle.lvdc_isa.specs.Instr.{takes_operand};
-ghost use Rattle.lvdc_map.specs.Hop.{after, word_of_hop, bit};
+ghost use Rattle.lvdc_map.specs.Hop.{after, word_of_hop};
 ghost use Rattle.lvdc_map.specs.Memory.{Memory, IsMemory};
 ghost use Rattle.lvdc_map.specs.Place.{with_data};
 ghost use Rattle.lvdc_plain.specs.Plain.{PlainState, started};
@@ -11,11 +11,10 @@ ghost use Rattle.lvdc_plain.specs.Table.{effect, fetched_instr, goes_on, issues,
 ghost use Rattle.lvdc_plain.specs.View.{ByInstruction};
 
 use crate::records::{Pending, Stop};
-use crate::results::{product, quotient};
 use lvdc_isa::{Instr, Op, decode, shifted};
-use lvdc_map::{Banks, Hop, Place, Words, is_a9, operand_place};
+use lvdc_map::{Banks, Hop, Place, Words, is_a9, low_bits, operand_place};
 use lvdc_port::PortRequest;
-use lvdc_word::Word;
+use lvdc_word::{Word, product, quotient};
 
 /// The registers, the result on its way, the times left to hold, and the memory.
 #[derive(Drop)]
@@ -28,13 +27,6 @@ pub struct Processor {
     pub pending: Option<Pending>,
     pub hold: u8,
     pub words: Words,
-}
-
-/// Is bit 25, the sign, 1?
-fn is_negative(word: Word) -> bool
-    ensures { result ≡ bit word 25 }
-{
-    (word.value() >> 25) & 1 == 1
 }
 
 impl Processor {
@@ -71,7 +63,7 @@ impl Processor {
     {
         match instr.op {
             Op::Pio => {
-                let port = (instr.address & 255) as u8;
+                let port = low_bits(instr.address);
                 Some(if is_a9(instr.address) {
                     PortRequest::Read { port }
                 } else {
@@ -194,7 +186,7 @@ impl Processor {
             Op::Xor => self.take(self.a.differ(m)),
             Op::Pio => self.take(if is_a9(instr.address) { m } else { self.a }),
             Op::Sto => self.store(instr.address),
-            Op::Tmi => self.transfer_where(is_negative(self.a), instr.address),
+            Op::Tmi => self.transfer_where(self.a.is_negative(), instr.address),
             Op::Rsu => self.take(m.minus(self.a)),
             Op::Cds => self.set_data(instr.address),
             Op::Shf => self.take(shifted(self.a, instr.address & 127)),

@@ -1,5 +1,5 @@
 -- Worked values of the definitions.
-use Rattle.std.proofs.Common.{◌≡◌, [], ◌∷◌, Some, None, true, false, refl, arith}
+use Rattle.std.proofs.Common.{◌≡◌, [], ◌∷◌, Some, None, true, false, refl}
 use Rattle.lvdc_port.specs.Device.{Device, read_word, after_read, after_write, after_supply}
 use Rattle.lvdc_port.specs.Devices.{exchange_word, after_exchange, without, has_port}
 use Rattle.lvdc_port.specs.Supplies.{kind_at, supplied, IsSuppliedInPart}

@@ -1,9 +1,6 @@
 -- Why a call on a device may fail: its count of faults rose.
-use Rattle.std.specs.Prelude.{◌≡◌, ℕ, ◌+◌, ◌-◌, ◌^◌, ◌≤◌, min, Result, OnOk, OnErr}
-
--- a count of faults grew, or stands at its greatest value
-abbrev pub Rose : ℕ → ℕ → Type 0
-Rose before now = min (before + 1) (2 ^ 64 - 1) ≤ now
+use Rattle.std.specs.Prelude.{◌≡◌, ℕ, Result, OnOk, OnErr}
+pub use Rattle.lvdc_word.specs.Counts.{Rose}
 
 -- a failure comes only where the count rose, and a success leaves the count
 pub record HasCause {T E : Type 0} (before now : ℕ) (result : Result T E) : Type 0 where

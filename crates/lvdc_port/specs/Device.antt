@@ -1,5 +1,5 @@
 -- What a device is to the machine, and what a read, a write and a supplied word do to each kind of device.
-use Rattle.std.specs.Prelude.{ℕ, ◌<◌, ◌^◌, List, [], ◌∷◌, ◌++◌, All, slice_index}
+use Rattle.std.specs.Prelude.{ℕ, ◌<◌, ◌%◌, ◌^◌, List, [], ◌∷◌, ◌++◌, All, slice_index}
 use Rattle.lvdc_port.specs.declared.device.Kind.{Kind}
 use Rattle.lvdc_port.specs.declared.device.Kind.TheVariants.{Tape, Latch, Ticker, Recorder}
 
@@ -8,6 +8,10 @@ pub record Device : Type 0 where
   pub port : ℕ
   pub kind : Kind
   pub state : List ℕ
+
+-- the instruction time of this number as a device is told it: modulo 2 ^ 26
+abbrev pub word_of_time : ℕ → ℕ
+word_of_time times = times % 2 ^ 26
 
 -- each number is a word
 abbrev pub AreWords : List ℕ → Type 0

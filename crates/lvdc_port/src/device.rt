@@ -1,6 +1,6 @@
 ghost use Rattle.std.specs.Prelude.{◌≡◌, ℕ, ◌+◌, ◌≤◌, IfOk, OnOk, OnErr, slice_get};
 ghost use Rattle.lvdc_port.specs.Causes.{HasCause};
-ghost use Rattle.lvdc_port.specs.Device.{Device, read_word, after_read, after_write, after_supply, AreWords};
+ghost use Rattle.lvdc_port.specs.Device.{Device, word_of_time, read_word, after_read, after_write, after_supply, AreWords};
 ghost use Rattle.lvdc_port.specs.declared.device.Kind.TheVariants.{Tape as TapeKind, Recorder as RecorderKind};
 
 use lvdc_word::{NoMemory, Word};
@@ -22,6 +22,13 @@ pub enum Kind {
     Ticker,
     /// Every word that was written; a read answers 0.
     Recorder,
+}
+
+/// The instruction time of this number, counted from 0, as a device is told it: modulo 2^26.
+pub fn word_of_time(times: u64) -> Word
+    ensures { result ≡ word_of_time times }
+{
+    Word::within((times % u64::from(Word::LIMIT)) as u32)
 }
 
 /// A device at a port of the machine. Its port and its kind never change.

@@ -11,7 +11,7 @@ mod supplies;
 mod tape;
 mod ticker;
 
-pub use device::{Failed, Kind, PortDevice};
+pub use device::{Failed, Kind, PortDevice, word_of_time};
 pub use failing::Failing;
 pub use latch::Latch;
 pub use recorder::Recorder;

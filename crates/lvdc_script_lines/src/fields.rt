@@ -1,6 +1,7 @@
 ghost use Rattle.std.specs.Prelude.{◌≡◌, ◌<◌, ◌≤◌, ◌^◌, Some, IfSome};
 ghost use Rattle.lvdc_modules.specs.States.{latches_of};
-ghost use Rattle.lvdc_orders.specs.Events.{IsCopy, IsSpan, IsPhysical};
+ghost use Rattle.lvdc_twin.specs.Store.{IsPlace};
+ghost use Rattle.lvdc_orders.specs.Events.{STEPS, IsCopy, IsSpan};
 ghost use Rattle.lvdc_script_lines.specs.Fields.{decimal_in, octal_in, step_in, twin_in, pair_in, cell_in, target_in, index_in, span_in, place_in};
 
 use lvdc_map::Address;
@@ -26,7 +27,7 @@ pub(crate) struct Span {
 }
 
 /// A decimal number without a needless zero, from `first` on and below `limit`.
-fn decimal_in(first: u64, limit: u64, token: &[u8]) -> Option<u64>
+pub fn decimal_in(first: u64, limit: u64, token: &[u8]) -> Option<u64>
     ensures value { result ≡ decimal_in first limit token.now }
     ensures range { IfSome result (λ n. (first ≤ n) × (n < limit)) }
 {
@@ -37,7 +38,7 @@ fn decimal_in(first: u64, limit: u64, token: &[u8]) -> Option<u64>
 }
 
 /// A number of at most so many octal digits, below `limit`.
-fn octal_in(limit: u64, digits: u8, token: &[u8]) -> Option<u64>
+pub fn octal_in(limit: u64, digits: u8, token: &[u8]) -> Option<u64>
     requires { digits ≤ 18 }
     ensures value { result ≡ octal_in limit digits token.now }
     ensures range { IfSome result (λ n. n < limit) }
@@ -52,7 +53,7 @@ fn octal_in(limit: u64, digits: u8, token: &[u8]) -> Option<u64>
 #[tactic(auto, unfolding(crate::specs::Fields::step_in))]
 pub(crate) fn step_in(token: &[u8]) -> Option<u64>
     ensures value { result ≡ step_in token.now }
-    ensures range { IfSome result (λ step. step < 3000000) }
+    ensures range { IfSome result (λ step. step < STEPS) }
 {
     decimal_in(0, STEPS, token)
 }
@@ -129,9 +130,9 @@ pub(crate) fn span_in(first: &[u8], last: &[u8]) -> Option<Span>
 
 /// A place of the twins: a pair, a sector and a location.
 #[tactic(auto, unfolding(crate::specs::Fields::place_in))]
-pub(crate) fn place_in(pair: &[u8], sector: &[u8], loc: &[u8]) -> Option<Address>
+pub fn place_in(pair: &[u8], sector: &[u8], loc: &[u8]) -> Option<Address>
     ensures value { result ≡ place_in pair.now sector.now loc.now }
-    ensures range { IfSome result IsPhysical }
+    ensures range { IfSome result IsPlace }
 {
     let pair = pair_in(pair)?;
     let sector = octal_in(16, 2, sector)?;

@@ -1,8 +1,9 @@
 -- How bytes fall into lines and into words.
-use Rattle.std.specs.Prelude.{ℕ, ◌+◌, ◌≤◌, length, drop, slice_range, Bool, ◌||◌, ◌==◌, not, List, [], ◌∷◌, if◌then◌else◌}
-use Rattle.std.specs.List.{slice_split, filter}
+use Rattle.std.specs.Prelude.{ℕ, ◌+◌, ◌≤◌, nat_lt, length, map, drop, slice_range, Bool, true, ◌||◌, ◌==◌, not, List, [], ◌∷◌, if◌then◌else◌}
+use Rattle.std.specs.List.{slice_split, filter, list_all}
 use Rattle.std.specs.Str.Lines.{strip_carriage_return, lines_of_parts}
 use Rattle.lvdc_text.specs.declared.cutting.Line.{Line}
+use Rattle.lvdc_text.specs.declared.comment.TheConstants.{LONGEST_LINE}
 
 -- the part with this number, from this place on, of this length
 abbrev pub part_at : ℕ → ℕ → ℕ → Line
@@ -64,3 +65,25 @@ pub record IsWithin (bytes : List ℕ) (line : Line) : Type 0 where
 -- the bytes of the part
 abbrev pub part_of : List ℕ → Line → List ℕ
 part_of bytes line = slice_range bytes line.start line.end
+
+-- the bytes of a line, and its number
+pub record NumberedLine : Type 0 where
+  pub number : ℕ
+  pub text : List ℕ
+
+-- a line of the bytes
+abbrev pub numbered_line : List ℕ → Line → NumberedLine
+numbered_line bytes line = record { number = line.number; text = part_of bytes line }
+
+-- these lines of the bytes
+abbrev pub numbered : List ℕ → List Line → List NumberedLine
+numbered bytes lines = map (numbered_line bytes) lines
+
+-- too long for a line that people write
+abbrev pub is_long : List ℕ → Bool
+is_long text = nat_lt LONGEST_LINE (length text)
+
+-- a blank line, or one that begins with `*`
+abbrev pub is_comment : List ℕ → Bool
+is_comment [] = true
+is_comment (b ∷ bs) = b == 42 || list_all is_blank (b ∷ bs)

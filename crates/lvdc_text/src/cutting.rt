@@ -58,6 +58,7 @@ pub fn few_tokens<const MOST: usize>(text: &[u8]) -> Option<ArrayVec<Line, MOST>
     ensures texts { IfSome result (λ v. map (part_of text.now) v.items ≡ word_texts_of text.now) }
     ensures within { IfSome result (λ v. All (IsWithin text.now) v.items) }
     ensures many { IfNone result (MOST < length (word_texts_of text.now)) }
+    ensures long { IfNone result (MOST < length text.now) }
 {
     cut_few_tokens(text)
 }
@@ -93,8 +94,8 @@ fn cut_lines(alloc: Global, bytes: &[u8]) -> Result<Vec<Line>, NoMemory>
     Ok(lines)
 }
 
-/// Whether the byte is a space or a tab.
-fn is_blank(byte: u8) -> bool
+/// Whether the byte is a blank: a space or a tab.
+pub fn is_blank(byte: u8) -> bool
     ensures { result ≡ is_blank byte }
 {
     byte == b' ' || byte == b'\t'

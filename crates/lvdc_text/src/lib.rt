@@ -2,6 +2,7 @@
 //! printing of its numbers.
 #![tactic(auto)]
 
+mod comment;
 mod cutting;
 mod faulty;
 mod memory;
@@ -10,7 +11,8 @@ mod standard;
 mod streams;
 mod transfer;
 
-pub use cutting::{Line, few_tokens, lines, part, tokens};
+pub use comment::{LONGEST_LINE, is_comment, is_long};
+pub use cutting::{Line, few_tokens, is_blank, lines, part, tokens};
 pub use faulty::{FaultySink, FaultySource};
 pub use memory::{MemorySink, MemorySource};
 pub use numbers::{decimal, octal, octal_word, plain_decimal, put_decimal, put_octal};

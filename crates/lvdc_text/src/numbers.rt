@@ -6,9 +6,11 @@ use lvdc_word::{NoMemory, Word};
 
 /// The number that one to `digits` digits of the base stand for. Leading zeros are allowed.
 fn number(text: &[u8], base: u64, digits: u8) -> Option<u64>
+    requires some { 0 < base }
     requires base { base ≤ 10 }
     requires digits { digits ≤ 18 }
-    ensures { result ≡ number_of base digits text.now }
+    ensures value { result ≡ number_of base digits text.now }
+    ensures range { IfSome result (λ n. n < base ^ digits) }
 {
     if text.is_empty() || text.len() > usize::from(digits) {
         return None;
@@ -26,7 +28,8 @@ fn number(text: &[u8], base: u64, digits: u8) -> Option<u64>
 /// The number that one to `digits` octal digits stand for. Leading zeros are allowed.
 pub fn octal(text: &[u8], digits: u8) -> Option<u64>
     requires { digits ≤ 18 }
-    ensures { result ≡ number_of 8 digits text.now }
+    ensures value { result ≡ number_of 8 digits text.now }
+    ensures range { IfSome result (λ n. n < 8 ^ digits) }
 {
     number(text, 8, digits)
 }
@@ -34,7 +37,8 @@ pub fn octal(text: &[u8], digits: u8) -> Option<u64>
 /// The number that one to `digits` decimal digits stand for. Leading zeros are allowed.
 pub fn decimal(text: &[u8], digits: u8) -> Option<u64>
     requires { digits ≤ 18 }
-    ensures { result ≡ number_of 10 digits text.now }
+    ensures value { result ≡ number_of 10 digits text.now }
+    ensures range { IfSome result (λ n. n < 10 ^ digits) }
 {
     number(text, 10, digits)
 }
@@ -52,7 +56,8 @@ fn is_plain(text: &[u8]) -> bool
 /// The number that one to `digits` decimal digits without a needless zero in front stand for.
 pub fn plain_decimal(text: &[u8], digits: u8) -> Option<u64>
     requires { digits ≤ 18 }
-    ensures { result ≡ plain_number_of digits text.now }
+    ensures value { result ≡ plain_number_of digits text.now }
+    ensures range { IfSome result (λ n. n < 10 ^ digits) }
 {
     if is_plain(text) {
         decimal(text, digits)

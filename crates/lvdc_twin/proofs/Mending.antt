@@ -1,11 +1,11 @@
 -- What a read mends, and where it finds no good cell.
-use Rattle.std.proofs.Common.{◌≡◌, ℕ, zero, suc, ◌-◌, ◌/◌, ◌%◌, ◌^◌, ◌<◌, Bool, true, false, cond, not, ◌&&◌, ◌||◌, inl, inr, subst, refl, sym, ap, ◌∙◌, arith, Option, Some, None, IfSome, Result, Ok, Err, IsErr, OnErr, ◌↔◌}
-use Rattle.std.specs.Prelude.{◌==◌, nat_lt}
-use Rattle.std.proofs.lemmas.Bool.{true≢false, false≢true, eqb-true, eq-eqb, ne_eqb, lt-ltb, le-ltb, and_parts, cases_lt}
+use Rattle.std.proofs.Common.{◌≡◌, ℕ, zero, suc, ◌-◌, ◌/◌, ◌%◌, ◌^◌, ◌<◌, Bool, true, false, cond, not, ◌&&◌, ◌||◌, subst, refl, sym, ap, ◌∙◌, arith, Option, Some, None, IfSome, Result, Ok, Err, IsErr, OnErr, ◌↔◌}
+use Rattle.std.specs.Prelude.{◌==◌}
+use Rattle.std.proofs.lemmas.Bool.{true≢false, false≢true, eqb-true, eq-eqb, ne_eqb, and_parts}
 use Rattle.lvdc_word.specs.Cell.{code_of, is_good, word_in}
 use Rattle.lvdc_word.proofs.Parity.{good-code, word-code}
 use Rattle.lvdc_map.specs.Address.{Spot, is_same}
-use Rattle.lvdc_map.specs.Banks.{is_simplex, is_there, home, holds}
+use Rattle.lvdc_map.specs.Banks.{is_simplex, is_there, home}
 use Rattle.lvdc_map.proofs.Holders.{holds_duplex}
 use Rattle.lvdc_twin.specs.declared.both_bad.BothBad.{BothBad}
 use Rattle.lvdc_twin.specs.declared.read_out.ReadOut.{ReadOut}

@@ -6,10 +6,12 @@ use Rattle.lvdc_map.specs.Memory.{Memory, filled_with, stored, word_at}
 use Rattle.lvdc_twin.specs.Store.{Store, IsPlace, nothing, slot_of, stored_in, stuck_in, is_dead}
 use Rattle.lvdc_twin.specs.declared.held.Held.{Held}
 
--- it names a place of one of the two twins
+-- it names a place of one of the two twins: a pair, a sector and a location
 pub record NamesPlace (h : Held) : Type 0 where
   pub twin : h.twin < 2
   pub pair : h.at.pair < 4
+  pub sector : h.at.sector < 16
+  pub loc : h.at.loc < 256
 
 -- the cells of the twins with those of a list at their places
 abbrev pub laid : List Held → (ℕ → Memory) → ℕ → Memory

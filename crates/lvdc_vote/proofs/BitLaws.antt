@@ -4,6 +4,7 @@ use Rattle.std.specs.Prelude.{if◌then◌else◌, ◌==◌}
 use Rattle.std.specs.Int.{bit_at}
 use Rattle.std.proofs.lemmas.Nat.Bits.{bit_at_and, bit_at_xor, bit_at-lt, same_from_bits}
 use Rattle.std.proofs.lemmas.Grind.{common_steps}
+use Rattle.lvdc_word.proofs.Bits.{stuck_bits}
 use Rattle.lvdc_vote.specs.Bits.{TwoAre, majority, flipped, forced}
 
 -- ---- the majority
@@ -68,12 +69,7 @@ pub bit_at-flipped : (w mask i : ℕ) → bit_at (flipped w mask) i ≡ if bit_a
 unfolding flipped
 bit_at-flipped w mask i = simp bit_at_xor (flipped_bit _ _ (bit_at-lt w i) (bit_at-lt mask i))
 
-forced_bit : (x v m : ℕ) → x < 2 → v < 2 → m < 2 → (x + min ((x + v) % 2) m) % 2 ≡ if m == 1 then v else x
-forced_bit x v m hx hv hm = grind (arith, common_steps)
-
 -- the bits under the mask are those of the value, and the others stay
 pub bit_at-forced : (w mask value i : ℕ) → bit_at (forced w mask value) i ≡ if bit_at mask i == 1 then bit_at value i else bit_at w i
 unfolding forced
-bit_at-forced w mask value i =
-    simp (bit_at_xor, bit_at_and)
-    (forced_bit _ _ _ (bit_at-lt w i) (bit_at-lt value i) (bit_at-lt mask i))
+bit_at-forced w mask value i = stuck_bits w mask value i

@@ -1,6 +1,6 @@
 ghost use Rattle.std.specs.Prelude.{◌≡◌, ℕ, ◌<◌, ◌↔◌, List, length, slice_get, IsTrue};
 ghost use Rattle.lvdc_vote.specs.Bits.{TwoAre};
-ghost use Rattle.lvdc_vote.specs.Latches.{majority_of, flipped_at, forced_at};
+ghost use Rattle.lvdc_vote.specs.Latches.{majority_of, IsMajority, flipped_at, forced_at};
 
 use lvdc_word::Word;
 
@@ -22,7 +22,8 @@ pub trait Vote: Drop {
 
     /// The state each of whose bits is the value that at least two of the three have there.
     fn vote(a: &Self, b: &Self, c: &Self) -> Self
-        ensures { latches result ≡ majority_of (latches a.now) (latches b.now) (latches c.now) };
+        ensures words { latches result ≡ majority_of (latches a.now) (latches b.now) (latches c.now) }
+        ensures bits { IsMajority (latches a.now) (latches b.now) (latches c.now) (latches result) };
 
     /// The state with the bits under the mask turned over in one latch.
     fn with_flip(&self, index: u8, mask: Word) -> Self

@@ -1,2 +1,4 @@
 pub mod Parity
+pub mod Bits
+mod Fractions
 mod Rows

@@ -19,6 +19,12 @@ the_only_product_that_wraps = refl
 quarter_by_half : quotient 0o040000000 0o100000000 ≡ 0o100000000
 quarter_by_half = refl
 
+equal_magnitudes : quotient 0o100000000 0o100000000 ≡ 0o177777774
+equal_magnitudes = refl
+
+equal_magnitudes_of_two_signs : quotient 0o300000000 0o100000000 ≡ 0o200000000
+equal_magnitudes_of_two_signs = refl
+
 zero_by_zero : quotient 0 0 ≡ 0o177777774
 zero_by_zero = refl
 

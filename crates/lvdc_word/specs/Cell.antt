@@ -27,6 +27,7 @@ code_of w = half_of (upper w) * 2 ^ 14 + half_of (lower w)
 abbrev pub word_in : ℕ → ℕ
 word_in cell = joined (cell / 2 ^ 14 % 2 ^ 13) (cell % 2 ^ 13)
 
--- the cell whose bits under the mask are those of the value, and whose other bits stay
+-- the cell whose bits under the mask are those of the value, and whose other bits stay: the bits under the mask that differ
+-- are turned over
 unfoldable pub with_stuck : ℕ → ℕ → ℕ → ℕ
 with_stuck cell mask value = bit_xor cell (bit_and (bit_xor cell value) mask)

@@ -1,3 +1,4 @@
 pub mod Cell
 pub mod Word
 pub mod Results
+pub mod Counts

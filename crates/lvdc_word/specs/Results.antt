@@ -19,11 +19,15 @@ with_sign negative n = if negative then neg_ℤ (pos n) else pos n
 abbrev pub proper_quotient : ℤ → ℤ → Bool → ℕ
 proper_quotient a m negative = word_of (with_sign negative (unsigned_abs a * 2 ^ 23 / unsigned_abs m) *ℤ pos 4)
 
+-- the quotient of this sign that is greatest in magnitude: -1, or the greatest fraction below 1
+abbrev pub saturated : Bool → ℕ
+saturated negative = if negative then 0o200000000 else 0o177777774
+
 -- the quotient of two fractions, or the greatest of its sign where none below 1 is
 abbrev pub quotient_of : ℤ → ℤ → Bool → ℕ
 quotient_of a m negative =
     if nat_lt (unsigned_abs a) (unsigned_abs m) then proper_quotient a m negative
-    else (if negative then 0o200000000 else 0o177777774)
+    else saturated negative
 
 -- exactly one of the two
 abbrev pub exactly_one : Bool → Bool → Bool

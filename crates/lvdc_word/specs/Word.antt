@@ -1,5 +1,5 @@
 -- Words of 26 bits as whole numbers: their signed values, halves, sums, differences and shifts.
-use Rattle.std.specs.Prelude.{ℕ, ◌+◌, ◌-◌, ◌*◌, ◌/◌, ◌%◌, ◌^◌, nat_lt, if◌then◌else◌, ℤ, pos, ◌-ℤ◌, unsigned_abs}
+use Rattle.std.specs.Prelude.{ℕ, ◌+◌, ◌-◌, ◌*◌, ◌/◌, ◌%◌, ◌^◌, nat_lt, Bool, if◌then◌else◌, ℤ, pos, ◌-ℤ◌, unsigned_abs}
 use Rattle.std.specs.Int.{int_div_euclid, int_rem_euclid}
 
 -- a word as a signed number: itself, less 2 ^ 26 from 2 ^ 25 on
@@ -9,6 +9,10 @@ signed w = if nat_lt w (2 ^ 25) then pos w else (pos w -ℤ pos (2 ^ 26))
 -- the word that a whole number leaves modulo 2 ^ 26
 abbrev pub word_of : ℤ → ℕ
 word_of z = unsigned_abs (int_rem_euclid z (pos (2 ^ 26)))
+
+-- the number of a bit
+abbrev pub bit_of : Bool → ℕ
+bit_of b = if b then 1 else 0
 
 -- the sum modulo 2 ^ 26
 abbrev pub sum : ℕ → ℕ → ℕ

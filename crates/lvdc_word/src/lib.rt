@@ -4,12 +4,14 @@
 
 mod cell;
 mod memory;
+mod results;
 mod seq;
 mod syllable;
 mod word;
 
 pub use cell::Cell;
 pub use memory::NoMemory;
+pub use results::{product, quotient, saturated};
 pub use seq::Seq;
 pub use syllable::Syllable;
 pub use word::Word;

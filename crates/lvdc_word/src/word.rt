@@ -1,5 +1,6 @@
-ghost use Rattle.std.specs.Prelude.{◌≡◌, ◌<◌, ◌^◌, SomeIff, bit_and, bit_xor};
-ghost use Rattle.lvdc_word.specs.Word.{signed, sum, difference, shifted_left, shifted_right, upper, lower, joined};
+ghost use Rattle.std.specs.Prelude.{◌≡◌, ◌<◌, ◌/◌, ◌%◌, ◌^◌, ◌==◌, SomeIff, bit_and, bit_xor};
+ghost use Rattle.std.specs.Int.{is_negative};
+ghost use Rattle.lvdc_word.specs.Word.{signed, word_of, sum, difference, shifted_left, shifted_right, upper, lower, joined};
 
 use crate::Syllable;
 use std::marker::Model;
@@ -67,6 +68,30 @@ impl Word {
         }
     }
 
+    /// Is the signed number below 0?
+    pub fn is_negative(self) -> bool
+        ensures value { result ≡ is_negative (signed self) }
+        ensures bit { result ≡ (self / 2 ^ 25 % 2 == 1) }
+    {
+        self.has_sign()
+    }
+
+    /// Is bit 25 a 1?
+    fn has_sign(self) -> bool
+        ensures bit { result ≡ (self / 2 ^ 25 % 2 == 1) }
+        ensures small { self < 2 ^ 26 }
+    {
+        (self.bits >> 25) & 1 == 1
+    }
+
+    /// What a number leaves modulo 2^26.
+    pub fn modulo(number: i64) -> Word
+        ensures { result ≡ word_of number }
+    {
+        let rest = number.rem_euclid(i64::from(Self::LIMIT));
+        Word { bits: rest as u32 }
+    }
+
     /// The sum modulo 2^26.
     pub fn plus(self, other: Word) -> Word
         ensures { result ≡ sum self other }
@@ -109,7 +134,7 @@ impl Word {
         ensures { result ≡ shifted_left self places }
     {
         Word {
-            bits: ((u64::from(self.bits) << places) & 0x3ff_ffff) as u32,
+            bits: ((u64::from(self.bits) << places) & u64::from(Self::LIMIT - 1)) as u32,
         }
     }
 
@@ -148,3 +173,5 @@ impl Word {
         }
     }
 }
+
+const _: () = prove!(Word::ZERO.bits == 0);

@@ -1,7 +1,6 @@
 use Rattle.std.proofs.Common.{ℕ, is_ok, ap, length, arith, length-append}
 use Rattle.std.proofs.ResultArms.{chosen}
-use Rattle.lvdc_text.specs.Lines.{lines_of}
-use Rattle.lvdc_image.specs.Reading.{numbered}
+use Rattle.lvdc_text.specs.Lines.{lines_of, numbered}
 use Rattle.lvdc_image.proofs.Sizes.{length-head, length-words, few-words}
 use Rattle.lvdc_image.proofs.Printing.{image_text-parts}
 use Rattle.lvdc_image.proofs.ImageBack.{image_of-printed}

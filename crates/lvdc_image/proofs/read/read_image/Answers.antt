@@ -1,8 +1,8 @@
 use Rattle.std.proofs.Common.{◌≡◌, Ok, map, sym, ◌∙◌}
 use Rattle.std.proofs.lemmas.Result.{IfOk-weaker}
-use Rattle.lvdc_text.specs.Lines.{part_of}
+use Rattle.lvdc_text.specs.Lines.{part_of, numbered}
 use Rattle.lvdc_image.specs.Image.{Contents, image_lines}
-use Rattle.lvdc_image.specs.Reading.{numbered, image_of}
+use Rattle.lvdc_image.specs.Reading.{image_of}
 use Rattle.lvdc_image.proofs.ImageBack.{image_of-texts}
 use Rattle.lvdc_image.proofs.TextBack.{texts-numbered}
 use Rattle.lvdc_image.proofs.read.read_image.Goals as goal

@@ -1,6 +1,6 @@
 use Rattle.std.proofs.Common.{ℕ, subst}
 use Rattle.lvdc_map.specs.Memory.{AllThere}
-use Rattle.lvdc_image.specs.Reading.{numbered}
+use Rattle.lvdc_text.specs.Lines.{numbered}
 use Rattle.lvdc_image.proofs.Rising.{words_from-rising, words_from-there}
 use Rattle.lvdc_image.proofs.read.read_rest.Goals as goal
 

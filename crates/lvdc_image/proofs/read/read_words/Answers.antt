@@ -3,7 +3,8 @@ use Rattle.std.proofs.ResultArms.{chosen}
 use Rattle.lvdc_map.specs.declared.placed.Placed.{Placed}
 use Rattle.lvdc_text.specs.declared.cutting.Line.{Line}
 use Rattle.lvdc_image.specs.declared.fault.ImageFault.TheVariants.{BadImageLine}
-use Rattle.lvdc_image.specs.Reading.{numbered, words_from}
+use Rattle.lvdc_text.specs.Lines.{numbered}
+use Rattle.lvdc_image.specs.Reading.{words_from}
 use Rattle.lvdc_image.proofs.WordLines.{with_words, at_end, at_line_after_end, at_word, at_fault, at_missing_end}
 use Rattle.lvdc_image.proofs.read.read_words.Goals as goal
 

@@ -1,5 +1,6 @@
 use Rattle.std.proofs.Common.{◌≡◌, drop}
-use Rattle.lvdc_image.specs.Reading.{numbered, words_from}
+use Rattle.lvdc_text.specs.Lines.{numbered}
+use Rattle.lvdc_image.specs.Reading.{words_from}
 use Rattle.lvdc_image.proofs.WordLines.{with_words}
 use Rattle.lvdc_image.proofs.read.read_words.Given as goal
 

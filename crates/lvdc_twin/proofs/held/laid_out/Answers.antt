@@ -1,10 +1,10 @@
 -- Each one is laid at its slot.
-use Rattle.std.proofs.Common.{◌≡◌, ◌+◌, List, ◌∷◌, [], ◌++◌, take, refl, sym, ap, ◌∙◌, subst, rules}
+use Rattle.std.proofs.Common.{◌≡◌, ◌+◌, List, ◌∷◌, [], ◌++◌, take, sym, ap, ◌∙◌, subst}
 use Rattle.std.proofs.lemmas.List.{take_more, take_all, length-set}
 use Rattle.lvdc_map.specs.Memory.{word_at}
 use Rattle.lvdc_twin.specs.Cells.{NamesPlace, cells_of}
 use Rattle.lvdc_twin.specs.declared.held.Held.{Held}
-use Rattle.lvdc_twin.proofs.Holding.{HasLaid, laid-more}
+use Rattle.lvdc_twin.proofs.Holding.{laid-more}
 use Rattle.lvdc_twin.proofs.Places.{slot-small}
 use Rattle.lvdc_twin.proofs.held.laid_out.Goals as goal
 

@@ -1,12 +1,10 @@
 -- Each address's word is taken, unless it is 0.
-use Rattle.std.proofs.Common.{◌≡◌, ◌≢◌, ℕ, suc, ◌+◌, ◌/◌, ◌%◌, ◌<◌, not, Bool, true, false, List, ◌∷◌, [], ◌++◌, get_or, refl, sym, ap, ◌∙◌, subst, arith, rules, add-one}
-use Rattle.std.specs.Prelude.{◌==◌}
-use Rattle.std.proofs.lemmas.Bool.{true≢false, eqb-true, eq-eqb}
+use Rattle.std.proofs.Common.{◌≡◌, ℕ, ◌∷◌, [], ◌++◌, get_or, sym, ap, ◌∙◌, subst, arith, add-one}
 use Rattle.lvdc_map.specs.Address.{Spot, spot_at, number_of}
 use Rattle.lvdc_map.specs.declared.placed.Placed.{Placed}
 use Rattle.lvdc_twin.proofs.Holding.{differs, same_as}
 use Rattle.lvdc_fault.specs.Ledger.{Intended, NoneElsewhere}
-use Rattle.lvdc_fault.proofs.Placing.{GathersWords, words-other, words-more}
+use Rattle.lvdc_fault.proofs.Placing.{words-other, words-more}
 use Rattle.lvdc_fault.proofs.ledger.Ledger.placed.Goals as goal
 use Rattle.lvdc_fault.proofs.ledger.Ledger.placed.Goals.{then-ne+in_ok-push, else-ne}
 

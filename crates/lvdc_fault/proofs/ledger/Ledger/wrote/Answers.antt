@@ -1,4 +1,4 @@
-use Rattle.std.proofs.Common.{sym, ap, ◌∙◌}
+use Rattle.std.proofs.Common.{ap, ◌∙◌}
 use Rattle.lvdc_map.specs.Address.{number_of}
 use Rattle.std.proofs.Math.ListN.{set}
 use Rattle.lvdc_fault.specs.Ledger.{Intended}

@@ -1,7 +1,6 @@
 use Rattle.std.proofs.Common.{◌≡◌, refl, sym, ◌∙◌, ap, subst, bit_and, bit_xor, inl, inr, ◌%◌, ◌^◌}
 use Rattle.std.proofs.lemmas.Nat.{and_mask}
 use Rattle.std.specs.Bool.{if◌then◌else◌}
-use Rattle.lvdc_isa.specs.declared.op.Op.TheVariants.{Mpy, Div}
 use Rattle.lvdc_isa.specs.Shift.{shifted}
 use Rattle.lvdc_map.specs.Hop.{bit}
 use Rattle.lvdc_plain.specs.Processor.{Holds}
@@ -36,7 +35,7 @@ returns-clause-holds c = λ p h.
           ])
       | in-Sto w ↦ by_row p address m w.in-Sto.is w.self-is (w.store.ensures.holds p h)
       | in-Tmi w ↦ by_row p address m w.in-Tmi.is w.self-is
-          (subst (λ t. Holds w.transfer_where-in-Tmi.new.self (if t then transfers p address else goes_on p)) (w.is_negative.ensures ∙ ap (λ a. bit a 25) h.a)
+          (subst (λ t. Holds w.transfer_where-in-Tmi.new.self (if t then transfers p address else goes_on p)) (w.is_negative.ensures.bit ∙ ap (λ a. bit a 25) h.a)
           (w.transfer_where-in-Tmi.ensures.holds p h))
       | in-Rsu w ↦ by_row p address m w.in-Rsu.is w.self-is (takes_held h w.take-in-Rsu.ensures (w.minus-in-Rsu.ensures ∙ ap (λ a. difference m a) h.a))
       | in-Cds w ↦ by_row p address m w.in-Cds.is w.self-is (data_held address h w.set_data.ensures)

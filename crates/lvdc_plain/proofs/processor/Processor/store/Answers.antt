@@ -1,10 +1,9 @@
-use Rattle.std.proofs.Common.{refl, sym, ◌∙◌, ap, subst}
+use Rattle.std.proofs.Common.{refl, sym, ◌∙◌, subst}
 use Rattle.lvdc_map.specs.Memory.{IsMemory, stored}
 use Rattle.lvdc_map.specs.declared.place.Place.TheVariants.{Memory, Pq, Saver}
 use Rattle.lvdc_plain.proofs.Effects.{stores_held}
 use Rattle.lvdc_plain.proofs.processor.Processor.store.Goals as goal
 use Rattle.lvdc_plain.proofs.processor.Processor.store.Goals.{in-Memory, in-Saver, in-Pq}
-use Rattle.lvdc_plain.specs.declared.processor.Processor.{Processor}
 
 pub returns-clause-holds : goal.returns-clause-holds
 returns-clause-holds c =

@@ -1,7 +1,5 @@
 -- Each slot's cell is taken, but for that of the word 0.
-use Rattle.std.proofs.Common.{◌≡◌, ◌≢◌, ℕ, suc, ◌+◌, ◌*◌, ◌/◌, ◌%◌, ◌<◌, not, Bool, true, false, List, ◌∷◌, [], ◌++◌, length, get_or, refl, sym, ap, ◌∙◌, subst, arith, rules, add-one}
-use Rattle.std.specs.Prelude.{◌==◌}
-use Rattle.std.proofs.lemmas.Bool.{true≢false, eqb-true, eq-eqb}
+use Rattle.std.proofs.Common.{◌≡◌, ◌/◌, ◌%◌, ◌<◌, ◌∷◌, [], ◌++◌, length, get_or, sym, ap, ◌∙◌, arith, add-one}
 use Rattle.std.proofs.lemmas.List.{get_or_default}
 use Rattle.lvdc_word.specs.Cell.{code_of}
 use Rattle.lvdc_map.specs.Address.{Spot, spot_at}
@@ -27,7 +25,7 @@ loop-slot-preserved c =
           ap (λ v. v.items) w.held-is ∙ w.in_ok-push.ensures.items
           ∙ ap (λ (at : Spot). c.loop-slot.held.items ++ record { twin = n / 16384; at = at; cell = c.index.result.now } ∷ []) w.numbered.ensures in
           rw now (gathers-more cells n c.loop-slot.held.items h
-          (record { twin = omega (arith, small); pair = omega (arith, small) })
+          (record { twin = omega (arith, small); pair = omega (arith, small); sector = omega arith; loc = omega arith })
           (record { pair = omega (arith, small); sector = omega arith; loc = omega arith })
           (omega arith) here (λ same. differs c.index.result.now c.encode-zero.result w.if-ne.ensures (same ∙ sym zero_cell)) c.loop-slot.invariant)
       | else-ne w ↦

@@ -4,7 +4,7 @@ use Rattle.std.specs.Bool.{if◌then◌else◌}
 use Rattle.std.specs.Int.{is_negative}
 use Rattle.std.proofs.lemmas.Bool.{lt-ltb, le-ltb}
 use Rattle.std.proofs.lemmas.Int.{ints, to_z-of_z, fits_signed_mul}
-use Rattle.lvdc_word.specs.Results.{fraction, with_sign, proper_quotient, quotient, quotient_of, exactly_one}
+use Rattle.lvdc_word.specs.Results.{fraction, with_sign, proper_quotient, quotient, quotient_of, saturated, exactly_one}
 use Rattle.lvdc_word.specs.Word.{word_of}
 use mathlib.Core.Bool.{beq}
 
@@ -39,9 +39,9 @@ module _ (a m p q : ℕ) (x y : ℤ) (x_is : x ≡ fraction a) (y_is : y ≡ fra
   sign_is = differ (int_lt x (pos 0)) (int_lt y (pos 0)) ∙ (λ i. exactly_one (is_negative (x_is i)) (is_negative (y_is i)))
 
   by_magnitudes : (r : ℕ) → r ≡ (if nat_lt p q then proper_quotient x y (not (beq (int_lt x (pos 0)) (int_lt y (pos 0))))
-      else (if not (beq (int_lt x (pos 0)) (int_lt y (pos 0))) then 0o200000000 else 0o177777774)) → r ≡ quotient a m
+      else saturated (not (beq (int_lt x (pos 0)) (int_lt y (pos 0))))) → r ≡ quotient a m
   by_magnitudes r is =
-      is ∙ (λ i. if nat_lt (p_is i) (q_is i) then proper_quotient x y (sign_is i) else (if sign_is i then 0o200000000 else 0o177777774))
+      is ∙ (λ i. if nat_lt (p_is i) (q_is i) then proper_quotient x y (sign_is i) else saturated (sign_is i))
       ∙ (λ i. quotient_of (x_is i) (y_is i) (exactly_one (is_negative (fraction a)) (is_negative (fraction m))))
 
   pub quotient_below : (u v r : ℕ) → p < q → u ≡ unsigned_abs x → v ≡ unsigned_abs y →
@@ -50,14 +50,14 @@ module _ (a m p q : ℕ) (x y : ℤ) (x_is : x ≡ fraction a) (y_is : y ≡ fra
       by_magnitudes r (
       is ∙ (λ i. word_of (with_sign (not (beq (int_lt x (pos 0)) (int_lt y (pos 0)))) (u_is i * 2 ^ 23 / v_is i) *ℤ pos 4))
       ∙ ap (λ t. if t then proper_quotient x y (not (beq (int_lt x (pos 0)) (int_lt y (pos 0))))
-      else (if not (beq (int_lt x (pos 0)) (int_lt y (pos 0))) then 0o200000000 else 0o177777774)) (sym (lt-ltb p q below))
+      else saturated (not (beq (int_lt x (pos 0)) (int_lt y (pos 0))))) (sym (lt-ltb p q below))
       )
 
   -- the greatest one
-  pub quotient_most : (r : ℕ) → q ≤ p → r ≡ (if not (beq (int_lt x (pos 0)) (int_lt y (pos 0))) then 0o200000000 else 0o177777774) → r ≡ quotient a m
+  pub quotient_most : (r : ℕ) → q ≤ p → r ≡ saturated (not (beq (int_lt x (pos 0)) (int_lt y (pos 0)))) → r ≡ quotient a m
   quotient_most r above is =
       by_magnitudes r (
       is
       ∙ ap (λ t. if t then proper_quotient x y (not (beq (int_lt x (pos 0)) (int_lt y (pos 0))))
-      else (if not (beq (int_lt x (pos 0)) (int_lt y (pos 0))) then 0o200000000 else 0o177777774)) (sym (le-ltb p q above))
+      else saturated (not (beq (int_lt x (pos 0)) (int_lt y (pos 0))))) (sym (le-ltb p q above))
       )

@@ -2,8 +2,8 @@ use Rattle.std.proofs.Common.{pos, ◌*ℤ◌, w64, ap, ◌∙◌, arith}
 use Rattle.std.proofs.lemmas.Int.{to_z-of_z}
 use Rattle.std.specs.Int.{int_div_euclid}
 use Rattle.lvdc_word.specs.Word.{word_of}
-use Rattle.lvdc_plain.proofs.Fractions.{product_fits, product_held}
-use Rattle.lvdc_plain.proofs.results.product.Goals as goal
+use Rattle.lvdc_word.proofs.Fractions.{product_fits, product_held}
+use Rattle.lvdc_word.proofs.results.product.Goals as goal
 
 pub overflow_mul-product : goal.overflow_mul-product
 overflow_mul-product c =

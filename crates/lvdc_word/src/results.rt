@@ -1,17 +1,15 @@
-//! What a multiply and a divide come to.
-
 ghost use Rattle.std.specs.Prelude.{◌≡◌, ◌<◌, ◌^◌, ◌*◌, ◌/◌, pos, negsuc, ◌≤ℤ◌, ◌*ℤ◌};
 ghost use Rattle.lvdc_word.specs.Word.{word_of};
-ghost use Rattle.lvdc_word.specs.Results.{fraction, product, quotient, with_sign};
+ghost use Rattle.lvdc_word.specs.Results.{fraction, product, quotient, saturated, with_sign};
 
-use lvdc_word::Word;
+use crate::Word;
 
 /// The product of two fractions, as a multiply lands it.
 pub fn product(a: Word, m: Word) -> Word
     ensures { result ≡ product a m }
 {
     let product = fraction(a) * fraction(m);
-    modulo(product.div_euclid(1 << 21))
+    Word::modulo(product.div_euclid(1 << 21))
 }
 
 /// The quotient of two fractions, as a divide lands it.
@@ -23,11 +21,16 @@ pub fn quotient(a: Word, m: Word) -> Word
     let negative = (a < 0) != (m < 0);
     if a.unsigned_abs() < m.unsigned_abs() {
         proper(a.unsigned_abs(), m.unsigned_abs(), negative)
-    } else if negative {
-        Word::within(0o200000000)
     } else {
-        Word::within(0o177777774)
+        saturated(negative)
     }
+}
+
+/// The quotient of this sign that is greatest in magnitude, where no quotient below 1 is (this project's profile).
+pub fn saturated(negative: bool) -> Word
+    ensures { result ≡ saturated negative }
+{
+    Word::within(if negative { 0o200000000 } else { 0o177777774 })
 }
 
 /// The upper 24 bits of a word, signed.
@@ -44,14 +47,6 @@ fn fraction(word: Word) -> i64
     }
 }
 
-/// What a number leaves modulo 2^26.
-fn modulo(number: i64) -> Word
-    ensures { result ≡ word_of number }
-{
-    let rest = number.rem_euclid(1 << 26);
-    Word::within(rest as u32)
-}
-
 /// A quotient below 1 of two magnitudes, with its sign.
 fn proper(a: u64, m: u64, negative: bool) -> Word
     requires below { a < m }
@@ -62,8 +57,8 @@ fn proper(a: u64, m: u64, negative: bool) -> Word
     prove!(quotient < 1 << 23);
     let magnitude = quotient as i64;
     if negative {
-        modulo(-magnitude * 4)
+        Word::modulo(-magnitude * 4)
     } else {
-        modulo(magnitude * 4)
+        Word::modulo(magnitude * 4)
     }
 }
