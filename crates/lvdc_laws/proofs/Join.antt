@@ -30,13 +30,13 @@ use Rattle.lvdc_phases.specs.Fits.{PlainFits}
 use Rattle.lvdc_phases.specs.Phase.{stop_number}
 use Rattle.lvdc_phases.specs.States.{after_phase, third_phase, ShowsRegisters}
 use Rattle.lvdc_model.specs.declared.outcome.Outcome.TheVariants as outcomes
-use Rattle.lvdc_model.specs.Trial.{Trial, plain_at, plain_in, read_in_phase, read_at}
+use Rattle.lvdc_model.specs.Trial.{Trial, plain_at, plain_in, read_in_phase, read_at, plugged_in}
 use Rattle.lvdc_model.specs.Voted.{Voted}
 use Rattle.lvdc_model.specs.Exchanges.{prepared, stop_of, exchanges, wished, voted_step}
 use Rattle.lvdc_laws.specs.Copies.{Agree, wrong_before}
 use Rattle.lvdc_laws.specs.Leaves.{memory_after, devices_after, log_after, Leaves}
 use Rattle.lvdc_laws.specs.Laws.{DeviceWords, BankLaw, StepLaws}
-use Rattle.lvdc_laws.specs.Relation.{plugged_in, devices_by, devices_in, Matches, ShowsPlain, Kept, Halted, Follows, Goes, Halts}
+use Rattle.lvdc_laws.specs.Relation.{devices_by, devices_in, Matches, ShowsPlain, Kept, Halted, Follows, Goes, Halts}
 use Rattle.lvdc_laws.proofs.PlainTimes.{made-reads_none, made-store, made-words}
 use Rattle.lvdc_laws.proofs.PlainRuns.{times-count, next-world, banks-stay}
 use Rattle.lvdc_laws.proofs.Steps.{Judged, HasBanks, Ready, AfterRead, AfterMade, after-fetch, after-operand, after-made}

@@ -169,7 +169,7 @@ follows Stands o law opens (suc n) h = after (follows Stands o law opens n parts
 -- ---- the first step that is not admissible
 
 kept-ended : (o : Trial) (n : ℕ) (e : Outcome) → (guarded o n).end ≡ Some e → (m : ℕ) → guarded o (m + n) ≡ guarded o n
-kept-ended o n e h zero = rw zero-add refl
+kept-ended o n e h zero = ap (λ (m : ℕ). guarded o m) (zero-add n)
 kept-ended o n e h (suc m) =
     let same = kept-ended o n e h m in
     ap (guarded o) (suc-add m n) ∙ guarded-stays (guarded o (m + n)).end o (guarded o (m + n)) e (ap (λ (v : Voted). v.end) same ∙ h) ∙ same

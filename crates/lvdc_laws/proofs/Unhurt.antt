@@ -1,9 +1,8 @@
 -- Under a script without events every cell is the code of the plain run's word, so no step is inadmissible.
-use Rattle.std.proofs.Common.{◌≡◌, ℕ, zero, suc, ◌/◌, ◌%◌, Bool, true, false, cond, ◌&&◌, List, [], bit_xor, subst, refl, sym, ap, ◌∙◌, arith}
-use Rattle.std.specs.Int.Bits.{and_zero_r, xor_zero_r}
+use Rattle.std.proofs.Common.{◌≡◌, ℕ, zero, suc, ◌/◌, ◌%◌, Bool, true, false, cond, ◌&&◌, List, [], subst, refl, sym, ap, ◌∙◌, arith}
 use Rattle.std.specs.declared.option.Option.{Option}
 use Rattle.std.specs.declared.option.Option.TheVariants.{None, Some}
-use Rattle.lvdc_word.specs.Cell.{code_of, with_stuck}
+use Rattle.lvdc_word.specs.Cell.{code_of}
 use Rattle.lvdc_map.specs.Address.{Spot, is_same}
 use Rattle.lvdc_map.specs.Banks.{holds}
 use Rattle.lvdc_map.specs.Memory as memory
@@ -19,6 +18,7 @@ use Rattle.lvdc_model.specs.Trial.{Trial, plain_in, read_at, store_in_phase}
 use Rattle.lvdc_model.specs.CellsBefore.{cell_before, is_mended, mended, overwritten}
 use Rattle.lvdc_model.specs.Judging.{is_recoverable, judged, judged_memory, is_begun, first_bad_below}
 use Rattle.lvdc_model.specs.Runs.{guarded}
+use Rattle.lvdc_model.proofs.Stuck.{nothing-stuck}
 use Rattle.lvdc_laws.specs.Laws.{PortLaw, HoldersLaw, StepLaws}
 use Rattle.lvdc_laws.specs.Leaves.{memory_after}
 use Rattle.lvdc_laws.specs.Relation.{Follows, Goes, Halts}
@@ -108,16 +108,12 @@ cell-plain law o twin at held (suc n) =
 
 -- ---- no verdict
 
-nothing_stuck : (cell : ℕ) → with_stuck cell 0 0 ≡ cell
-unfolding with_stuck
-nothing_stuck cell = ap (bit_xor cell) (and_zero_r (bit_xor cell 0)) ∙ xor_zero_r cell
-
 -- so its word can be recovered
 recoverable : PortLaw → HoldersLaw → (o : Opening) (n : ℕ) (at : Spot) → HasBanks o.banks (Some at) → is_recoverable (without_events o) n at ≡ true
 recoverable law holders o n at bank =
     let t = without_events o in
     let w = memory.word_at (plain_in t n).memory at in
-    holders o.banks at w _ (λ twin. code_of w) bank (λ twin two held. nothing_stuck _ ∙ cell-plain law o twin at held n) ∙ recovered-code o.banks at w
+    holders o.banks at w _ (λ twin. code_of w) bank (λ twin two held. nothing-stuck _ ∙ cell-plain law o twin at held n) ∙ recovered-code o.banks at w
 
 nothing-said : PortLaw → HoldersLaw → (o : Opening) (n : ℕ) (r : Option Spot) → HasBanks o.banks r → judged_memory (without_events o) n r ≡ verdicts.Admissible
 nothing-said law holders o n None bank = refl

@@ -13,13 +13,13 @@ use Rattle.lvdc_phases.specs.Exchanges.{exchange_in}
 use Rattle.lvdc_phases.specs.States.{ShowsRegisters}
 use Rattle.lvdc_model.specs.declared.outcome.Outcome.{Outcome}
 use Rattle.lvdc_model.specs.declared.outcome.Outcome.TheVariants.{Inadmissible, Stopped}
-use Rattle.lvdc_model.specs.Trial.{Trial, plain_at, plain_in}
+use Rattle.lvdc_model.specs.Trial.{Trial, plain_at, plain_in, plugged_in}
 use Rattle.lvdc_model.specs.Voted.{Voted, votes}
 use Rattle.lvdc_model.specs.Exchanges.{prepared, ended, wished}
 use Rattle.lvdc_model.specs.Judging.{first_bad_below}
 use Rattle.lvdc_model.specs.Runs.{guarded, found}
 use Rattle.lvdc_laws.specs.Cells.{StoresDamaged}
-use Rattle.lvdc_laws.specs.Relation.{Follows, plugged_in}
+use Rattle.lvdc_laws.specs.Relation.{Follows}
 
 -- an opening of words: the image's and the devices', and a HOP constant as start
 pub record IsOpening (o : Opening) : Type 0 where

@@ -5,18 +5,14 @@ use Rattle.lvdc_port.specs.Device.{Device}
 use Rattle.lvdc_port.specs.Devices.{HoldWords}
 use Rattle.lvdc_plain.specs.declared.records.Stop.{Stop}
 use Rattle.lvdc_plain.specs.Plain.{PlainState}
-use Rattle.lvdc_plain.specs.Run.{plugged, run}
+use Rattle.lvdc_plain.specs.Run.{run}
 use Rattle.lvdc_plain.specs.View.{ByInstruction}
 use Rattle.lvdc_phases.specs.States.{ShowsRegisters}
 use Rattle.lvdc_model.specs.declared.outcome.Outcome.TheVariants.{Stopped}
-use Rattle.lvdc_model.specs.Trial.{Trial, plain_in}
+use Rattle.lvdc_model.specs.Trial.{Trial, plain_in, plugged_in}
 use Rattle.lvdc_model.specs.Voted.{Voted}
 use Rattle.lvdc_laws.specs.Copies.{Agree, wrong_before}
 use Rattle.lvdc_laws.specs.Cells.{StoresBefore}
-
--- the devices of the plain run in a step, once those of its time are unplugged
-abbrev pub plugged_in : Trial → ℕ → List Device
-plugged_in o step = plugged o.opening.unplugs (step / 3) (run o.opening (step / 3)).devices
 
 -- by phase: before the first phase those of its time are still there
 abbrev pub devices_by : ℕ → Trial → ℕ → List Device

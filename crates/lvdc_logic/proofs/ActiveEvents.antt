@@ -19,14 +19,17 @@ use Rattle.lvdc_orders.specs.Events.{IsEvent}
 
 -- ---- an event that isn't active does nothing
 
+-- one false condition of three
 no_third : (a b c : Bool) → c ≡ false → (a && b && c) ≡ false
 no_third true true c h = h
 no_third true false c h = refl
 no_third false b c h = refl
 
+-- an event that isn't in force acts on nothing
 not_hit : (number copy first last step m c : ℕ) → is_within first last step ≡ false → acts_on number copy first last step m c ≡ false
 not_hit number copy first last step m c h = no_third (number == m) (copy == c) (is_within first last step) h
 
+-- and hurts nothing
 idle_hurts : (step m c : ℕ) (e : Event) → is_active step e ≡ false → hurts_by step m c e ≡ []
 idle_hurts step m c (Flip number copy first last index mask) h = rw (not_hit number copy first last step m c h) refl
 idle_hurts step m c (Force number copy first last index mask value) h = rw (not_hit number copy first last step m c h) refl
@@ -76,6 +79,7 @@ at_most_one : (b : Bool) (hurt : Hurt) → length (if b then hurt ∷ [] else []
 at_most_one true hurt = omega arith
 at_most_one false hurt = omega arith
 
+-- an event hurts a copy once at most
 one_hurt : (step m c : ℕ) (e : Event) → length (hurts_by step m c e) ≤ 1
 one_hurt step m c (Flip number copy first last index mask) = at_most_one (acts_on number copy first last step m c) _
 one_hurt step m c (Force number copy first last index mask value) = at_most_one (acts_on number copy first last step m c) _
@@ -106,18 +110,22 @@ room_left script step m c i capacity e hurt here one room =
 
 -- ---- each of them names a latch of its module
 
+-- a hurt under a condition
 fits_one : (b : Bool) (n : ℕ) (hurt : Hurt) → (b ≡ true → FitsLatches n hurt) → All (FitsLatches n) (if b then hurt ∷ [] else [])
 fits_one true n hurt fits zero d h = fits refl
 fits_one true n hurt fits (suc k) d h = absurd (omega (arith, h))
 fits_one false n hurt fits k d h = absurd (omega (arith, h))
 
+-- the first of three conditions that hold
 first_true : (a b c : Bool) → (a && b && c) ≡ true → a ≡ true
 first_true true b c h = refl
 first_true false b c h = h
 
+-- an event acts on the module that it names
 its_module : (number copy first last step m c : ℕ) → acts_on number copy first last step m c ≡ true → number ≡ m
 its_module number copy first last step m c h = eqb-true number m (first_true (number == m) (copy == c) (is_within first last step) h)
 
+-- so its hurt fits the latches of that module
 hurt_fits : (step m c : ℕ) (e : Event) → IsEvent e → All (FitsLatches (latches_of m)) (hurts_by step m c e)
 hurt_fits step m c (Flip number copy first last index mask) is =
     fits_one (acts_on number copy first last step m c) (latches_of m) _

@@ -15,6 +15,7 @@ use Rattle.lvdc_logic.specs.Latching.{copies_in, new_latches, after_numbers, aft
 abbrev NamesAll : List ℕ → Type 0
 NamesAll order = (c : ℕ) → c < 21 → list_any (λ d. d == c) order ≡ true
 
+-- the three copies of a module, in whatever order they latched
 committed : (t : Copies) (order : List ℕ) (first : ℕ) (words : ℕ → List ℕ) → NamesAll order → first + 2 < 21 → after_commit (after_latches t order first words) ≡ settled (words first) (words (first + 1)) (words (first + 2))
 committed t order first words all h =
     ap after_commit (from_all t order first words (all first (omega (arith, h))) (all (first + 1) (omega (arith, h))) (all (first + 2) h))

@@ -1,7 +1,7 @@
 -- How far counts rise in a step.
 use Rattle.std.proofs.Common.{◌≡◌, ℕ, zero, suc, ◌+◌, ◌-◌, ◌≤◌, Bool, true, false, List, [], ◌∷◌, subst, arith}
 use Rattle.std.specs.Prelude.{slice_index, slice_index_or}
-use Rattle.lvdc_map.specs.Hop.{bit_of}
+use Rattle.lvdc_word.specs.Word.{bit_of}
 use Rattle.lvdc_vote.specs.Copies.{Copies, differs_of}
 use Rattle.lvdc_model.specs.Voted.{counted, counted_three}
 use Rattle.lvdc_logic.specs.Logic.{DifferedAtMost}
@@ -14,16 +14,19 @@ at_most most counts h i k =
     subst (λ n. slice_index (slice_index_or counts n []) k ≤ most) a
     (subst (λ n. slice_index (slice_index_or counts (i + 1 - 1) []) n ≤ most) b (h (i + 1) (k + 1)))
 
+-- one count
 one_at_most : (b : Bool) (n most : ℕ) → n ≤ most → n + bit_of b ≤ most + 1
 one_at_most true n most h = omega (arith, h)
 one_at_most false n most h = omega (arith, h)
 
+-- the counts of a module
 three_at_most : (most : ℕ) (t : Copies) (three : List ℕ) → ((k : ℕ) → slice_index three k ≤ most) → (k : ℕ) → slice_index (counted_three t three) k ≤ most + 1
 three_at_most most t three h zero = one_at_most (differs_of t 0) (slice_index three 0) most (h 0)
 three_at_most most t three h (suc zero) = one_at_most (differs_of t 1) (slice_index three 1) most (h 1)
 three_at_most most t three h (suc (suc zero)) = one_at_most (differs_of t 2) (slice_index three 2) most (h 2)
 three_at_most most t three h (suc (suc (suc k))) = omega arith
 
+-- those of all modules
 all_at_most : (most : ℕ) (ts : List Copies) (counts : List (List ℕ)) → ((i k : ℕ) → slice_index (slice_index_or counts i []) k ≤ most) → (i k : ℕ) → slice_index (slice_index_or (counted ts counts) i []) k ≤ most + 1
 all_at_most most [] counts h i k = omega arith
 all_at_most most (t ∷ ts) [] h i k = omega arith

@@ -1,5 +1,5 @@
 -- Items of lists that stand one after another.
-use Rattle.std.proofs.Common.{◌≡◌, ℕ, zero, suc, ◌+◌, ◌≤◌, ◌<◌, List, [], ◌∷◌, ◌++◌, All, length, refl, sym, ap, ◌∙◌, subst, arith, length-append, append_assoc}
+use Rattle.std.proofs.Common.{◌≡◌, ℕ, zero, suc, ◌+◌, ◌≤◌, List, [], ◌∷◌, ◌++◌, All, length, refl, sym, ap, ◌∙◌, arith, length-append, append_assoc}
 use Rattle.std.specs.Prelude.{slice_index, slice_index_or}
 use Rattle.std.proofs.lemmas.List.{append-nil}
 use Rattle.std.proofs.lemmas.List.Elements.{All-nil, All-append}
@@ -8,6 +8,7 @@ use Rattle.lvdc_logic.specs.Listing.{items_at, three_at, copies_from, counts_fro
 
 -- ---- items
 
+-- items after the first are items of the rest
 items-rest : (x : ℕ) (xs : List ℕ) (from n : ℕ) → items_at (x ∷ xs) (suc from) n ≡ items_at xs from n
 items-rest x xs from zero = refl
 items-rest x xs from (suc n) = ap (λ ys. slice_index xs from ∷ ys) (items-rest x xs (suc from) n)
@@ -39,10 +40,12 @@ pub data AreSized : List ℕ → List Copies → Type 0 where
   NoneSized : AreSized [] []
   MoreSized : {n : ℕ} {sizes : List ℕ} {t : Copies} {ts : List Copies} → IsSized n t → IsFresh t → AreSized sizes ts → AreSized (n ∷ sizes) (t ∷ ts)
 
+-- fresh copies are those settled
 settled-is : (t : Copies) (one two three : List ℕ) → IsFresh t → one ≡ t.one → two ≡ t.two → three ≡ t.three → settled one two three ≡ t
 settled-is t one two three fresh p q r = λ i.
     record { one = p i; two = q i; three = r i; shadow_one = sym fresh.one i; shadow_two = sym fresh.two i; shadow_three = sym fresh.three i }
 
+-- the copies of a module stand where its latches begin
 three-own : (before after : List ℕ) (t : Copies) (from n : ℕ) → length before ≡ from → IsSized n t → IsFresh t
     → three_at (before ++ ((t.one ++ t.two ++ t.three) ++ after)) from n ≡ t
 three-own before after t from n e size fresh =
@@ -62,6 +65,7 @@ three-own before after t from n e size fresh =
     third : before ++ ((t.one ++ t.two ++ t.three) ++ after) ≡ ((before ++ t.one) ++ t.two) ++ (t.three ++ after)
     third = second ∙ sym (append_assoc (before ++ t.one) t.two (t.three ++ after))
 
+-- three copies have three times the latches
 length-three : (n : ℕ) (t : Copies) → IsSized n t → length (t.one ++ t.two ++ t.three) ≡ n + n + n
 length-three n t size =
     omega (arith, length-append (t.one ++ t.two) t.three, length-append t.one t.two, size.one, size.two, size.three)
@@ -111,17 +115,20 @@ items-most most counts h from zero c = omega arith
 items-most most counts h from (suc n) zero = h from
 items-most most counts h from (suc n) (suc c) = items-most most counts h (suc from) n c
 
+-- no count that is read back is above the most
 pub counts-most : (most : ℕ) (counts : List ℕ) → ((k : ℕ) → slice_index counts k ≤ most) → (from n i c : ℕ)
     → slice_index (slice_index_or (counts_from counts from n) i []) c ≤ most
 counts-most most counts h from zero i c = omega arith
 counts-most most counts h from (suc n) zero c = items-most most counts h from 3 c
 counts-most most counts h from (suc n) (suc i) c = counts-most most counts h (from + 3) n i c
 
+-- the most of all is that of each
 pub each-most : (most : ℕ) (counts : List ℕ) → All (λ n. n ≤ most) counts → (k : ℕ) → slice_index counts k ≤ most
 each-most most [] h k = omega arith
 each-most most (n ∷ counts) h zero = h 0 n (omega arith)
 each-most most (n ∷ counts) h (suc k) = each-most most counts (λ j d less. h (suc j) d (omega (arith, less))) k
 
+-- and the other way
 pub all-most : (most : ℕ) (counts : List ℕ) → ((k : ℕ) → slice_index counts k ≤ most) → All (λ n. n ≤ most) counts
 all-most most [] h k d less = absurd (omega (arith, less))
 all-most most (n ∷ counts) h zero d less = h 0

@@ -62,31 +62,22 @@ impl Logic {
         self.triples.voted_bus(memory, port)
     }
 
-    /// Makes a step, in which the copies latch in this order: each from the votes and these words from memory and port, or
-    /// where it is deaf from the copies of its own number, and with what the active events do to it. Then each copy that
+    /// Makes a step, in which the copies latch in this order: each from this bus of the votes and of words from memory and port,
+    /// or where it is deaf from the copies of its own number, and with what the active events do to it. Then each copy that
     /// differs from the new vote is counted. What comes of it doesn't depend on the order.
-    pub fn step(
-        &mut self,
-        order: &Order,
-        script: &Script,
-        active: &Active,
-        step: u64,
-        memory: Word,
-        port: Word,
-    )
+    pub fn step(&mut self, order: &Order, script: &Script, active: &Active, step: u64, voted: &Bus)
         requires active { active.now.held ≡ active_at script.now step }
         requires events { All IsEvent script.now }
         requires room { length script.now ≤ self.old.room }
         requires differed { DifferedAtMost step self.old.counts }
         requires bound { step < 2 ^ 63 }
-        ensures copies { self.new.copies ≡ next_copies script.now step 1 rows self.old.copies self.old.copies (bus_of (map vote_of self.old.copies) memory port) }
+        ensures copies { self.new.copies ≡ next_copies script.now step 1 rows self.old.copies self.old.copies voted.now }
         ensures counts { self.new.counts ≡ counted self.new.copies self.old.counts }
         ensures differed { DifferedAtMost (step + 1) self.new.counts }
         ensures room { self.new.room ≡ self.old.room }
     {
-        let voted = self.triples.voted_bus(memory, port);
         self.triples
-            .latch_all(order, &mut self.hurts, script, active, step, &voted);
+            .latch_all(order, &mut self.hurts, script, active, step, voted);
         self.triples.commit();
         self.counts.count(&self.triples);
     }

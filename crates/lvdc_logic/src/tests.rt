@@ -50,8 +50,9 @@ fn run_script(alloc: Global, script: &Script, order: &Order, steps: u64) -> Resu
     let mut logic = Logic::new(alloc, Hop::of(Word::within(0o16)), script.len())?;
     for step in 0..steps {
         script.active(step, &mut active);
-        let read = memory(&logic.bus(Word::ZERO, Word::ZERO));
-        logic.step(order, script, &active, step, read, Word::ZERO);
+        let voted = logic.bus(Word::ZERO, Word::ZERO);
+        let memory = memory(&voted);
+        logic.step(order, script, &active, step, &Bus { memory, ..voted });
     }
     Ok(logic)
 }

@@ -18,6 +18,7 @@ use Rattle.lvdc_machine.specs.Shows.{Shows}
 use Rattle.lvdc_machine.specs.Steps.{noted, noting, repair_noted}
 use Rattle.lvdc_machine.specs.View.{View}
 
+-- the optional repair of a machine is the list of one or none of the definition
 repairs-noted : (repairs : List Repair) (twin : Option ℕ) (step : ℕ) (at : Spot) (switched : Bool)
     → noted repairs (repair_noted twin step at switched) ≡ repairs ++ repair_by twin step at switched
 repairs-noted repairs None step at switched = sym (append-nil repairs)

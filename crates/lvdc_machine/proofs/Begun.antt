@@ -12,6 +12,7 @@ use Rattle.lvdc_model.specs.Trial.{Trial}
 use Rattle.lvdc_model.specs.Twins.{Twins}
 use Rattle.lvdc_memory.specs.Holds.{Kept, Holds}
 
+-- by what was in force: a step of the script, or nothing
 released-by : (o : Trial) (old new : Kept) (t : Twins) (i : Memory) (a : Activity) (last : Option ℕ)
     → IfSome last (activity.Holds o.script a)
     → ((step : ℕ) → a.held ≡ active_at o.script step → Holds o (Some step) old t i → Holds o None new t i)

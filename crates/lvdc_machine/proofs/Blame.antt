@@ -1,5 +1,5 @@
 -- Causes over a step, and over several.
-use Rattle.std.proofs.Common.{◌≡◌, ◌≢◌, ℕ, List, true, refl, sym, ◌∙◌, ap, subst}
+use Rattle.std.proofs.Common.{◌≡◌, ◌≢◌, ℕ, List, true, sym, ◌∙◌, ap, subst}
 use Rattle.std.specs.declared.option.Option.{Option}
 use Rattle.std.specs.declared.option.Option.TheVariants.{None, Some}
 use Rattle.lvdc_port.specs.Causes.{Rose}
@@ -11,13 +11,11 @@ use Rattle.lvdc_plain.specs.Stands.{FailedAlone}
 use Rattle.lvdc_fault.specs.declared.verdict.Verdict.{Verdict}
 use Rattle.lvdc_model.specs.declared.outcome.Outcome.{Outcome}
 use Rattle.lvdc_model.specs.declared.outcome.Outcome.TheVariants.{Done, Stopped, Inadmissible, Device}
-use Rattle.lvdc_machine.specs.Causes.{Caused, Fails}
+use Rattle.lvdc_machine.specs.Causes.{Fails, HasCause}
 use Rattle.lvdc_machine.specs.Steps.{MadeAs}
 use Rattle.lvdc_machine.specs.View.{answer_of_end}
 
-pub since-start : {B : Type 0} {device_of : B → device.Device} {count : B → ℕ} {bs : List B} → Since device_of count bs bs
-since-start = record { left = λ port has. has; counts = λ port has. refl }
-
+-- what holds since one state of the devices and from there since another
 pub since-then : {B : Type 0} {device_of : B → device.Device} {count : B → ℕ} {old mid new : List B} →
     Since device_of count old mid → Since device_of count mid new → Since device_of count old new
 since-then h g = record {
@@ -28,7 +26,7 @@ since-then h g = record {
 -- the end that a step brought says that no count has grown
 pub made-caused : {B : Type 0} {device_of : B → device.Device} {count : B → ℕ} {old new : List B} → Since device_of count old new
     → (end : Option Outcome) (before after : ℕ) → MadeAs end before after
-    → Caused (answer_of_end end) (λ port. count_at device_of count port old) (λ port. count_at device_of count port new) (λ port. has_port device_of port new)
+    → HasCause device_of count (answer_of_end end) old new
 made-caused h None before after made = h.counts
 made-caused h (Some (Stopped step stop)) before after made = h.counts
 made-caused h (Some Done) before after made = absurd made
@@ -63,8 +61,7 @@ fails-since {device_of = device_of} {count = count} {port = port} {mid = mid} {n
 -- the cause of the last step is that of all of them
 pub caused-since : {B : Type 0} {device_of : B → device.Device} {count : B → ℕ} {old mid : List B} → Since device_of count old mid
     → (new : List B) (end : Outcome) → ((port : ℕ) → has_port device_of port new ≡ true → has_port device_of port mid ≡ true)
-    → Caused end (λ port. count_at device_of count port mid) (λ port. count_at device_of count port new) (λ port. has_port device_of port new)
-    → Caused end (λ port. count_at device_of count port old) (λ port. count_at device_of count port new) (λ port. has_port device_of port new)
+    → HasCause device_of count end mid new → HasCause device_of count end old new
 caused-since h new Done left same = λ port has. same port has ∙ h.counts port (left port has)
 caused-since h new (Stopped step stop) left same = λ port has. same port has ∙ h.counts port (left port has)
 caused-since h new (Inadmissible w) left same = λ port has. same port has ∙ h.counts port (left port has)
@@ -74,10 +71,3 @@ caused-since {device_of = device_of} {count = count} {mid = mid} h new (Device s
           (h.counts port (left port (rose-has device_of count port (count_at device_of count port mid) new alone.rose))) alone.rose;
       others = λ other apart has. alone.others other apart has ∙ h.counts other (left other has);
     }
-
--- one more step, in which no device failed
-pub since-more : {B : Type 0} {device_of : B → device.Device} {count : B → ℕ} {old mid : List B} → Since device_of count old mid → (new : List B)
-    → ((port : ℕ) → has_port device_of port new ≡ true → has_port device_of port mid ≡ true)
-    → ((port : ℕ) → has_port device_of port new ≡ true → count_at device_of count port new ≡ count_at device_of count port mid)
-    → Since device_of count old new
-since-more h new left same = since-then h (record { left = left; counts = same })

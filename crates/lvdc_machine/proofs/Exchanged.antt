@@ -32,6 +32,7 @@ wish-names (Some (Read named)) s port h = h
 wish-names (Some (Write named word)) s port h = h
 wish-names None s port h = absurd (store-unnamed s port h)
 
+-- the exchange that a time makes names a port only where the run goes on, no time is held, and a port is asked for
 made-names : (stop : Option Stop) (hold : ℕ) (p : PlainState) (port : ℕ) → NamesPort (made stop hold p) port
     → (stop ≡ None) × ((hold ≡ 0) × Names (request_at p) port)
 made-names None zero p port h = (refl, (refl, wish-names (request_at p) _ port h))

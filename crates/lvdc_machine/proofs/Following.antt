@@ -38,6 +38,7 @@ stop-good : (o : Trial) (n step : ℕ) (stop : Stop) → Comes Standing o n → 
 stop-good o n step stop (Good good follows) is = good
 stop-good o n step stop (Bad m less first same ends) is = let bad = end-bad o n m same ends in absurd (cc (bad, is))
 
+-- its cause is an instruction
 stop-cause : (o : Trial) (n step : ℕ) (stop : Stop) → Comes Standing o n → (guarded o n).end ≡ Some (Stopped step stop) → ByInstruction (Some stop)
 stop-cause o n step stop (Good good (Goes steps kept)) is = let going = kept.going in absurd (cc (going, is))
 stop-cause o n step stop (Good good (Halts steps halted)) is =

@@ -7,6 +7,7 @@ use Rattle.lvdc_model.specs.declared.outcome.Outcome.TheVariants.{Done, Stopped,
 use Rattle.lvdc_machine.specs.Steps.{Keeps, MadeAs}
 use Rattle.lvdc_machine.specs.View.{View}
 
+-- what two calls keep, both keep
 pub keeps-then : {a b c : View} → Keeps a b → Keeps b c → Keeps a c
 keeps-then h g = record {
   banks = g.banks ∙ h.banks;
@@ -39,6 +40,7 @@ keeps-ended old mid end same = record {
   pace = ap (λ (m : View). m.pace) same;
 }
 
+-- no step is unmade
 pub made-least : (end : Option Outcome) (before after : ℕ) → MadeAs end before after → before ≤ after
 made-least None before after made = omega (arith, made)
 made-least (Some (Stopped step stop)) before after made = made.0
@@ -46,6 +48,7 @@ made-least (Some Done) before after made = absurd made
 made-least (Some (Inadmissible w)) before after made = absurd made
 made-least (Some (Device step port)) before after made = absurd made
 
+-- and one is made at most
 pub made-most : (end : Option Outcome) (before after : ℕ) → MadeAs end before after → after ≤ before + 1
 made-most None before after made = omega (arith, made)
 made-most (Some (Stopped step stop)) before after made = made.1

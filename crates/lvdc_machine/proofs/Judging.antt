@@ -32,5 +32,6 @@ found-none {o = o} {v = v} h w at e is same =
 pub found-good : (o : Trial) (v : Voted) (at : Spot) → true ≡ recovers o v at → Admissible ≡ found_memory o v (Some at)
 found-good o v at e = rw (← e) refl
 
+-- and where it can't
 pub found-bad : (o : Trial) (v : Voted) (at : Spot) (step : ℕ) → step ≡ v.steps → false ≡ recovers o v at → Memory step at ≡ found_memory o v (Some at)
 found-bad o v at step is e = rw (← e) (ap (λ s. Memory s at) is)

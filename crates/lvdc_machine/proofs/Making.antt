@@ -9,6 +9,7 @@ use Rattle.lvdc_vote.specs.Copies.{Copies, vote_of}
 use Rattle.lvdc_modules.specs.Rows.{rows, bus_of}
 use Rattle.lvdc_modules.specs.declared.bus.Bus.{Bus}
 use Rattle.lvdc_plain.specs.declared.records.Exchange.{Exchange}
+use Rattle.lvdc_fault.specs.declared.event.Event.{Event}
 use Rattle.lvdc_model.specs.Exchanges.{stop_of, latches}
 use Rattle.lvdc_model.specs.Known.{last_begun}
 use Rattle.lvdc_model.specs.Trial.{Trial}
@@ -21,7 +22,7 @@ use Rattle.lvdc_machine.specs.declared.mode.Pace.TheVariants.{ByTime, ByStep}
 use Rattle.lvdc_machine.specs.Room.{exchanges_left, repairs_left, MayExchange, MayRepair}
 use Rattle.lvdc_machine.specs.Shows.{Shows}
 use Rattle.lvdc_machine.specs.Steps.{noted, noting, MadeAs}
-use Rattle.lvdc_machine.specs.View.{View}
+use Rattle.lvdc_machine.specs.View.{View, bus_of_votes}
 
 -- ---- room
 
@@ -45,10 +46,12 @@ log-room pace steps limit old new all None room left may one none =
 log-room pace steps limit old new all (Some line) room left may one none =
     omega (arith, exchanges-spent pace steps limit left (may refl))
 
+-- a step leaves room for no more repairs
 repairs-less : (pace : Pace) (steps limit : ℕ) → repairs_left pace (steps + 1) limit ≤ repairs_left pace steps limit
 repairs-less ByTime steps limit = omega arith
 repairs-less ByStep steps limit = omega arith
 
+-- a step that may note a repair leaves room for one less
 repairs-spent : (pace : Pace) (steps limit : ℕ) → steps < 3 * limit → MayRepair pace steps
     → repairs_left pace (steps + 1) limit + 1 ≤ repairs_left pace steps limit
 repairs-spent ByTime steps limit left may = omega arith
@@ -71,16 +74,26 @@ begun-by zero steps = refl
 begun-by (suc zero) steps = refl
 begun-by (suc (suc k)) steps = refl
 
+-- the step that was made is the last that was begun
 pub begun-made : (k steps : ℕ) (end : Option Outcome) (last : Option ℕ) → end ≡ stop_of k steps → last ≡ Some steps → last ≡ last_begun end (steps + 1)
 begun-made k steps end last is begun = begun ∙ sym (rw (add-one, is) (begun-by k steps))
 
+-- by the vote of STOP, a step that latched is counted
 ends-by : (k steps : ℕ) → MadeAs (stop_of k steps) steps (steps + 1)
 ends-by zero steps = refl
 ends-by (suc zero) steps = (omega arith, omega arith)
 ends-by (suc (suc k)) steps = (omega arith, omega arith)
 
+-- so it is by the end that the vote means
 pub ends-made : (k steps : ℕ) (end : Option Outcome) → end ≡ stop_of k steps → MadeAs end steps (steps + 1)
 ends-made k steps end is = rw is (ends-by k steps)
+
+-- the copies latched from the votes and the words that were brought
+pub latched-from : (script : List Event) (steps : ℕ) (old new : List Copies) (bus : Bus) (b : Brought)
+    → new ≡ next_copies script steps 1 rows old old (record bus { memory = b.memory; port = b.port }) → bus ≡ bus_of_votes old
+    → new ≡ next_copies script steps 1 rows old old (bus_of (map vote_of old) b.memory b.port)
+latched-from script steps old new bus b is votes =
+    is ∙ ap (λ (v : Bus). next_copies script steps 1 rows old old (record v { memory = b.memory; port = b.port })) votes
 
 -- what is noted and latched is what the definition notes and latches
 pub shows-made : {o : Trial} {m : View} {ds : List device.Device} {v : Voted} → Shows o m ds v → (b : Brought)
@@ -110,16 +123,20 @@ shows-made {o = o} {m = m} {v = v} s b copies counts log repairs bus end copied 
 
 -- ---- how many were noted
 
+-- at most one exchange a step
 all-exchanges : (pace : Pace) (limit : ℕ) → exchanges_left pace 0 limit ≤ 3 * limit
 all-exchanges ByTime limit = omega arith
 all-exchanges ByStep limit = omega arith
 
+-- so a log has no more lines than a machine may make steps
 pub few-logged : (pace : Pace) (limit steps had : ℕ) → had + exchanges_left pace steps limit ≤ exchanges_left pace 0 limit → limit ≤ 1000000 → had ≤ 3000000
 few-logged pace limit steps had room small = omega (arith, all-exchanges pace limit)
 
+-- at most one repair a step
 all-repairs : (pace : Pace) (limit : ℕ) → repairs_left pace 0 limit ≤ 3 * limit
 all-repairs ByTime limit = omega arith
 all-repairs ByStep limit = omega arith
 
+-- so there are no more repairs than a machine may make steps
 pub few-noted : (pace : Pace) (limit steps had : ℕ) → had + repairs_left pace steps limit ≤ repairs_left pace 0 limit → limit ≤ 1000000 → had ≤ 3000000
 few-noted pace limit steps had room small = omega (arith, all-repairs pace limit)

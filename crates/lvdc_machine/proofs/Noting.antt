@@ -1,5 +1,5 @@
 -- What is noted of a step comes after what was noted before.
-use Rattle.std.proofs.Common.{◌≡◌, ℕ, zero, suc, ◌+◌, ◌/◌, ◌%◌, ◌≤◌, ◌<◌, Bool, true, List, [], ◌∷◌, ◌++◌, All, length, refl, sym, ap, ◌∙◌, arith}
+use Rattle.std.proofs.Common.{◌≡◌, ℕ, zero, suc, ◌+◌, ◌/◌, ◌≤◌, ◌<◌, Bool, true, List, [], ◌∷◌, ◌++◌, All, refl, arith}
 use Rattle.std.specs.Prelude.{AllPairs, IfSome}
 use Rattle.std.specs.declared.option.Option.{Option}
 use Rattle.std.specs.declared.option.Option.TheVariants.{None, Some}
@@ -14,6 +14,7 @@ use Rattle.lvdc_model.specs.declared.repair.Repair.{Repair}
 use Rattle.lvdc_machine.specs.Notes.{IsLog, IsNoted, AreRepairs}
 use Rattle.lvdc_machine.specs.Steps.{noted, repair_noted}
 
+-- one item more, that all others stand in the relation to
 pairs-push : {X : Type 0} (R : X → X → Type 0) (xs : List X) (x : X) → All (λ y. R y x) xs → AllPairs R xs → AllPairs R (xs ++ x ∷ [])
 pairs-push R [] x last h = λ i j d less within. absurd (omega (arith, less, within))
 pairs-push R (y ∷ ys) x last h =
@@ -21,6 +22,7 @@ pairs-push R (y ∷ ys) x last h =
     (All-push (R y) ys x (λ k d less. h 0 (suc k) d (omega arith) (omega (arith, less))) (last 0 y (omega arith)))
     (pairs-push R ys x (λ k d less. last (suc k) d (omega (arith, less))) (λ i j d less within. h (suc i) (suc j) d (omega (arith, less)) (omega (arith, within))))
 
+-- a line of this time keeps a log a log of the steps made
 pub log-noted : (steps : ℕ) (log : List Exchange) (line : Option Exchange) → IfSome line (λ l. l.time ≡ steps / 3) → IsLog ((steps + 2) / 3) log
     → IsLog ((steps + 1 + 2) / 3) (noted log line)
 log-noted steps log None dated h = record { below = λ k d less. let before = h.below k d less in omega (arith, before); order = h.order }
@@ -29,6 +31,7 @@ log-noted steps log (Some line) dated h = record {
   order = pairs-push (λ before after. before.time ≤ after.time) log line (λ k d less. let before = h.below k d less in omega (arith, before, dated)) h.order;
 }
 
+-- a repair of this step keeps repairs those of the steps made
 pub repairs-noted : (banks steps : ℕ) (repairs : List Repair) (repair : Option Repair) → IfSome repair (IsNoted banks steps) → AreRepairs banks steps repairs
     → AreRepairs banks (steps + 1) (noted repairs repair)
 repairs-noted banks steps repairs None is h = record {
@@ -60,9 +63,11 @@ goes-on (suc (suc k)) steps end is none = absurd (cc (is, none))
 
 -- ---- before the first step
 
+-- an empty log is one
 pub no-log : (times : ℕ) → IsLog times []
 no-log times = record { below = All-nil (λ l. l.time < times); order = λ i j d less within. absurd (omega (arith, less, within)) }
 
+-- no repairs are repairs of the steps made
 pub no-repairs : (banks steps : ℕ) → AreRepairs banks steps []
 no-repairs banks steps = record {
   below = All-nil (λ r. r.step < steps);

@@ -28,6 +28,7 @@ run-guarded mode o n same guards = ap (λ (k : Mode). run_of k o n) guards ∙ s
 
 -- ---- without events
 
+-- what is true of a guarded machine by its end, where no step is inadmissible
 pub unhurt : (o : Trial) (times : ℕ) (end : Option Outcome) (mode : Mode) → GuardedBy end o (3 * times) (state_by end mode o (3 * times))
     → alone o (3 * times) ≡ guarded o (3 * times) → (guarded o (3 * times)).end ≡ stop_end (plain_at o times).stop (plain_at o times).times
     → first_bad_below o (3 * times) ≡ Admissible → mode ≡ Guarded → UnhurtBy end o times (state_by end mode o (3 * times))
@@ -54,6 +55,7 @@ made-words o n (Good good (Goes e k)) h = k.matches.intended ∙ sym (ap (λ (i 
 made-words o n (Good good (Halts le d)) h = d.matches.intended
 made-words o n (Bad m less first same ends) h = absurd (ends.bad (sym first ∙ h))
 
+-- what is told of a word is the plain run's, by the end
 pub told : (o : Trial) (t : ℕ) (at : Spot) (end : Option Outcome) (mode : Mode) (steps : ℕ) → GuardedBy end o t (state_by end mode o t)
     → steps ≡ (state_by end mode o t).steps → Comes Standing o t → alone o t ≡ guarded o t
     → (first_bad_below o t ≡ Admissible → is_known o (guarded o t) at ≡ is_recoverable_after o (guarded o t).steps at)

@@ -16,6 +16,7 @@ use Rattle.lvdc_machine.specs.Steps.{noting, Keeps, IsMade}
 use Rattle.lvdc_machine.specs.View.{View}
 use Rattle.lvdc_machine.proofs.Making.{exchanges-spent}
 
+-- the devices after a request are those of the state after it
 shows-exchanged : {o : Trial} {m : View} {ds : List device.Device} {v : Voted} → Shows o m ds v → (request : PortRequest) (left : List device.Device)
     → left ≡ after_exchange request ds → Shows o m left (record v { devices = after_exchange request v.devices })
 shows-exchanged s request left is =
@@ -64,6 +65,7 @@ port-written {o = o} {m = m} {ds = ds} {v = v} s new left port word time is at m
 
 -- ---- room
 
+-- later steps leave room for no more exchanges
 fewer : (pace : Pace) (before after limit : ℕ) → before ≤ after → exchanges_left pace after limit ≤ exchanges_left pace before limit
 fewer ByTime before after limit less = omega arith
 fewer ByStep before after limit less = omega arith

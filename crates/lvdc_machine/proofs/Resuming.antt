@@ -1,34 +1,35 @@
 -- A machine goes on by one step of the run from a state.
-use Rattle.std.proofs.Common.{◌≡◌, ◌≢◌, ℕ, zero, suc, ◌+◌, ◌-◌, ◌/◌, ◌%◌, ◌<◌, ◌==◌, List, refl, sym, ap, ◌∙◌, subst, arith, add-zero, add-suc}
+use Rattle.std.proofs.Common.{◌≡◌, ◌≢◌, ℕ, zero, suc, ◌+◌, ◌-◌, ◌<◌, List, refl, sym, ap, ◌∙◌, subst, arith, add-zero, add-suc}
 use Rattle.std.proofs.Math.Numerals.{add-one}
-use Rattle.std.specs.Bool.{if◌then◌else◌}
 use Rattle.std.specs.declared.option.Option.{Option}
 use Rattle.std.specs.declared.option.Option.TheVariants.{None, Some}
 use Rattle.lvdc_port.specs.Device as device
 use Rattle.lvdc_modules.specs.Wish.{wish}
 use Rattle.lvdc_modules.specs.declared.wanted.Wanted.{Wanted}
-use Rattle.lvdc_plain.specs.Run.{plugged}
 use Rattle.lvdc_fault.specs.declared.verdict.Verdict.{Verdict}
 use Rattle.lvdc_fault.specs.declared.verdict.Verdict.TheVariants.{Admissible, Logic, Memory}
 use Rattle.lvdc_model.specs.Exchanges.{damages, prepared, ended, exchanges, wished, voted_step}
 use Rattle.lvdc_model.specs.Known.{last_begun}
 use Rattle.lvdc_model.specs.Runs.{judged_by, alone_by, through_by, found}
-use Rattle.lvdc_model.specs.Trial.{Trial}
+use Rattle.lvdc_model.specs.Trial.{Trial, devices_left}
 use Rattle.lvdc_model.specs.Voted.{Voted}
 use Rattle.lvdc_model.specs.declared.outcome.Outcome.{Outcome}
 use Rattle.lvdc_model.specs.declared.outcome.Outcome.TheVariants.{Done, Stopped, Inadmissible, Device}
 use Rattle.lvdc_machine.specs.declared.mode.Mode.{Mode}
 use Rattle.lvdc_machine.specs.declared.mode.Mode.TheVariants.{Guarded, Through}
 use Rattle.lvdc_machine.specs.Shows.{Shows}
-use Rattle.lvdc_machine.specs.Resumed.{run_from, state_from, EndsFrom, StandsFrom}
-use Rattle.lvdc_machine.specs.Steps.{verdict_of, NamesPort, MadeAs, IsMade}
+use Rattle.lvdc_machine.specs.Resumed.{steps_after, steps_since, state_from, EndsFrom, StandsFrom}
+use Rattle.lvdc_machine.specs.Steps.{run_from, verdict_of, NamesPort, MadeAs, IsMade}
 use Rattle.lvdc_machine.specs.View.{View, bus_of_votes}
+use Rattle.lvdc_machine.proofs.Standing.{after-sum, since-difference}
 
 -- ---- the run of a mode
 
+-- without an end a step that judges is prepared and judged
 alone-goes : (end : Option Outcome) (o : Trial) (v : Voted) → end ≡ None → alone_by end o v ≡ judged_by (found o (prepared o v)) o (prepared o v)
 alone-goes end o v e = rw e refl
 
+-- and one that doesn't is prepared and made
 through-goes : (end : Option Outcome) (o : Trial) (v : Voted) → end ≡ None → through_by end o v ≡ voted_step o (prepared o v)
 through-goes end o v e = rw e refl
 
@@ -38,12 +39,15 @@ run-next : (mode : Mode) (o : Trial) (r : Voted) (t : ℕ) → (run_from mode o 
 run-next Guarded o r t e = alone-goes (run_from Guarded o r t).end o (run_from Guarded o r t) e
 run-next Through o r t e = through-goes (run_from Through o r t).end o (run_from Through o r t) e
 
+-- after an end a step changes nothing, judged
 alone-stays : (end : Option Outcome) (o : Trial) (v : Voted) (e : Outcome) → end ≡ Some e → alone_by end o v ≡ v
 alone-stays end o v e is = rw is refl
 
+-- or not
 through-stays : (end : Option Outcome) (o : Trial) (v : Voted) (e : Outcome) → end ≡ Some e → through_by end o v ≡ v
 through-stays end o v e is = rw is refl
 
+-- so of either mode
 run-stays-one : (mode : Mode) (o : Trial) (r : Voted) (t : ℕ) (e : Outcome) → (run_from mode o r t).end ≡ Some e → run_from mode o r (suc t) ≡ run_from mode o r t
 run-stays-one Guarded o r t e is = alone-stays (run_from Guarded o r t).end o (run_from Guarded o r t) e is
 run-stays-one Through o r t e is = through-stays (run_from Through o r t).end o (run_from Through o r t) e is
@@ -56,6 +60,7 @@ run-stays mode o r t (suc n) e is =
     ap (λ k. run_from mode o r k) (add-suc t n)
     ∙ run-stays-one mode o r (t + n) e (ap (λ (v : Voted). v.end) before ∙ is) ∙ before
 
+-- a verdict other than Admissible ends the run with it
 judged-bad : (w : Verdict) (o : Trial) (v : Voted) → w ≢ Admissible → judged_by w o v ≡ ended v (Inadmissible w)
 judged-bad Admissible o v bad = absurd (bad refl)
 judged-bad (Logic step m) o v bad = refl
@@ -63,8 +68,9 @@ judged-bad (Memory step at) o v bad = refl
 
 -- ---- a step that is prepared
 
+-- cells damaged and devices taken away, the machine is in the state that is prepared
 pub shows-prepared : {o : Trial} {m : View} {ds : List device.Device} (v : Voted) → Shows o m ds (record v { twins = damages v.steps o.script v.twins })
-    → (left : List device.Device) → left ≡ (if m.steps % 3 == 0 then plugged m.unplugs (m.steps / 3) ds else ds) → Shows o m left (prepared o v)
+    → (left : List device.Device) → left ≡ devices_left m.unplugs m.steps ds → Shows o m left (prepared o v)
 shows-prepared v s left is =
     record {
       banks = s.banks;
@@ -72,7 +78,7 @@ shows-prepared v s left is =
       unplugs = s.unplugs;
       copies = s.copies;
       memory = s.memory;
-      left = is ∙ (λ i. if s.steps i % 3 == 0 then plugged (s.unplugs i) (s.steps i / 3) (s.left i) else s.left i);
+      left = is ∙ (λ i. devices_left (s.unplugs i) (s.steps i) (s.left i));
       log = s.log;
       repairs = s.repairs;
       counts = s.counts;
@@ -80,6 +86,7 @@ shows-prepared v s left is =
       end = s.end;
     }
 
+-- what the machine wants is what the state wishes
 pub wanted-wished : {o : Trial} {m : View} {ds : List device.Device} {v : Voted} → Shows o m ds v → (w : Wanted)
     → w ≡ wish (bus_of_votes m.copies) m.banks → w ≡ wished o v
 wanted-wished s w is = is ∙ (λ i. wish (bus_of_votes (s.copies i)) (s.banks i))
@@ -88,20 +95,22 @@ wanted-wished s w is = is ∙ (λ i. wish (bus_of_votes (s.copies i)) (s.banks i
 pub record IsPrepared (o : Trial) (r : Voted) (t : ℕ) (m : View) (ds : List device.Device) : Type 0 where
   pub shows : Shows o m ds (prepared o (run_from m.mode o r t))
   pub going : (run_from m.mode o r t).end ≡ None
-  pub steps : m.steps ≡ r.steps + t
+  pub steps : m.steps ≡ steps_after r.steps t
   pub begun : m.active.last ≡ Some m.steps
 
+-- a machine without an end is in the state of its run
 running-by : (o : Trial) (r : Voted) (t : ℕ) (m : View) (ds : List device.Device) (end : Option Outcome) → end ≡ None → Shows o m ds (state_from end m.mode o r t) → Shows o m ds (run_from m.mode o r t)
 running-by o r t m ds end e s = rw e at s
 
-steps-by : (o : Trial) (r : Voted) (t : ℕ) (mode : Mode) (steps : ℕ) (end : Option Outcome) → end ≡ None → EndsFrom end o r t mode steps → steps ≡ r.steps + t
+-- and has made all its steps
+steps-by : (o : Trial) (r : Voted) (t : ℕ) (mode : Mode) (steps : ℕ) (end : Option Outcome) → end ≡ None → EndsFrom end o r t mode steps → steps ≡ steps_after r.steps t
 steps-by o r t mode steps end e s = rw e at s
 
 -- what is left of a machine that runs, once its step is begun
 pub is-prepared : (o : Trial) (r : Voted) (t : ℕ) (old mid : View) (ds left : List device.Device) → StandsFrom o r t old ds → old.end ≡ None
     → mid ≡ record old { memory = mid.memory; active = mid.active } → mid.active.last ≡ Some old.steps
     → ((v : Voted) → Shows o old ds v → Shows o mid ds (record v { twins = damages v.steps o.script v.twins }))
-    → left ≡ (if old.steps % 3 == 0 then plugged old.unplugs (old.steps / 3) ds else ds) → IsPrepared o r t mid left
+    → left ≡ devices_left old.unplugs old.steps ds → IsPrepared o r t mid left
 is-prepared o r t old mid ds left h none same begun shown is =
     let s = running-by o r t old ds old.end none h.shows in
     let mode : mid.mode ≡ old.mode = ap (λ (m : View). m.mode) same in
@@ -110,7 +119,7 @@ is-prepared o r t old mid ds left h none same begun shown is =
     record {
       shows = subst (λ (k : Mode). Shows o mid left (prepared o (run_from k o r t))) (sym mode)
           (shows-prepared (run_from old.mode o r t) (shown (run_from old.mode o r t) s) left
-          (is ∙ (λ i. if sym steps i % 3 == 0 then plugged (sym unplugs i) (sym steps i / 3) ds else ds)));
+          (is ∙ (λ i. devices_left (sym unplugs i) (sym steps i) ds)));
       going = subst (λ (k : Mode). (run_from k o r t).end ≡ None) (sym mode) (sym s.end ∙ none);
       steps = steps ∙ steps-by o r t old.mode old.steps old.end none h.ends;
       begun = begun ∙ ap Some (sym steps);
@@ -142,22 +151,23 @@ stands-judged o r t m new ds w h is bad same =
         end = refl;
       });
       begun = h.begun;
-      ends = omega (arith, steps);
+      ends = omega (arith, steps, after-sum r.steps t, after-sum r.steps (suc t));
     })
 
-stands-by : (o : Trial) (r : Voted) (t before : ℕ) (new : View) (ds : List device.Device) (end : Option Outcome) → new.end ≡ end → before ≡ r.steps + t
+-- by the end that the step brought
+stands-by : (o : Trial) (r : Voted) (t before : ℕ) (new : View) (ds : List device.Device) (end : Option Outcome) → new.end ≡ end → before ≡ steps_after r.steps t
     → new.active.last ≡ last_begun new.end new.steps → MadeAs end before new.steps → Shows o new ds (run_from new.mode o r (suc t)) → StandsFrom o r (suc t) new ds
 stands-by o r t before new ds None is at begun made s =
     record {
       shows = subst (λ (e : Option Outcome). Shows o new ds (state_from e new.mode o r (suc t))) (sym is) s;
       begun = begun;
-      ends = subst (λ (e : Option Outcome). EndsFrom e o r (suc t) new.mode new.steps) (sym is) (omega (arith, made, at));
+      ends = subst (λ (e : Option Outcome). EndsFrom e o r (suc t) new.mode new.steps) (sym is) (omega (arith, made, at, after-sum r.steps t, after-sum r.steps (suc t)));
     }
 stands-by o r t before new ds (Some (Stopped step stop)) is at begun made s =
     record {
       shows = subst (λ (e : Option Outcome). Shows o new ds (state_from e new.mode o r (suc t))) (sym is) s;
       begun = begun;
-      ends = subst (λ (e : Option Outcome). EndsFrom e o r (suc t) new.mode new.steps) (sym is) (let most = made.1 in omega (arith, at, most));
+      ends = subst (λ (e : Option Outcome). EndsFrom e o r (suc t) new.mode new.steps) (sym is) (let most = made.1 in omega (arith, at, most, after-sum r.steps t, after-sum r.steps (suc t)));
     }
 stands-by o r t before new ds (Some Done) is at begun made s = absurd made
 stands-by o r t before new ds (Some (Inadmissible w)) is at begun made s = absurd made
@@ -180,7 +190,7 @@ pub stands-failed : (o : Trial) (r : Voted) (t : ℕ) (m new : View) (ds left : 
     → NamesPort x port → left ≡ ds → new ≡ record m { end = Some (Device m.steps port) } → StandsFrom o r (t + 1) new left
 stands-failed o r t m new ds left w x port h is good wish-is named kept same =
     let steps = h.steps in
-    let past : t ≡ m.steps - r.steps = omega (arith, steps) in
+    let past : t ≡ steps_since r.steps m.steps = omega (arith, steps, after-sum r.steps t, since-difference r.steps m.steps) in
     let s = subst (λ (k : ℕ). Shows o m ds (prepared o (run_from m.mode o r k))) past h.shows in
     rw (same, add-one, kept) (record {
       shows = record {
@@ -198,8 +208,8 @@ stands-failed o r t m new ds left w x port h is good wish-is named kept same =
       };
       begun = h.begun;
       ends = record {
-        later = omega (arith, steps);
-        early = omega (arith, steps);
+        later = omega (arith, steps, after-sum r.steps t);
+        early = omega (arith, steps, after-sum r.steps t, after-sum r.steps (suc t));
         going = subst (λ (k : ℕ). (run_from m.mode o r k).end ≡ None) past h.going;
         steps = sym s.steps;
         admitted = subst (λ (k : ℕ). verdict_of m.mode o (prepared o (run_from m.mode o r k)) ≡ Admissible) past (sym is ∙ good);
@@ -210,6 +220,7 @@ stands-failed o r t m new ds left w x port h is good wish-is named kept same =
 
 -- ---- a kept end
 
+-- by the end that was kept
 kept-by : (o : Trial) (r : Voted) (t n : ℕ) (m : View) (ds : List device.Device) (e : Outcome) → m.end ≡ Some e
     → Shows o m ds (state_from (Some e) m.mode o r t) → m.active.last ≡ last_begun m.end m.steps → EndsFrom (Some e) o r t m.mode m.steps → StandsFrom o r (t + n) m ds
 kept-by o r t n m ds Done is s begun ends = absurd ends
@@ -218,14 +229,14 @@ kept-by o r t n m ds (Stopped step stop) is s begun ends =
       shows = subst (λ (x : Option Outcome). Shows o m ds (state_from x m.mode o r (t + n))) (sym is)
           (subst (λ (v : Voted). Shows o m ds v) (sym (run-stays m.mode o r t n (Stopped step stop) (sym s.end ∙ is))) s);
       begun = begun;
-      ends = subst (λ (x : Option Outcome). EndsFrom x o r (t + n) m.mode m.steps) (sym is) (omega (arith, ends));
+      ends = subst (λ (x : Option Outcome). EndsFrom x o r (t + n) m.mode m.steps) (sym is) (omega (arith, ends, after-sum r.steps t, after-sum r.steps (t + n)));
     }
 kept-by o r t n m ds (Inadmissible w) is s begun ends =
     record {
       shows = subst (λ (x : Option Outcome). Shows o m ds (state_from x m.mode o r (t + n))) (sym is)
           (subst (λ (v : Voted). Shows o m ds v) (sym (run-stays m.mode o r t n (Inadmissible w) (sym s.end ∙ is))) s);
       begun = begun;
-      ends = subst (λ (x : Option Outcome). EndsFrom x o r (t + n) m.mode m.steps) (sym is) (omega (arith, ends));
+      ends = subst (λ (x : Option Outcome). EndsFrom x o r (t + n) m.mode m.steps) (sym is) (omega (arith, ends, after-sum r.steps t, after-sum r.steps (t + n)));
     }
 kept-by o r t n m ds (Device step port) is s begun ends =
     record {
@@ -233,7 +244,7 @@ kept-by o r t n m ds (Device step port) is s begun ends =
       begun = begun;
       ends = subst (λ (x : Option Outcome). EndsFrom x o r (t + n) m.mode m.steps) (sym is) (record {
         later = ends.later;
-        early = let early = ends.early in omega (arith, early);
+        early = let early = ends.early in omega (arith, early, after-sum r.steps t, after-sum r.steps (t + n));
         going = ends.going;
         steps = ends.steps;
         admitted = ends.admitted;

@@ -11,28 +11,22 @@ use Rattle.lvdc_modules.specs.Rows.{start_latches}
 use Rattle.lvdc_fault.specs.declared.event.Event.{Event}
 use Rattle.lvdc_model.specs.Known.{last_begun}
 use Rattle.lvdc_model.specs.Trial.{Trial}
-use Rattle.lvdc_model.specs.Voted.{Voted, voted_start, thrice}
+use Rattle.lvdc_model.specs.Voted.{voted_start, thrice}
 use Rattle.lvdc_model.specs.declared.outcome.Outcome.{Outcome}
 use Rattle.lvdc_machine.specs.declared.mode.Mode.{Mode}
 use Rattle.lvdc_machine.specs.declared.mode.Mode.TheVariants.{Guarded, Through}
 use Rattle.lvdc_machine.specs.declared.mode.Pace.TheVariants.{ByTime}
-use Rattle.lvdc_machine.specs.Room.{pace_of, IsInStep, IsInTime}
+use Rattle.lvdc_machine.specs.Room.{pace_of, IsInTime}
 use Rattle.lvdc_machine.specs.Shows.{Shows}
 use Rattle.lvdc_machine.specs.Stands.{Stands, EndsAs, state_by}
-use Rattle.lvdc_machine.specs.Steps.{run_of}
 use Rattle.lvdc_machine.specs.View.{View, bus_of_votes}
-
-run-start : (mode : Mode) (o : Trial) → run_of mode o 0 ≡ voted_start o
-run-start Guarded o = refl
-run-start Through o = refl
 
 -- it stands at the start
 pub stands-start : (o : Trial) (m : View) (ds : List device.Device) → Shows o m ds (voted_start o) → m.active.last ≡ None → m.end ≡ None → m.steps ≡ 0
     → Stands o 0 m ds
 stands-start o m ds s last none first =
     record {
-      shows = subst (λ (e : Option Outcome). Shows o m ds (state_by e m.mode o 0)) (sym none)
-          (subst (λ (v : Voted). Shows o m ds v) (sym (run-start m.mode o)) s);
+      shows = subst (λ (e : Option Outcome). Shows o m ds (state_by e m.mode o 0)) (sym none) s;
       begun = last ∙ sym (λ i. last_begun (none i) (first i));
       ends = subst (λ (e : Option Outcome). EndsAs e o 0 m.mode m.steps) (sym none) first;
     }
@@ -41,20 +35,12 @@ stands-start o m ds s last none first =
 pub nothing-within : (script : List Event) (held : List ℕ) → held ≡ [] → All (λ position. position < length script) held
 nothing-within script held none = rw none (λ k d within. absurd (omega arith))
 
--- the votes of TIMER are 0
-pub starts-in-step : (mode : Mode) (start : HopConstant) (copies : List Copies) → copies ≡ map thrice (start_latches start) → IsInStep (pace_of mode) copies 0
-starts-in-step Guarded start copies is =
-    rw is (record {
-      sized = record { one = refl; two = refl; three = refl };
-      votes = ap (λ ws. slice_index ws 0) (majority_of-first (0 ∷ 0 ∷ []) (0 ∷ 0 ∷ []) refl);
-    })
-starts-in-step Through start copies is = tt
-
 -- a machine with room by times judges
 pub judges-by : (mode : Mode) → pace_of mode ≡ ByTime → mode ≡ Guarded
 judges-by Guarded e = refl
 judges-by Through e = absurd (cc e)
 
+-- the votes of TIMER are 0
 pub starts-in-time : (mode : Mode) (start : HopConstant) (copies : List Copies) → copies ≡ map thrice (start_latches start) → IsInTime mode copies 0
 starts-in-time Guarded start copies is =
     rw is (record {

@@ -21,8 +21,10 @@ known-is {o = o} {m = m} {v = v} s at b begun is =
     let same : m.active.last ≡ last_begun v.end v.steps = begun ∙ (λ i. last_begun (s.end i) (s.steps i)) in
     is ∙ ap (λ (l : Option ℕ). is_recovered o.opening.banks at (word_at v.intended at) (λ twin. shows_since l o v.twins twin at)) same
 
+-- a word that is known is told
 pub shown-known : (known : Bool) (word x : ℕ) → true ≡ known → x ≡ word → Known x ≡ shown_by known word
 shown-known known word x is same = rw (← is) (ap Known same)
 
+-- and one that isn't, isn't
 pub shown-unknown : (known : Bool) (word : ℕ) → false ≡ known → Unknown ≡ shown_by known word
 shown-unknown known word is = rw (← is) refl

@@ -1,5 +1,5 @@
 -- TIMER's phases, where at most one copy of it is wrong.
-use Rattle.std.proofs.Common.{◌≡◌, ℕ, zero, suc, cond, ◌+◌, ◌%◌, ◌<◌, Bool, true, false, ◌&&◌, ◌||◌, List, [], ◌∷◌, length, map, refl, sym, ap, ◌∙◌, arith, inl, inr}
+use Rattle.std.proofs.Common.{◌≡◌, ℕ, zero, suc, ◌+◌, ◌%◌, ◌<◌, false, List, [], ◌∷◌, map, refl, sym, ap, ◌∙◌, arith}
 use Rattle.std.specs.Prelude.{◌==◌, if◌then◌else◌}
 use Rattle.std.specs.Prelude.{slice_index}
 use Rattle.lvdc_vote.specs.Copies.{Copies, IsSized, vote_of}
@@ -13,11 +13,9 @@ use Rattle.lvdc_fault.specs.Script.{is_wrong, two_wrong}
 use Rattle.lvdc_fault.specs.declared.event.Event.{Event}
 use Rattle.lvdc_model.specs.Voted.{next_three, next_copies}
 use Rattle.lvdc_laws.proofs.Copies.{two_by, right_copy, length-next_copy}
-use Rattle.lvdc_machine.specs.declared.mode.Pace.{Pace}
-use Rattle.lvdc_machine.specs.declared.mode.Pace.TheVariants.{ByTime, ByStep}
 use Rattle.lvdc_machine.specs.declared.mode.Mode.{Mode}
 use Rattle.lvdc_machine.specs.declared.mode.Mode.TheVariants.{Guarded, Through}
-use Rattle.lvdc_machine.specs.Room.{IsInStep, IsInTime}
+use Rattle.lvdc_machine.specs.Room.{IsInTime}
 
 -- the three copies latch TIMER's row, but for one
 timer-votes : (script : List Event) (step : ℕ) (t : Copies) (copies : List Copies) (voted : Bus) → two_wrong script step 1 ≡ false
@@ -39,27 +37,7 @@ round (suc zero) h = refl
 round (suc (suc zero)) h = refl
 round (suc (suc (suc r))) h = absurd (omega arith)
 
-next-phase : (steps n : ℕ) → n ≡ steps % 3 → phase_after (phase_of n) ≡ (steps + 1) % 3
-next-phase steps n is =
-    ap (λ k. phase_after (phase_of k)) is ∙ round (steps % 3) (omega arith) ∙ omega arith
-
--- a step in which TIMER has at most one wrong copy keeps the phase with the steps
-pub stays-in-step : (pace : Pace) (script : List Event) (steps : ℕ) (copies : List Copies) (memory port : ℕ)
-    → (pace ≡ ByTime → two_wrong script steps 1 ≡ false) → IsInStep pace copies steps
-    → IsInStep pace (next_copies script steps 1 rows copies copies (bus_of (map vote_of copies) memory port)) (steps + 1)
-stays-in-step ByStep script steps copies memory port right h = tt
-stays-in-step ByTime script steps [] memory port right h = absurd h
-stays-in-step ByTime script steps (t ∷ ts) memory port right h =
-    let voted = bus_of (map vote_of (t ∷ ts)) memory port in
-    record {
-      sized = record {
-        one = length-next_copy script steps 1 1 2 timer_row t.one (t ∷ ts) voted (λ b. refl) h.sized.one;
-        two = length-next_copy script steps 1 2 2 timer_row t.two (t ∷ ts) voted (λ b. refl) h.sized.two;
-        three = length-next_copy script steps 1 3 2 timer_row t.three (t ∷ ts) voted (λ b. refl) h.sized.three;
-      };
-      votes = ap (λ ws. slice_index ws 0) (timer-votes script steps t (t ∷ ts) voted (right refl) h.sized) ∙ next-phase steps _ h.votes;
-    }
-
+-- also where PHASE has higher bits, which don't count
 next-timed : (steps n : ℕ) → n % 4 ≡ steps % 3 → phase_after (phase_of n) % 4 ≡ (steps + 1) % 3
 next-timed steps n is =
     let same : n % 4 % 4 ≡ n % 4 = omega arith in
@@ -67,7 +45,7 @@ next-timed steps n is =
     ap (λ p. phase_after p % 4) (sym low ∙ ap phase_of is)
     ∙ ap (λ k. k % 4) (round (steps % 3) (omega arith)) ∙ omega arith
 
--- so does a step in which a machine judges
+-- a step in which a machine judges, and TIMER has at most one wrong copy, keeps the phase with the steps
 pub stays-in-time : (mode : Mode) (script : List Event) (steps : ℕ) (copies : List Copies) (memory port : ℕ)
     → (mode ≡ Guarded → two_wrong script steps 1 ≡ false) → IsInTime mode copies steps
     → IsInTime mode (next_copies script steps 1 rows copies copies (bus_of (map vote_of copies) memory port)) (steps + 1)

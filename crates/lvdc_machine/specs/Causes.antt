@@ -14,6 +14,11 @@ Caused (Stopped step stop) before after left = (port : ℕ) → left port ≡ tr
 Caused (Inadmissible verdict) before after left = (port : ℕ) → left port ≡ true → after port ≡ before port
 Caused (Device step port) before after left = FailedAlone port before after left
 
+-- an end has its cause in the counts of faults of these devices, before and after
+abbrev pub HasCause : {B : Type 0} → (B → device.Device) → (B → ℕ) → Outcome → List B → List B → Type 0
+HasCause device_of count end old new =
+    Caused end (λ port. count_at device_of count port old) (λ port. count_at device_of count port new) (λ port. has_port device_of port new)
+
 -- the device at this port has failed, and it alone, and no device has changed otherwise
 pub record Fails {B : Type 0} (device_of : B → device.Device) (count : B → ℕ) (port : ℕ) (old new : List B) : Type 0 where
   pub states : map device_of new ≡ map device_of old

@@ -70,8 +70,6 @@ UnhurtBy (Some (Device step port)) o times v = Unit {0}
 -- the plain run's word of an address can be recovered, by the end that was kept: after the steps made, or in the step that was
 -- begun where a verdict or a device ended the run
 abbrev pub is_recoverable_by : Option Outcome → Trial → ℕ → Spot → Bool
-is_recoverable_by None o steps at = is_recoverable_after o steps at
-is_recoverable_by (Some Done) o steps at = is_recoverable_after o steps at
-is_recoverable_by (Some (Stopped step stop)) o steps at = is_recoverable_after o steps at
 is_recoverable_by (Some (Inadmissible verdict)) o steps at = is_recoverable o steps at
 is_recoverable_by (Some (Device step port)) o steps at = is_recoverable o steps at
+is_recoverable_by _ o steps at = is_recoverable_after o steps at

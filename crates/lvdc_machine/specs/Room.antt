@@ -42,17 +42,6 @@ IsDue pace steps (Store at word) = Unit {0}
 IsDue pace steps (PortRead port) = MayExchange pace steps
 IsDue pace steps (PortWrite port word) = MayExchange pace steps
 
--- the copies of TIMER have its two latches each, and this is the vote of PHASE
-pub record IsTimerAt (phase : ℕ) (t : Copies) : Type 0 where
-  pub sized : IsSized 2 t
-  pub votes : slice_index (vote_of t) 0 ≡ phase
-
--- by times the voted PHASE goes with the steps
-abbrev pub IsInStep : Pace → List Copies → ℕ → Type 0
-IsInStep ByStep copies steps = Unit {0}
-IsInStep ByTime [] steps = ⊥
-IsInStep ByTime (t ∷ ts) steps = IsTimerAt (steps % 3) t
-
 -- the copies of TIMER have their two latches each, and the vote of PHASE, of which the low two bits count, goes with the steps
 pub record IsTimed (steps : ℕ) (t : Copies) : Type 0 where
   pub sized : IsSized 2 t

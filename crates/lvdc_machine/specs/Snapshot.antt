@@ -1,5 +1,5 @@
 -- Snapshots of the voted machine: when one is whole, and which state one means.
-use Rattle.std.specs.Prelude.{◌≡◌, ◌≢◌, ℕ, ◌/◌, ◌%◌, ◌≤◌, ◌<◌, true, List, All, length}
+use Rattle.std.specs.Prelude.{◌≡◌, ◌≢◌, ◌/◌, ◌%◌, ◌≤◌, ◌<◌, true, List, All, length}
 use Rattle.std.specs.declared.option.Option.TheVariants.{None}
 use Rattle.lvdc_word.specs.Cell.{code_of}
 use Rattle.lvdc_map.specs.Memory as image

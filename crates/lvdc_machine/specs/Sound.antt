@@ -7,13 +7,13 @@ use Rattle.lvdc_logic.specs.Logic.{DifferedAtMost}
 use Rattle.lvdc_machine.specs.declared.machine.Machine.TheInside.{Inside}
 use Rattle.lvdc_machine.specs.declared.mode.Mode.TheVariants.{Guarded}
 use Rattle.lvdc_machine.specs.declared.mode.Pace.TheVariants.{ByTime}
-use Rattle.lvdc_machine.specs.Room.{pace_of, exchanges_left, repairs_left, IsInStep, IsInTime}
+use Rattle.lvdc_machine.specs.Room.{pace_of, exchanges_left, repairs_left, IsInTime}
 use Rattle.lvdc_machine.specs.Notes.{IsLog, AreRepairs}
-use Rattle.lvdc_machine.specs.View.{bus_of_votes}
+use Rattle.lvdc_machine.specs.View.{bus_of_votes, end_seen}
 
--- the script is in range, what is in force fits it, there is room for what may still come, and by times it judges and its
--- phases go with the steps; the log of a machine with the room of its mode is of its own steps alone; a machine that judges has
--- phases that go with the steps; where no end has come the vote is against a stop; and what is noted is of steps that were made
+-- the script is in range, what is in force fits it, and there is room for what may still come; the log of a machine with the room
+-- of its mode is of its own steps alone; a machine with room by times judges, and one that judges has phases that go with the
+-- steps; the bus is that of the votes, and where no end has come they are against a stop; and what is noted is of steps that were made
 pub record IsSound (m : Inside) : Type 0 where
   pub events : All IsEvent m.script
   pub fits : Fits m.script m.active
@@ -28,8 +28,8 @@ pub record IsSound (m : Inside) : Type 0 where
   pub steps : m.steps ≤ 3 * m.limit
   pub limit : m.limit ≤ 1000000
   pub judges : m.pace ≡ ByTime → m.mode ≡ Guarded
-  pub phase : IsInStep m.pace m.logic.copies m.steps
   pub timed : IsInTime m.mode m.logic.copies m.steps
-  pub going : m.end ≡ None → (bus_of_votes m.logic.copies).exchange.stop % 4 ≡ 0
+  pub bus : m.bus ≡ bus_of_votes m.logic.copies
+  pub going : end_seen m.end ≡ None → (bus_of_votes m.logic.copies).exchange.stop % 4 ≡ 0
   pub logged : IsLog ((m.steps + 2) / 3) m.log.items
   pub noted : AreRepairs m.banks m.steps m.repairs.items

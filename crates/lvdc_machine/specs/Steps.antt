@@ -11,18 +11,26 @@ use Rattle.lvdc_fault.specs.declared.verdict.Verdict.TheVariants.{Admissible}
 use Rattle.lvdc_model.specs.declared.outcome.Outcome.{Outcome}
 use Rattle.lvdc_model.specs.declared.outcome.Outcome.TheVariants.{Done, Stopped, Inadmissible, Device}
 use Rattle.lvdc_model.specs.Known.{last_begun}
-use Rattle.lvdc_model.specs.Runs.{alone, through, found}
+use Rattle.lvdc_model.specs.Runs.{after_steps, alone_step, through_step, found}
 use Rattle.lvdc_model.specs.Trial.{Trial}
-use Rattle.lvdc_model.specs.Voted.{Voted}
+use Rattle.lvdc_model.specs.Voted.{Voted, voted_start}
 use Rattle.lvdc_machine.specs.declared.stepping.Brought.{Brought}
 use Rattle.lvdc_machine.specs.declared.mode.Mode.{Mode}
 use Rattle.lvdc_machine.specs.declared.mode.Mode.TheVariants.{Guarded, Through}
 use Rattle.lvdc_machine.specs.View.{View}
 
--- the run of a mode after so many steps, or fewer where it ends
+-- one step of a mode; after an end nothing changes
+abbrev pub step_of : Mode → Trial → Voted → Voted
+step_of Guarded o v = alone_step o v
+step_of Through o v = through_step o v
+
+-- the run of a mode that begins in a state, after so many steps, or fewer where it ends
+abbrev pub run_from : Mode → Trial → Voted → ℕ → Voted
+run_from mode o first n = after_steps (step_of mode o) first n
+
+-- the run of a trial begins in the state of its start
 abbrev pub run_of : Mode → Trial → ℕ → Voted
-run_of Guarded o t = alone o t
-run_of Through o t = through o t
+run_of mode o t = run_from mode o (voted_start o) t
 
 -- what a mode says of a step that is prepared
 abbrev pub verdict_of : Mode → Trial → Voted → Verdict

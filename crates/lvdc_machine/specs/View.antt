@@ -12,9 +12,11 @@ use Rattle.lvdc_plain.specs.declared.records.Visible.{Visible}
 use Rattle.lvdc_fault.specs.Activity.{Activity}
 use Rattle.lvdc_fault.specs.declared.event.Event.{Event}
 use Rattle.lvdc_model.specs.declared.outcome.Outcome.{Outcome}
-use Rattle.lvdc_model.specs.declared.outcome.Outcome.TheVariants.{Done}
+use Rattle.lvdc_model.specs.declared.outcome.Outcome.TheVariants.{Done, Stopped, Inadmissible, Device}
 use Rattle.lvdc_model.specs.declared.repair.Repair.{Repair}
 use Rattle.lvdc_memory.specs.Holds.{Kept}
+use Rattle.lvdc_machine.specs.declared.kept_end.KeptEnd.{KeptEnd}
+use Rattle.lvdc_machine.specs.declared.kept_end.KeptEnd.TheVariants as kept
 use Rattle.lvdc_machine.specs.declared.mode.Mode.{Mode}
 use Rattle.lvdc_machine.specs.declared.mode.Pace.{Pace}
 
@@ -49,6 +51,17 @@ registers_on b steps =
 -- the voted registers that a report shows
 abbrev pub visible_of : View → Visible
 visible_of m = registers_on (bus_of_votes m.copies) m.steps
+
+-- the outcome that a kept end is
+abbrev pub outcome_of : KeptEnd → Outcome
+outcome_of (kept.Stopped step stop) = Stopped step stop
+outcome_of (kept.Inadmissible verdict) = Inadmissible verdict
+outcome_of (kept.Device step port) = Device step port
+
+-- the end that is seen of a machine, by the one that it keeps; `Done` is none
+abbrev pub end_seen : Option KeptEnd → Option Outcome
+end_seen None = None
+end_seen (Some end) = Some (outcome_of end)
 
 -- the answer of a call by the end that the machine then keeps
 abbrev pub answer_of_end : Option Outcome → Outcome

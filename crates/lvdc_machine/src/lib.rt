@@ -3,6 +3,7 @@
 #![tactic(auto)]
 
 mod answers;
+mod kept_end;
 mod laws;
 mod machine;
 mod mode;

@@ -2,7 +2,7 @@
 
 ghost use Rattle.std.specs.Prelude.{◌≡◌, ℕ, ◌+◌, ◌-◌, ◌*◌, ◌/◌, ◌≤◌, ◌<◌, length, map, All, true, IsSome, IsNone, OnOk, IfOk, Option, Some, None, [], ◌≢◌};
 ghost use Rattle.lvdc_map.specs.Memory.{are_rising, AllThere};
-ghost use Rattle.lvdc_port.specs.Devices.{has_port, count_at, HasSpare, AreDistinct};
+ghost use Rattle.lvdc_port.specs.Devices.{has_port, HasSpare, AreDistinct};
 ghost use Rattle.lvdc_fault.specs.declared.verdict.Verdict.{Verdict};
 ghost use Rattle.lvdc_model.specs.Trial.{Trial};
 ghost use Rattle.lvdc_model.specs.Voted.{Voted};
@@ -11,13 +11,14 @@ ghost use Rattle.lvdc_orders.specs.Events.{IsEvent};
 ghost use Rattle.lvdc_laws.specs.Ends.{IsOpening};
 ghost use Rattle.lvdc_machine.specs.declared.mode.Mode.TheVariants.{Guarded, Through};
 ghost use Rattle.lvdc_machine.specs.Guarded.{GuardedBy, UnhurtBy};
-ghost use Rattle.lvdc_machine.specs.Causes.{Caused};
+ghost use Rattle.lvdc_machine.specs.Causes.{HasCause};
 ghost use Rattle.lvdc_machine.specs.Resumed.{StandsFrom};
 ghost use Rattle.lvdc_machine.specs.Room.{pace_of, exchanges_left};
 ghost use Rattle.lvdc_machine.specs.Stands.{Stands, state_by};
 ghost use Rattle.lvdc_machine.specs.Steps.{Keeps};
 ghost use Rattle.lvdc_machine.specs.View.{answer_of_end};
 
+use crate::kept_end::KeptEnd;
 use crate::laws::{guarded_follows, is_hop_constant, places_words, unhurt_follows};
 use crate::{Mode, Order, Orders, Pace};
 use lvdc_fault::{Active, Script};
@@ -25,17 +26,20 @@ use lvdc_logic::Logic;
 use lvdc_map::{Banks, Hop, Placed};
 use lvdc_memory::VotedMemory;
 use lvdc_model::{Outcome, Repair};
+use lvdc_modules::Bus;
 use lvdc_plain::{Exchange, Unplug};
 use lvdc_port::{PortDevice, prepare_all};
-use lvdc_word::NoMemory;
+use lvdc_word::{NoMemory, Word};
 use std::alloc::Global;
 use std::marker::Model;
 
-/// The voted machine, without its devices. Steps are counted from 0, three in an instruction time.
+/// The voted machine, without its devices. Steps are counted from 0, three in an instruction time. The bus of the votes is built
+/// once a step, when all copies have latched.
 #[derive(Drop)]
 pub struct Machine {
     pub(crate) banks: Banks,
     pub(crate) logic: Logic,
+    pub(crate) bus: Bus,
     pub(crate) memory: VotedMemory,
     pub(crate) script: Script,
     pub(crate) active: Active,
@@ -46,11 +50,11 @@ pub struct Machine {
     pub(crate) limit: u64,
     pub(crate) mode: Mode,
     pub(crate) pace: Pace,
-    pub(crate) end: Option<Outcome>,
+    pub(crate) end: Option<KeptEnd>,
 }
 
 impl Model for Machine {
-    ghost use Rattle.lvdc_machine.specs.View.{View};
+    ghost use Rattle.lvdc_machine.specs.View.{View, end_seen};
 
     ghost Value = { View };
 
@@ -70,7 +74,7 @@ impl Model for Machine {
       limit = m.limit;
       mode = m.mode;
       pace = m.pace;
-      end = m.end;
+      end = end_seen m.end;
     } };
 
     ghost invariant = { IsSound };
@@ -138,6 +142,7 @@ impl Machine {
         prepare_all(devices, exchanges)?;
         Ok(Machine {
             banks,
+            bus: logic.bus(Word::ZERO, Word::ZERO),
             logic,
             memory,
             script,
@@ -182,10 +187,7 @@ impl Machine {
 
         // A failed device has failed in this call, and no other that is left has; every other end comes only where no device
         // that is left has failed.
-        ensures cause { IsNone self.old.end → Caused result
-            (λ port. count_at device_of faults port devices.old.items)
-            (λ port. count_at device_of faults port devices.new.items)
-            (λ port. has_port device_of port devices.new.items) }
+        ensures cause { IsNone self.old.end → HasCause device_of faults result devices.old.items devices.new.items }
 
         // What stays, and what the next call asks for.
         ensures keeps { Keeps self.old self.new }
@@ -196,7 +198,7 @@ impl Machine {
             → has_port device_of port devices.old.items ≡ true }
     {
         guarded_follows();
-        if let Some(end) = self.end {
+        if let Some(end) = self.ended() {
             return end;
         }
         match self.advance(order, devices) {
@@ -245,10 +247,7 @@ impl Machine {
 
         // A failed device has failed in this call, and no other that is left has; every other end comes only where no device
         // that is left has failed.
-        ensures cause { IsNone self.old.end → Caused result
-            (λ port. count_at device_of faults port devices.old.items)
-            (λ port. count_at device_of faults port devices.new.items)
-            (λ port. has_port device_of port devices.new.items) }
+        ensures cause { IsNone self.old.end → HasCause device_of faults result devices.old.items devices.new.items }
 
         // What stays, and what the next call asks for.
         ensures keeps { Keeps self.old self.new }
@@ -260,7 +259,7 @@ impl Machine {
     {
         guarded_follows();
         unhurt_follows();
-        if let Some(end) = self.end {
+        if let Some(end) = self.ended() {
             return end;
         }
         for _made in 0..3 * times {

@@ -27,7 +27,7 @@ use lvdc_logic::Logic;
 use lvdc_memory::VotedMemory;
 use lvdc_plain::Unplug;
 use lvdc_port::{PortDevice, prepare_all};
-use lvdc_word::{NoMemory, Seq};
+use lvdc_word::{NoMemory, Seq, Word};
 use std::alloc::Global;
 
 impl Machine {
@@ -80,6 +80,7 @@ impl Machine {
         prepare_all(devices, left)?;
         Ok(Machine {
             banks: snapshot.banks,
+            bus: logic.bus(Word::ZERO, Word::ZERO),
             logic,
             memory,
             script,

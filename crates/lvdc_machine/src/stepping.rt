@@ -3,36 +3,35 @@
 ghost use Rattle.std.specs.Prelude.{◌≡◌, ℕ, ◌+◌, ◌-◌, ◌*◌, ◌/◌, ◌%◌, ◌≤◌, ◌<◌, ◌==◌, ◌≢◌, if◌then◌else◌, List, map, true, false, IsSome, OnOk, OnErr, IfErr, IfSome, Option, Some, None};
 ghost use Rattle.lvdc_map.specs.Banks.{is_there};
 ghost use Rattle.lvdc_port.specs.Device as device;
-ghost use Rattle.lvdc_port.specs.Devices.{has_port, count_at, HasSpare, AreDistinct};
+ghost use Rattle.lvdc_port.specs.Devices.{has_port, HasSpare, AreDistinct};
 ghost use Rattle.lvdc_modules.specs.Wish.{wish, IsThereFor};
 ghost use Rattle.lvdc_plain.specs.Lists.{Since};
-ghost use Rattle.lvdc_plain.specs.Run.{plugged};
 ghost use Rattle.lvdc_fault.specs.Script.{two_wrong};
 ghost use Rattle.lvdc_fault.specs.declared.verdict.Verdict.{Verdict};
 ghost use Rattle.lvdc_fault.specs.declared.verdict.Verdict.TheVariants.{Admissible};
 ghost use Rattle.lvdc_model.specs.Exchanges.{damages, stop_of, latches, exchanges, reading, storing, port_reading, port_writing, wished};
 ghost use Rattle.lvdc_model.specs.Runs.{found, found_memory, read_of_wish};
-ghost use Rattle.lvdc_model.specs.Trial.{Trial};
+ghost use Rattle.lvdc_model.specs.Trial.{Trial, devices_left};
 ghost use Rattle.lvdc_model.specs.Twins.{read_answer};
 ghost use Rattle.lvdc_model.specs.Voted.{Voted};
 ghost use Rattle.lvdc_model.specs.declared.outcome.Outcome.TheVariants.{Inadmissible, Device};
 ghost use Rattle.lvdc_machine.specs.declared.mode.Mode.TheVariants.{Guarded, Through};
-ghost use Rattle.lvdc_machine.specs.Causes.{Caused, Fails};
+ghost use Rattle.lvdc_machine.specs.Causes.{Fails, HasCause};
 ghost use Rattle.lvdc_machine.specs.Room.{exchanges_left, MayExchange, MayRepair, IsDue};
 ghost use Rattle.lvdc_machine.specs.Notes.{IsNoted};
 ghost use Rattle.lvdc_machine.specs.Resumed.{StandsFrom};
 ghost use Rattle.lvdc_machine.specs.Shows.{Shows};
-ghost use Rattle.lvdc_machine.specs.Stands.{Stands};
 ghost use Rattle.lvdc_machine.specs.Steps.{verdict_of, repair_noted, noting, NamesPort, Keeps, IsMade};
-ghost use Rattle.lvdc_machine.specs.View.{bus_of_votes, answer_of_end};
+ghost use Rattle.lvdc_machine.specs.View.{bus_of_votes, answer_of_end, outcome_of, end_seen};
 
 use crate::answers::answer;
+use crate::kept_end::KeptEnd;
 use crate::notes::{log_line, note_repair};
 use crate::{Machine, Mode, Order};
 use lvdc_fault::{Verdict, wrong_now};
 use lvdc_map::Address;
 use lvdc_model::{Outcome, Repair};
-use lvdc_modules::{Wanted, wish};
+use lvdc_modules::{Bus, Wanted, wish};
 use lvdc_plain::{Exchange, Stop, unplug_all};
 use lvdc_port::{PortDevice, PortRequest};
 use lvdc_twin::ReadOut;
@@ -48,16 +47,16 @@ struct Brought {
 }
 
 /// The end that the voted STOP means, by its low two bits.
-fn stop_of(stop: Word, step: u64) -> Option<Outcome>
-    ensures { result ≡ stop_of (stop % 4) step }
+fn stop_of(stop: Word, step: u64) -> Option<KeptEnd>
+    ensures { end_seen result ≡ stop_of (stop % 4) step }
 {
     match stop.value() % 4 {
         0 => None,
-        1 => Some(Outcome::Stopped {
+        1 => Some(KeptEnd::Stopped {
             step,
             stop: Stop::Shift,
         }),
-        _ => Some(Outcome::Stopped {
+        _ => Some(KeptEnd::Stopped {
             step,
             stop: Stop::Exm,
         }),
@@ -108,9 +107,7 @@ impl Machine {
     /// Takes away the devices whose time has come with this step.
     fn unplug_due(&self, devices: &mut Vec<Box<dyn PortDevice>>)
         requires { AreDistinct (map device_of devices.old.items) }
-        ensures devices { map device_of devices.new.items ≡ (if self.now.steps % 3 == 0
-            then plugged self.now.unplugs (self.now.steps / 3) (map device_of devices.old.items)
-            else map device_of devices.old.items) }
+        ensures devices { map device_of devices.new.items ≡ devices_left self.now.unplugs self.now.steps (map device_of devices.old.items) }
         ensures distinct { AreDistinct (map device_of devices.new.items) }
         ensures spare { (n : ℕ) → HasSpare spare n devices.old.items → HasSpare spare n devices.new.items }
         ensures since { Since device_of faults devices.old.items devices.new.items }
@@ -138,7 +135,7 @@ impl Machine {
         ensures there { IsThereFor self.now.banks result }
         ensures due { IsDue self.now.pace self.now.steps result }
     {
-        wish(&self.logic.bus(Word::ZERO, Word::ZERO), self.banks)
+        wish(&self.bus, self.banks)
     }
 
     /// What is said of the address that is to be read.
@@ -210,16 +207,15 @@ impl Machine {
     {
         log_line(&mut self.log, brought.line);
         note_repair(&mut self.repairs, brought.repair);
-        self.logic.step(
-            order,
-            &self.script,
-            &self.active,
-            self.steps,
-            brought.memory,
-            brought.port,
-        );
-        let bus = self.logic.bus(Word::ZERO, Word::ZERO);
-        self.end = stop_of(bus.exchange.stop, self.steps);
+        let voted = Bus {
+            memory: brought.memory,
+            port: brought.port,
+            ..self.bus
+        };
+        self.logic
+            .step(order, &self.script, &self.active, self.steps, &voted);
+        self.bus = self.logic.bus(Word::ZERO, Word::ZERO);
+        self.end = stop_of(self.bus.exchange.stop, self.steps);
         self.steps += 1;
     }
 
@@ -248,7 +244,7 @@ impl Machine {
                 );
             }
             Err(_) => {
-                self.end = Some(Outcome::Stopped {
+                self.end = Some(KeptEnd::Stopped {
                     step: self.steps,
                     stop: Stop::Memory(at),
                 });
@@ -408,12 +404,12 @@ impl Machine {
     }
 
     /// Keeps an end of a step that was begun and isn't made.
-    fn stop(&mut self, end: Outcome) -> Option<Outcome>
-        ensures new { self.new ≡ record self.old { end = Some end } }
-        ensures answer { result ≡ Some end }
+    fn stop(&mut self, end: KeptEnd) -> Option<Outcome>
+        ensures new { self.new ≡ record self.old { end = Some (outcome_of end) } }
+        ensures answer { result ≡ self.new.end }
     {
         self.end = Some(end);
-        self.end
+        self.ended()
     }
 
     /// Keeps the end that a failed device is. The step isn't made.
@@ -421,11 +417,10 @@ impl Machine {
         ensures new { self.new ≡ record self.old { end = Some (Device self.old.steps port) } }
         ensures answer { result ≡ self.new.end }
     {
-        self.end = Some(Outcome::Device {
+        self.stop(KeptEnd::Device {
             step: self.steps,
             port,
-        });
-        self.end
+        })
     }
 
     /// Makes the next step of a machine that runs.
@@ -438,10 +433,8 @@ impl Machine {
         requires left { self.old.steps < 3 * self.old.limit }
         requires distinct { AreDistinct (map device_of devices.old.items) }
         requires room { HasSpare spare (exchanges_left self.old.pace self.old.steps self.old.limit) devices.old.items }
-        ensures resumes { (o : Trial) (first : Voted) (n : ℕ) → StandsFrom o first n self.old (map device_of devices.old.items)
+        ensures stands { (o : Trial) (first : Voted) (n : ℕ) → StandsFrom o first n self.old (map device_of devices.old.items)
             → StandsFrom o first (n + 1) self.new (map device_of devices.new.items) }
-        ensures stands { (o : Trial) (t : ℕ) → Stands o t self.old (map device_of devices.old.items)
-            → Stands o (t + 1) self.new (map device_of devices.new.items) }
         ensures answer { result ≡ self.new.end }
         ensures through { self.old.mode ≡ Through → (verdict : Verdict) → self.new.end ≢ Some (Inadmissible verdict) }
         ensures keeps { Keeps self.old self.new }
@@ -450,20 +443,17 @@ impl Machine {
         ensures room { HasSpare spare (exchanges_left self.new.pace self.new.steps self.new.limit) devices.new.items }
         ensures left { (port : ℕ) → has_port device_of port devices.new.items ≡ true
             → has_port device_of port devices.old.items ≡ true }
-        ensures cause { Caused (answer_of_end self.new.end)
-            (λ port. count_at device_of faults port devices.old.items)
-            (λ port. count_at device_of faults port devices.new.items)
-            (λ port. has_port device_of port devices.new.items) }
+        ensures cause { HasCause device_of faults (answer_of_end self.new.end) devices.old.items devices.new.items }
     {
         self.unplug_due(devices);
         self.begin();
         let wanted = self.wanted();
         match self.verdict(&wanted) {
             Verdict::Admissible => match self.exchange(order, wanted, devices) {
-                Ok(()) => self.end,
+                Ok(()) => self.ended(),
                 Err(port) => self.fail(port),
             },
-            verdict => self.stop(Outcome::Inadmissible(verdict)),
+            verdict => self.stop(KeptEnd::Inadmissible(verdict)),
         }
     }
 }

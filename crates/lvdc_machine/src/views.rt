@@ -51,7 +51,7 @@ impl Machine {
         ensures registers { result ≡ visible_of self.now }
         ensures few { result.times ≤ Self.LIMIT }
     {
-        registers_on(&self.logic.bus(Word::ZERO, Word::ZERO), self.steps)
+        registers_on(&self.bus, self.steps)
     }
 
     /// The intended word of an address whose bank is there, where it can be recovered.
@@ -131,14 +131,15 @@ impl Machine {
     pub fn holding(&self) -> bool
         ensures { IsTrue result ↔ (0 < hold (bus_of_votes self.now.copies)) }
     {
-        self.logic.bus(Word::ZERO, Word::ZERO).timer.hold.value() % 8 > 0
+        self.bus.timer.hold.value() % 8 > 0
     }
 
     /// The end that has come; none where every call has answered `Done`.
     pub fn ended(&self) -> Option<Outcome>
         ensures { result ≡ self.now.end }
     {
-        self.end
+        let end = self.end?;
+        Some(end.outcome())
     }
 
     /// Which pairs of memory modules are simplex, as it was given.

@@ -24,10 +24,12 @@ use Rattle.lvdc_memory.proofs.Carrying.{cell-carries}
 
 -- ---- one event more
 
+-- one event more comes after all others
 pub stuck_after-push : (step twin : ℕ) (place : Spot) (es : List Event) (e : Event) (s : Stuck) → stuck_after step twin place (es ++ e ∷ []) s ≡ stuck_by step twin place e (stuck_after step twin place es s)
 stuck_after-push step twin place [] e s = refl
 stuck_after-push step twin place (x ∷ es) e s = stuck_after-push step twin place es e (stuck_by step twin place x s)
 
+-- and is one more that may pass
 pub list_any-push : {X : Type 0} (p : X → Bool) → (xs : List X) (x : X) → list_any p (xs ++ x ∷ []) ≡ (list_any p xs || p x)
 list_any-push p xs x = list_any-append p xs (x ∷ []) ∙ ap (λ (b : Bool). list_any p xs || b) (or-false (p x))
 
@@ -71,6 +73,7 @@ damage-carries law step before twin place when mask s u t whole here two active 
 
 -- ---- what is stuck
 
+-- equality either way round
 pub eqb-flip : (a b : ℕ) → (a == b) ≡ (b == a)
 eqb-flip a b = by_case (a == b) refl
   where
@@ -85,6 +88,7 @@ changed-where false false f x y z e same k = k
 changed-where true false f x y z e same k = absurd (true≢false e)
 changed-where false true f x y z e same k = absurd (true≢false (sym e))
 
+-- a condition that holds can be left out
 and_true : (a b : Bool) → b ≡ true → (a && b) ≡ a
 and_true true b e = e
 and_true false b e = refl
@@ -113,6 +117,7 @@ stick-carries law same step before twin at first last mask value s u t whole her
 
 -- ---- which twins are dead
 
+-- what was marked or is marked here
 marked-where : (p q d c : Bool) → p ≡ q → d ≡ c → cond p true d ≡ (c || q)
 marked-where true true d true e k = refl
 marked-where true true d false e k = refl
@@ -136,6 +141,7 @@ dead-carries law step before twin pair first last s u t whole small two active h
 
 -- ---- all events of a step
 
+-- the damage of one event more comes after that of all others
 pub damages-push : (step : ℕ) (es : List Event) (e : Event) (t : Twins) → damages step (es ++ e ∷ []) t ≡ damages_by step e (damages step es t)
 damages-push step [] e t = refl
 damages-push step (x ∷ es) e t = damages-push step es e (damages_by step x t)
@@ -145,11 +151,13 @@ idle-damages : (step : ℕ) (e : Event) (t : Twins) → is_active step e ≡ fal
 idle-damages step (Damage twin place when mask) t h = ap (λ (b : Bool). cond b (model.with_place t twin place (bit_xor (word_at (t.cells twin) place) mask)) t) h
 idle-damages step _ t h = refl
 
+-- an event that doesn't damage can be left out
 damages-step : (step : ℕ) (b : Bool) (e : Event) (es fs : List Event) (t : Twins) → (b ≡ false → damages_by step e t ≡ t)
     → ((u : Twins) → damages step fs u ≡ damages step es u) → damages step (cond b (e ∷ fs) fs) t ≡ damages step (e ∷ es) t
 damages-step step true e es fs t idle rest = rest (damages_by step e t)
 damages-step step false e es fs t idle rest = rest t ∙ ap (damages step es) (sym (idle refl))
 
+-- only the events of a step damage in it
 pub damages-active : (step : ℕ) (es : List Event) (t : Twins) → damages step (active_events es step) t ≡ damages step es t
 damages-active step [] t = refl
 damages-active step (e ∷ es) t = damages-step step (is_active step e) e es (active_events es step) t (idle-damages step e t) (damages-active step es)

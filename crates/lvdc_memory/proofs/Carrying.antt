@@ -1,7 +1,6 @@
 -- What reads and stores of two twins leave is what the voted machine's twins are left with.
-use Rattle.std.proofs.Common.{◌≡◌, ℕ, zero, suc, ◌-◌, ◌/◌, ◌%◌, ◌<◌, Bool, true, false, cond, ◌&&◌, List, Option, None, Some, Result, Ok, Err, IfOk, IfSome, slice_index, slice_set, refl, sym, ap, ◌∙◌, subst, arith, bit_xor}
+use Rattle.std.proofs.Common.{◌≡◌, ℕ, zero, suc, ◌-◌, ◌/◌, ◌%◌, ◌<◌, Bool, true, false, cond, ◌&&◌, List, Option, None, Some, Result, Ok, Err, IfOk, IfSome, slice_index, slice_set, refl, sym, ap, ◌∙◌, subst, arith}
 use Rattle.std.specs.Prelude.{◌==◌}
-use Rattle.std.specs.Int.Bits.{and_zero_r, xor_zero_r}
 use Rattle.lvdc_word.specs.Cell.{code_of, with_stuck}
 use Rattle.lvdc_map.specs.Address.{Spot, is_same}
 use Rattle.lvdc_map.specs.Banks.{is_simplex, home, holds}
@@ -19,10 +18,12 @@ use Rattle.lvdc_model.specs.Known.{shows_since}
 use Rattle.lvdc_model.specs.Trial.{Trial}
 use Rattle.lvdc_model.specs.Twins as model
 use Rattle.lvdc_model.specs.Twins.{Twins, shows, answer_by, after_read, after_store}
+use Rattle.lvdc_model.proofs.Stuck.{nothing-stuck}
 use Rattle.lvdc_memory.specs.Holds.{Kept, Carries, Holds}
 
 -- ---- one cell
 
+-- both sides of a condition
 cond-same : {X : Type 0} (b : Bool) (p q x y : X) → p ≡ q → x ≡ y → cond b p x ≡ cond b q y
 cond-same true p q x y e f = e
 cond-same false p q x y e f = f
@@ -65,6 +66,7 @@ shown-carries o step s t twin at here two h =
     λ i. cond (h.dead twin two (home at).pair here.pair i) 0
     (with_stuck (h.cells twin two (home at) here i) (h.stuck twin two (home at) here i).mask (h.stuck twin two (home at) here i).value)
 
+-- a read answers alike, by whether the pair is simplex
 answer-carries : (b : Bool) (o : Trial) (step : ℕ) (s : Store) (t : Twins) (at : Spot) → IsStore s → IsPlace (home at) → at.pair < 8 → Carries (Some step) o.script s t
     → cond b (calls.answer_by_one (shown_in s (at.pair / 4) (home at)))
     (calls.answer_by_two (slice_index s.selected (home at).pair) (shown_in s (slice_index s.selected (home at).pair) (home at)) (shown_in s (1 - slice_index s.selected (home at).pair) (home at)))
@@ -108,11 +110,13 @@ read-carries law (Err bad) o step s t at whole here small h = tt
 
 -- ---- a store
 
+-- a twin that holds the address is stored in alike, and one that doesn't not at all
 held-carries : ChangesAreLocal → (b : Bool) (o : Trial) (step : ℕ) (s : Store) (t : Twins) (twin : ℕ) (at : Spot) (w : ℕ) → IsStore s → IsPlace (home at) → twin < 2
     → Carries (Some step) o.script s t → Carries (Some step) o.script (cond b (store.with_word s twin (home at) w) s) (cond b (model.with_word o step t twin at w) t)
 held-carries law true o step s t twin at w whole here two h = word-carries law o step s t twin at w whole here two h
 held-carries law false o step s t twin at w whole here two h = h
 
+-- so of one twin
 one-carries : ChangesAreLocal → (o : Trial) (step : ℕ) (s : Store) (t : Twins) (twin : ℕ) (at : Spot) (w : ℕ) → IsStore s → IsPlace (home at) → twin < 2 → s.banks ≡ o.opening.banks
     → Carries (Some step) o.script s t → Carries (Some step) o.script (calls.with_held s twin at w) (model.with_held o step twin at w t)
 one-carries law o step s t twin at w whole here two banks h =
@@ -128,19 +132,16 @@ store-carries law o step s t at w whole here banks h =
 
 -- ---- what can be recovered
 
-nothing_stuck : (cell : ℕ) → with_stuck cell 0 0 ≡ cell
-unfolding with_stuck
-nothing_stuck cell = ap (bit_xor cell) (and_zero_r (bit_xor cell 0)) ∙ xor_zero_r cell
-
 -- what a twin shows with what is in force
 pub shown-since : (in_force : Option ℕ) (o : Trial) (s : Store) (t : Twins) (twin : ℕ) (at : Spot) → IsPlace (home at) → twin < 2 → Carries in_force o.script s t
     → shown_in s twin (home at) ≡ shows_since in_force o t twin at
 shown-since None o s t twin at here two h =
     (λ i. cond (h.dead twin two (home at).pair here.pair i) 0
     (with_stuck (h.cells twin two (home at) here i) (h.stuck twin two (home at) here i).mask (h.stuck twin two (home at) here i).value))
-    ∙ nothing_stuck (model.cell_at t twin at)
+    ∙ nothing-stuck (model.cell_at t twin at)
 shown-since (Some step) o s t twin at here two h = shown-carries o step s t twin at here two h
 
+-- what can be recovered is the same by equal cells
 recovered_by : (b : Bool) (bank cell : ℕ) (f g : ℕ → ℕ) → bank < 8 → ((twin : ℕ) → twin < 2 → f twin ≡ g twin) → recovers_by b bank cell f ≡ recovers_by b bank cell g
 recovered_by true bank cell f g small same = ap (λ (c : ℕ). c == cell) (same (bank / 4) (omega arith))
 recovered_by false bank cell f g small same = λ i. survives cell (same 0 (omega arith) i) (same 1 (omega arith) i)

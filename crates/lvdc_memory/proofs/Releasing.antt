@@ -28,10 +28,12 @@ tests test (Some e) = test e
 abbrev pub passes : (Event → Bool) → List Event → List ℕ → Bool
 passes test script positions = list_any (λ p. tests test (slice_get script p)) positions
 
+-- one position more is one more that may pass
 pub passes-push : (test : Event → Bool) (script : List Event) (ps : List ℕ) (p : ℕ) (e : Event) → slice_get script p ≡ Some e
     → passes test script (ps ++ p ∷ []) ≡ (passes test script ps || test e)
 passes-push test script ps p e here = list_any-push (λ q. tests test (slice_get script q)) ps p ∙ ap (λ (o : Option Event). passes test script ps || tests test o) here
 
+-- an event that isn't in force can be left out
 passes-step : (b : Bool) (test : Event → Bool) (script : List Event) (k : ℕ) (ps : List ℕ) (e : Event) (rest : Bool) → slice_get script k ≡ Some e → passes test script ps ≡ rest
     → passes test script (put_if b k ps) ≡ ((b && test e) || rest)
 passes-step true test script k ps e rest here h = ap (λ (o : Option Event). tests test o || passes test script ps) here ∙ ap (λ (b : Bool). test e || b) h
@@ -45,6 +47,7 @@ passes-from test script step k (e ∷ es) at =
     passes-step (is_active step e) test script k (active_from (suc k) es step) e (list_any (λ x. is_active step x && test x) es) (sym (at 0 ∙ ap (slice_get script) (add-zero k)))
     (passes-from test script step (suc k) es (λ i. let n : k + suc i ≡ suc k + i = omega arith in at (suc i) ∙ ap (slice_get script) n))
 
+-- some event in force passes where some event of the script does
 passes-active : (test : Event → Bool) (script : List Event) (step : ℕ) → passes test script (active_at script step) ≡ list_any (λ e. is_active step e && test e) script
 passes-active test script step = passes-from test script step 0 script (λ i. ap (slice_get script) (sym (zero-add i)))
 
@@ -58,15 +61,18 @@ pub record Released (script : List Event) (positions : List ℕ) (s u : Store) :
   pub cells : u.cells ≡ s.cells
   pub selected : u.selected ≡ s.selected
 
+-- by no event nothing is released
 pub released-none : (script : List Event) (s : Store) → Released script [] s s
 released-none script s = record { stuck = λ twin two place here. refl; dead = λ twin two pair small. refl; cells = refl; selected = refl }
 
+-- released by one or the other
 both_released : {X : Type 0} (a b : Bool) (x y : X) → cond a x (cond b x y) ≡ cond (b || a) x y
 both_released true true x y = refl
 both_released true false x y = refl
 both_released false true x y = refl
 both_released false false x y = refl
 
+-- one event more is released
 pub released-push : (script : List Event) (ps : List ℕ) (p : ℕ) (e : Event) (s u v : Store) → slice_get script p ≡ Some e → Released script ps s u → Releases e u v
     → Released script (ps ++ p ∷ []) s v
 released-push script ps p e s u v here h one =
@@ -85,10 +91,12 @@ released-push script ps p e s u v here h one =
 
 -- ---- all released
 
+-- neither of two
 or_parts : (a b : Bool) → (a || b) ≡ false → (a ≡ false) × (b ≡ false)
 or_parts false b h = (refl, h)
 or_parts true b h = absurd (true≢false h)
 
+-- and, either way round
 other_order : (a b : Bool) → (a && b) ≡ false → (b && a) ≡ false
 other_order true true h = h
 other_order true false h = refl
@@ -101,6 +109,7 @@ unstuck step twin place (Stick w at first last mask value) s h =
     ap (λ (b : Bool). cond b (record { mask = bit_or s.mask mask; value = with_stuck s.value mask value }) s) (other_order (is_within first last step) (w == twin && is_same place at) h)
 unstuck step twin place _ s h = refl
 
+-- where no event sticks there, nothing is stuck
 none-stuck : (step twin : ℕ) (place : Spot) (es : List Event) (s : Stuck) → list_any (λ e. is_active step e && sticks_at twin place e) es ≡ false → stuck_after step twin place es s ≡ s
 none-stuck step twin place [] s h = refl
 none-stuck step twin place (e ∷ es) s h =
@@ -112,12 +121,14 @@ unkilled : (step twin pair : ℕ) (e : Event) → (is_active step e && kills_in 
 unkilled step twin pair (Dead w p first last) h = other_order (is_within first last step) (w == twin && p == pair) h
 unkilled step twin pair _ h = refl
 
+-- where none kills there, nothing is dead
 none-killed : (step twin pair : ℕ) (es : List Event) → list_any (λ e. is_active step e && kills_in twin pair e) es ≡ false → list_any (kills step twin pair) es ≡ false
 none-killed step twin pair [] h = refl
 none-killed step twin pair (e ∷ es) h =
     let parts = or_parts (is_active step e && kills_in twin pair e) (list_any (λ x. is_active step x && kills_in twin pair x) es) h in
     ap (λ (b : Bool). b || list_any (kills step twin pair) es) (unkilled step twin pair e parts.0) ∙ none-killed step twin pair es parts.1
 
+-- cleared, or clear before
 cleared : {X : Type 0} (b : Bool) (x y : X) → (b ≡ false → y ≡ x) → cond b x y ≡ x
 cleared true x y h = refl
 cleared false x y h = h refl

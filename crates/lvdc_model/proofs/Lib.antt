@@ -3,3 +3,4 @@ pub mod VotedRows
 pub mod LongRows
 pub mod ProgramRows
 pub mod SimplexRows
+pub mod Stuck

@@ -13,7 +13,6 @@ use Rattle.lvdc_modules.specs.Rows.{rows}
 use Rattle.lvdc_modules.specs.Wish.{wish}
 use Rattle.lvdc_modules.specs.declared.wanted.Wanted.{Wanted}
 use Rattle.lvdc_modules.specs.declared.wanted.Wanted.TheVariants.{Nothing, Fetch, Operand, Store, PortRead, PortWrite}
-use Rattle.lvdc_plain.specs.Run.{plugged}
 use Rattle.lvdc_plain.specs.declared.records.Exchange.{Exchange}
 use Rattle.lvdc_plain.specs.declared.records.Stop.TheVariants as stops
 use Rattle.lvdc_fault.specs.declared.event.Event.{Event}
@@ -21,7 +20,7 @@ use Rattle.lvdc_fault.specs.declared.event.Event.TheVariants.{Damage}
 use Rattle.lvdc_model.specs.declared.outcome.Outcome.{Outcome}
 use Rattle.lvdc_model.specs.declared.outcome.Outcome.TheVariants as outcomes
 use Rattle.lvdc_model.specs.declared.repair.Repair.{Repair}
-use Rattle.lvdc_model.specs.Trial.{Trial}
+use Rattle.lvdc_model.specs.Trial.{Trial, devices_left}
 use Rattle.lvdc_model.specs.Twins.{Twins, with_place, read_answer, after_read, after_store}
 use Rattle.lvdc_model.specs.Voted.{Voted, voted_bus, next_copies, counted}
 
@@ -42,7 +41,7 @@ damages step (e ∷ es) twins = damages step es (damages_by step e twins)
 abbrev pub prepared : Trial → Voted → Voted
 prepared o v =
     record v {
-      devices = if v.steps % 3 == 0 then plugged o.opening.unplugs (v.steps / 3) v.devices else v.devices;
+      devices = devices_left o.opening.unplugs v.steps v.devices;
       twins = damages v.steps o.script v.twins;
     }
 

@@ -12,12 +12,13 @@ use Rattle.lvdc_model.specs.Trial.{Trial}
 use Rattle.lvdc_model.specs.Twins.{Twins, cell_at, shows}
 use Rattle.lvdc_model.specs.Voted.{Voted}
 
--- the last step that was begun: where a verdict, a device or a read without a good cell ended the run, that step was not made
+-- the last of so many steps made, if one was
 abbrev pub last_made : ℕ → Option ℕ
 last_made zero = None
 last_made (suc step) = Some step
 
--- the same by the end that has come
+-- the last step that was begun, by the end that has come: where a verdict, a device or a read without a good cell ended the run,
+-- it was not made
 abbrev pub last_begun : Option Outcome → ℕ → Option ℕ
 last_begun (Some (Inadmissible verdict)) steps = Some steps
 last_begun (Some (Device step port)) steps = Some steps

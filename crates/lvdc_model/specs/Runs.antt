@@ -18,6 +18,11 @@ use Rattle.lvdc_model.specs.Twins.{shows}
 use Rattle.lvdc_model.specs.Voted.{Voted, voted_start}
 use Rattle.lvdc_model.specs.Exchanges.{prepared, ended, wished, voted_step}
 
+-- the state after so many steps of one kind from a first state
+abbrev pub after_steps : (Voted → Voted) → Voted → ℕ → Voted
+after_steps step first zero = first
+after_steps step first (suc n) = step (after_steps step first n)
+
 -- ---- through every fault
 
 -- one step that no one judges; after an end nothing changes
@@ -25,10 +30,13 @@ abbrev pub through_by : Option Outcome → Trial → Voted → Voted
 through_by (Some e) o v = v
 through_by None o v = voted_step o (prepared o v)
 
+-- the same, by the end that has come
+abbrev pub through_step : Trial → Voted → Voted
+through_step o v = through_by v.end o v
+
 -- the voted machine after so many steps, or fewer where it ends
 abbrev pub through : Trial → ℕ → Voted
-through o zero = voted_start o
-through o (suc n) = through_by (through o n).end o (through o n)
+through o n = after_steps (through_step o) (voted_start o) n
 
 -- ---- guarded
 
@@ -43,10 +51,13 @@ abbrev pub guarded_by : Option Outcome → Trial → Voted → Voted
 guarded_by (Some e) o v = v
 guarded_by None o v = judged_by (judged o v.steps) o (prepared o v)
 
+-- the same, by the end that has come
+abbrev pub guarded_step : Trial → Voted → Voted
+guarded_step o v = guarded_by v.end o v
+
 -- the guarded machine after so many steps, or fewer where it ends
 abbrev pub guarded : Trial → ℕ → Voted
-guarded o zero = voted_start o
-guarded o (suc n) = guarded_by (guarded o n).end o (guarded o n)
+guarded o n = after_steps (guarded_step o) (voted_start o) n
 
 -- ---- guarded by what the machine itself has
 
@@ -79,7 +90,10 @@ abbrev pub alone_by : Option Outcome → Trial → Voted → Voted
 alone_by (Some e) o v = v
 alone_by None o v = judged_by (found o (prepared o v)) o (prepared o v)
 
+-- the same, by the end that has come
+abbrev pub alone_step : Trial → Voted → Voted
+alone_step o v = alone_by v.end o v
+
 -- the machine that judges alone, after so many steps, or fewer where it ends
 abbrev pub alone : Trial → ℕ → Voted
-alone o zero = voted_start o
-alone o (suc n) = alone_by (alone o n).end o (alone o n)
+alone o n = after_steps (alone_step o) (voted_start o) n

@@ -1,11 +1,13 @@
 -- A trial: an opening, and the script of faults under which the voted machine runs it.
-use Rattle.std.specs.Prelude.{ℕ, zero, suc, ◌/◌, ◌%◌, List}
+use Rattle.std.specs.Prelude.{ℕ, zero, suc, ◌/◌, ◌%◌, ◌==◌, if◌then◌else◌, List}
 use Rattle.std.specs.declared.option.Option.{Option}
 use Rattle.std.specs.declared.option.Option.TheVariants.{None}
 use Rattle.lvdc_map.specs.Address.{Spot}
+use Rattle.lvdc_port.specs.Device.{Device}
 use Rattle.lvdc_plain.specs.Accesses as accesses
 use Rattle.lvdc_plain.specs.Plain.{PlainState}
-use Rattle.lvdc_plain.specs.Run.{Opening, run}
+use Rattle.lvdc_plain.specs.Run.{Opening, plugged, run}
+use Rattle.lvdc_plain.specs.declared.records.Unplug.{Unplug}
 use Rattle.lvdc_fault.specs.declared.event.Event.{Event}
 
 -- what a voted run depends on, as plain data
@@ -20,6 +22,19 @@ plain_at o k = (run o.opening k).plain
 -- the plain state of the time in which a step lies: a time has three steps
 abbrev pub plain_in : Trial → ℕ → PlainState
 plain_in o step = plain_at o (step / 3)
+
+-- the devices without those that are taken away at the time of a step
+abbrev pub plugged_at : List Unplug → ℕ → List Device → List Device
+plugged_at unplugs step devices = plugged unplugs (step / 3) devices
+
+-- the devices that are left once a step is begun: the first step of a time takes away those of its time
+abbrev pub devices_left : List Unplug → ℕ → List Device → List Device
+devices_left unplugs step devices = if step % 3 == 0 then plugged_at unplugs step devices else devices
+
+-- the devices of the plain run in a step that is begun: those after the whole times before it, without those that are taken away
+-- at its time
+abbrev pub plugged_in : Trial → ℕ → List Device
+plugged_in o step = plugged_at o.opening.unplugs step (run o.opening (step / 3)).devices
 
 -- what a plain state reads of memory in a phase of the time that it begins: in A the instruction, in B the operand
 abbrev pub read_in_phase : ℕ → PlainState → Option Spot

@@ -2,7 +2,7 @@
 use Rattle.std.specs.Prelude.{ℕ, ◌+◌, ◌-◌, Bool, true, false, if◌then◌else◌, List, [], ◌∷◌, ◌++◌, map, replicate, slice_index}
 use Rattle.std.specs.declared.option.Option.{Option}
 use Rattle.std.specs.declared.option.Option.TheVariants.{None}
-use Rattle.lvdc_map.specs.Hop.{bit_of}
+use Rattle.lvdc_word.specs.Word.{bit_of}
 use Rattle.lvdc_map.specs.Memory as memory
 use Rattle.lvdc_port.specs.Device.{Device}
 use Rattle.lvdc_vote.specs.Copies.{Copies, settled, copy_of, vote_of, differs_of}

@@ -9,7 +9,8 @@ use Rattle.std.specs.declared.option.Option.TheVariants.{None, Some}
 use Rattle.lvdc_word.specs.Word.{word_of}
 use Rattle.lvdc_word.specs.Results.{quotient_of}
 use Rattle.lvdc_map.specs.Address.{Spot}
-use Rattle.lvdc_map.specs.Hop.{HopConstant, IsHopConstant, word_of_hop, after, bit_of}
+use Rattle.lvdc_map.specs.Hop.{HopConstant, IsHopConstant, word_of_hop, after}
+use Rattle.lvdc_map.proofs.HopLaws.{word_of_hop-fits}
 use Rattle.lvdc_map.specs.Memory.{word_at}
 use Rattle.lvdc_map.specs.declared.place.Place.{Place}
 use Rattle.lvdc_map.specs.declared.place.Place.TheVariants.{Memory, Pq, Saver}
@@ -39,13 +40,6 @@ quotient_of-fits a m negative = search (rules, word_of-fits)
 
 shifted-fits : (a pattern : ℕ) → shifted a pattern < 2 ^ 26
 shifted-fits a pattern = search (rules, word_of-fits)
-
-bit_of-small : (b : Bool) → bit_of b < 2
-bit_of-small true = omega arith
-bit_of-small false = omega arith
-
-word_of_hop-fits : (h : HopConstant) → IsHopConstant h → word_of_hop h < 2 ^ 26
-word_of_hop-fits h ok = omega (arith, ok.imod, ok.isec, ok.syl, ok.loc, ok.dmod, ok.dsec, bit_of-small h.dupin, bit_of-small h.dupdn)
 
 after-fits : (h : HopConstant) → IsHopConstant h → word_of_hop (after h) < 2 ^ 26
 after-fits h ok = word_of_hop-fits (after h) (record { imod = ok.imod; isec = ok.isec; syl = ok.syl; loc = omega arith; dmod = ok.dmod; dsec = ok.dsec })

@@ -18,6 +18,7 @@ pub use report::{LONGEST_REPORT, report_plain};
 pub use soak::report_soak;
 pub use title::Title;
 pub use voted::report_run;
+pub use words::{put_memory_line, put_unknown_line};
 
 #[cfg(test)]
 mod tests;

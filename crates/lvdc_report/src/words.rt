@@ -14,7 +14,7 @@ use lvdc_text::put_octal;
 use lvdc_word::{NoMemory, Word};
 
 /// Adds the line of a word of memory.
-fn put_memory_line(out: &mut Vec<u8>, at: Address, word: Word) -> Result<(), NoMemory>
+pub fn put_memory_line(out: &mut Vec<u8>, at: Address, word: Word) -> Result<(), NoMemory>
     ensures line { OnOk result (out.new.items ≡ out.old.items ++ memory_line at word) }
     ensures short { OnOk result (length out.new.items ≤ length out.old.items + 23) }
 {
@@ -27,7 +27,7 @@ fn put_memory_line(out: &mut Vec<u8>, at: Address, word: Word) -> Result<(), NoM
 }
 
 /// Adds the line of a word that can't be told.
-fn put_unknown_line(out: &mut Vec<u8>, at: Address) -> Result<(), NoMemory>
+pub fn put_unknown_line(out: &mut Vec<u8>, at: Address) -> Result<(), NoMemory>
     ensures line { OnOk result (out.new.items ≡ out.old.items ++ unknown_line at) }
     ensures short { OnOk result (length out.new.items ≤ length out.old.items + 23) }
 {

@@ -1,4 +1,3 @@
-use Rattle.std.proofs.Common.{refl}
 use Rattle.lvdc_machine.proofs.Again.{made-last}
 use Rattle.lvdc_machine.proofs.resumed.put_last_in_force.Goals as goal
 

@@ -1,5 +1,5 @@
 -- The counts of one module after another.
-use Rattle.std.proofs.Common.{◌≡◌, ℕ, ◌≤◌, List, [], ◌∷◌, ◌++◌, All, refl, sym, ap, ◌∙◌, subst, rules}
+use Rattle.std.proofs.Common.{◌≡◌, ◌≤◌, [], All, refl, sym, ap, ◌∙◌, subst, rules}
 use Rattle.lvdc_logic.specs.Counts.{counts_in}
 use Rattle.lvdc_logic.specs.Listing.{counts_of}
 use Rattle.lvdc_logic.specs.Logic.{LogicState, DifferedAtMost}

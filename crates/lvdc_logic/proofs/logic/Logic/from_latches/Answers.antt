@@ -1,5 +1,5 @@
 -- No count of the list is above the most.
-use Rattle.std.proofs.Common.{◌-◌, ◌≤◌, List, sym, subst}
+use Rattle.std.proofs.Common.{◌-◌, sym, subst}
 use Rattle.lvdc_logic.specs.Logic.{DifferedAtMost}
 use Rattle.lvdc_logic.proofs.Listed.{counts-most, each-most}
 use Rattle.lvdc_logic.proofs.logic.Logic.from_latches.Goals as goal

@@ -1,6 +1,5 @@
 -- The latches of one module after another.
-use Rattle.std.proofs.Common.{◌≡◌, List, [], ◌∷◌, ◌++◌, refl, sym, ap, ◌∙◌}
-use Rattle.lvdc_vote.specs.Copies.{Copies}
+use Rattle.std.proofs.Common.{◌≡◌, [], ◌∷◌, ◌++◌, refl, ap, ◌∙◌}
 use Rattle.lvdc_logic.specs.Latching.{copies_in}
 use Rattle.lvdc_logic.specs.Listing.{copies_of}
 use Rattle.lvdc_logic.specs.Logic.{LogicState}

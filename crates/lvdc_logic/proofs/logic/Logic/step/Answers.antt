@@ -1,8 +1,6 @@
-use Rattle.std.proofs.Common.{◌≡◌, ◌+◌, sym, ◌∙◌, ap, subst, arith}
-use Rattle.lvdc_modules.specs.Rows.{rows}
-use Rattle.lvdc_model.specs.Voted.{next_copies}
+use Rattle.std.proofs.Common.{◌+◌, sym, ◌∙◌, ap, subst, arith}
 use Rattle.lvdc_logic.specs.Logic.{DifferedAtMost}
-use Rattle.lvdc_logic.specs.Latching.{copies_in, new_latches, after_numbers, after_commits}
+use Rattle.lvdc_logic.specs.Latching.{copies_in, after_commits}
 use Rattle.lvdc_logic.specs.Counts.{counts_in}
 use Rattle.lvdc_logic.proofs.Commits.{commits_are}
 use Rattle.lvdc_logic.proofs.Differing.{counted_at_most}
@@ -19,13 +17,10 @@ returns-clause-copies c =
     let step = c.args.step in
     let order = c.args.order.now in
     let t = c.self.inside.triples in
-    let voted = c.voted_bus-voted.result in
+    let voted = c.args.voted.now in
     rw (← c.self.view_is)
     (ap copies_in (c.commit.ensures.value ∙ ap after_commits c.latch_all.ensures.value)
-    ∙ subst
-    (λ bus. copies_in (after_commits (after_numbers t order (new_latches script step t voted))) ≡ next_copies script step 1 rows (copies_in t) (copies_in t) bus)
-    c.voted_bus-voted.ensures
-    (commits_are script step t order voted c.latch_all.ensures.full.all))
+    ∙ commits_are script step t order voted c.latch_all.ensures.full.all)
 
 pub returns-clause-differed : goal.returns-clause-differed
 returns-clause-differed c =

@@ -1,12 +1,10 @@
-use Rattle.std.proofs.Common.{ℕ, ◌+◌, sym, ap, subst, ◌∙◌, arith}
+use Rattle.std.proofs.Common.{ℕ, sym, ap, subst, ◌∙◌, arith}
 use Rattle.lvdc_port.specs.Devices.{HasSpare}
-use Rattle.lvdc_model.specs.Voted.{voted_start}
 use Rattle.lvdc_machine.specs.Room.{exchanges_left}
 use Rattle.lvdc_machine.specs.View.{View}
 use Rattle.lvdc_machine.proofs.Blame.{since-then, made-caused, made-unjudged, fails-has, fails-since}
 use Rattle.lvdc_machine.proofs.Frames.{keeps-then, keeps-begun, keeps-ended, made-most}
 use Rattle.lvdc_machine.proofs.Resuming.{is-prepared, wanted-wished, stands-judged, stands-made, stands-failed}
-use Rattle.lvdc_machine.proofs.Standing.{stands-start, stands-back}
 use Rattle.lvdc_machine.proofs.machine.Machine.advance.Goals as goal
 
 pub exchange-requires-clause-right : goal.exchange-requires-clause-right
@@ -20,41 +18,29 @@ exchange-requires-clause-room g c =
     subst (λ (n : ℕ). HasSpare (λ b. (goal.PortDevice-dyn g (b.vtable, b.value)).spare b.value) n c.unplug_due.new.devices.items)
     (sym (ap (λ (m : View). exchanges_left m.pace m.steps m.limit) c.begin.ensures.new)) (c.unplug_due.ensures.spare _ c.requires.room)
 
-pub returns-in_default-clause-resumes : goal.returns-in_default-clause-resumes
-returns-in_default-clause-resumes g c = λ o r t h.
+pub returns-in_default-clause-stands : goal.returns-in_default-clause-stands
+returns-in_default-clause-stands g c = λ o r t h.
     let p = is-prepared o r t c.args.self.now c.begin.new.self _ _ h c.requires.running c.begin.ensures.new c.begin.ensures.last
     (λ v s. c.begin.ensures.shows o v _ s) c.unplug_due.ensures.devices in
     stands-judged o r t c.begin.new.self c.stop.new.self _ c.verdict.result p
     (c.verdict.ensures.verdict o _ _ p.shows (wanted-wished p.shows _ c.wanted-wanted.ensures.value)) c.in_default.not-Admissible c.stop.ensures.new
 
-pub returns-in-Ok-clause-resumes : goal.returns-in-Ok-clause-resumes
-returns-in-Ok-clause-resumes g c = λ o r t h.
+pub returns-in-Ok-clause-stands : goal.returns-in-Ok-clause-stands
+returns-in-Ok-clause-stands g c = λ o r t h.
     let p = is-prepared o r t c.args.self.now c.begin.new.self _ _ h c.requires.running c.begin.ensures.new c.begin.ensures.last
     (λ v s. c.begin.ensures.shows o v _ s) c.unplug_due.ensures.devices in
     let wish = wanted-wished p.shows _ c.wanted-wanted.ensures.value in
     stands-made o r t c.begin.new.self c.exchange.new.self _ _ c.verdict.result c.wanted-wanted.result p
     (c.verdict.ensures.verdict o _ _ p.shows wish) c.in-Admissible.is wish (λ v s. c.in-Ok.ensures.shows o v s) c.in-Ok.ensures.made
 
-pub returns-in-Err-clause-resumes : goal.returns-in-Err-clause-resumes
-returns-in-Err-clause-resumes g c = λ o r t h.
+pub returns-in-Err-clause-stands : goal.returns-in-Err-clause-stands
+returns-in-Err-clause-stands g c = λ o r t h.
     let p = is-prepared o r t c.args.self.now c.begin.new.self _ _ h c.requires.running c.begin.ensures.new c.begin.ensures.last
     (λ v s. c.begin.ensures.shows o v _ s) c.unplug_due.ensures.devices in
     let wish = wanted-wished p.shows _ c.wanted-wanted.ensures.value in
     stands-failed o r t c.begin.new.self c.fail.new.self _ _ c.verdict.result c.wanted-wanted.result c.in-Err.port p
     (c.verdict.ensures.verdict o _ _ p.shows wish) c.in-Admissible.is wish c.in-Err.ensures.named c.in-Err.ensures.fails.states
     (rw c.in-Err.ensures.unchanged at c.fail.ensures.new)
-
-pub returns-in_default-clause-stands : goal.returns-in_default-clause-stands
-returns-in_default-clause-stands g c = λ o t h.
-    stands-back o (t + 1) _ _ (returns-in_default-clause-resumes g c o (voted_start o) t (stands-start o t _ _ h))
-
-pub returns-in-Ok-clause-stands : goal.returns-in-Ok-clause-stands
-returns-in-Ok-clause-stands g c = λ o t h.
-    stands-back o (t + 1) _ _ (returns-in-Ok-clause-resumes g c o (voted_start o) t (stands-start o t _ _ h))
-
-pub returns-in-Err-clause-stands : goal.returns-in-Err-clause-stands
-returns-in-Err-clause-stands g c = λ o t h.
-    stands-back o (t + 1) _ _ (returns-in-Err-clause-resumes g c o (voted_start o) t (stands-start o t _ _ h))
 
 pub returns-in_default-clause-keeps : goal.returns-in_default-clause-keeps
 returns-in_default-clause-keeps g c =

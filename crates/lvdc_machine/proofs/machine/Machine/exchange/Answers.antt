@@ -1,6 +1,6 @@
 use Rattle.std.proofs.Common.{inl, inr}
 use Rattle.lvdc_port.proofs.Lists.{spare-less}
-use Rattle.lvdc_machine.proofs.Blame.{since-start}
+use Rattle.lvdc_plain.proofs.Causes.{since-start}
 use Rattle.lvdc_machine.proofs.Frames.{made-least}
 use Rattle.lvdc_machine.proofs.Ports.{room-kept}
 use Rattle.lvdc_machine.proofs.machine.Machine.exchange.Goals as goal

@@ -1,5 +1,6 @@
 use Rattle.std.proofs.Common.{length, sym, ap, refl, ◌∙◌, arith}
 use Rattle.lvdc_machine.proofs.Again.{few-repairs, begins-timed, log-whole}
+use Rattle.lvdc_machine.proofs.Standing.{after-none}
 use Rattle.lvdc_machine.proofs.machine.Machine.from_snapshot.Goals as goal
 
 pub invariant_of-result : goal.invariant_of-result
@@ -24,8 +25,8 @@ invariant_of-result g c =
       steps = c.requires.steps;
       limit = c.requires.limit;
       judges = λ e. refl;
-      phase = tt;
       timed = rw (c.in_ok-logic.ensures.copies, c.items.ensures) (begins-timed c.args.snapshot whole);
+      bus = c.bus.ensures;
       going = λ none. rw (c.in_ok-logic.ensures.copies, c.items.ensures) whole.stop;
       logged = rw c.in_ok-log.ensures.items (log-whole c.args.snapshot whole);
       noted = rw c.in_ok-repairs.ensures.items whole.repairs;
@@ -47,5 +48,5 @@ returns-clause-stands g c = λ o v script unplugs banks means left. record {
     end = sym means.end;
   };
   begun = c.in_ok-active.ensures.last;
-  ends = let same = means.steps in omega (arith, same);
+  ends = sym (after-none v.steps ∙ means.steps);
 }

@@ -1,7 +1,7 @@
 use Rattle.std.proofs.Common.{◌%◌, refl, arith}
 use Rattle.lvdc_machine.proofs.Noting.{log-noted, repairs-noted, goes-on}
-use Rattle.lvdc_machine.proofs.Timer.{stays-in-step, stays-in-time}
-use Rattle.lvdc_machine.proofs.Making.{log-room, repair-room, begun-made, ends-made, shows-made}
+use Rattle.lvdc_machine.proofs.Timer.{stays-in-time}
+use Rattle.lvdc_machine.proofs.Making.{log-room, repair-room, begun-made, ends-made, latched-from, shows-made}
 use Rattle.lvdc_machine.proofs.machine.Machine.make.Goals as goal
 
 pub invariant_of-self : goal.invariant_of-self
@@ -28,23 +28,22 @@ invariant_of-self c =
       steps = omega (arith, left);
       limit = c.self.invariant.limit;
       judges = c.self.invariant.judges;
-      phase = rw c.step.ensures.copies (stays-in-step c.self.inside.pace c.self.inside.script c.self.inside.steps c.self.inside.logic.copies
-          c.args.brought.memory c.args.brought.port (λ own. right (c.self.invariant.judges own)) c.self.invariant.phase);
-      timed = rw c.step.ensures.copies (stays-in-time c.self.inside.mode c.self.inside.script c.self.inside.steps c.self.inside.logic.copies
+      timed = rw (latched-from c.self.inside.script c.self.inside.steps _ _ _ c.args.brought c.step.ensures.copies c.self.invariant.bus) (stays-in-time c.self.inside.mode c.self.inside.script c.self.inside.steps c.self.inside.logic.copies
           c.args.brought.memory c.args.brought.port right c.self.invariant.timed);
-      going = λ none. rw c.bus-bus.ensures at (goes-on (c.bus-bus.result.exchange.stop % 4) c.self.inside.steps _ c.stop_of-self-inside.ensures none);
+      bus = c.bus-self-inside.ensures;
+      going = λ none. rw c.bus-self-inside.ensures at (goes-on (c.bus-self-inside.result.exchange.stop % 4) c.self.inside.steps _ c.stop_of-self-inside.ensures none);
       logged = rw c.log_line.ensures.items (log-noted c.self.inside.steps _ c.args.brought.line (rw (← c.self.view_is) at c.requires.dated) c.self.invariant.logged);
       noted = rw c.note_repair.ensures.items (repairs-noted c.self.inside.banks c.self.inside.steps _ c.args.brought.repair (rw (← c.self.view_is) at c.requires.noted) c.self.invariant.noted);
     }
 
 pub returns-clause-shows : goal.returns-clause-shows
 returns-clause-shows c = λ o v ds h.
-    shows-made (rw (← c.self.view_is) at h) c.args.brought _ _ _ _ _ _ c.step.ensures.copies c.step.ensures.counts c.log_line.ensures.items
-    c.note_repair.ensures.items c.bus-bus.ensures c.stop_of-self-inside.ensures
+    shows-made (rw (← c.self.view_is) at h) c.args.brought _ _ _ _ _ _ (latched-from c.self.inside.script c.self.inside.steps _ _ _ c.args.brought c.step.ensures.copies c.self.invariant.bus) c.step.ensures.counts c.log_line.ensures.items
+    c.note_repair.ensures.items c.bus-self-inside.ensures c.stop_of-self-inside.ensures
 
 pub returns-clause-made : goal.returns-clause-made
 returns-clause-made c = rw (← c.self.view_is) (record {
   keeps = record { banks = refl; script = refl; unplugs = refl; limit = refl; mode = refl; pace = refl };
-  begun = begun-made (c.bus-bus.result.exchange.stop % 4) c.self.inside.steps _ _ c.stop_of-self-inside.ensures (rw (← c.self.view_is) at c.requires.begun);
-  ends = ends-made (c.bus-bus.result.exchange.stop % 4) c.self.inside.steps _ c.stop_of-self-inside.ensures;
+  begun = begun-made (c.bus-self-inside.result.exchange.stop % 4) c.self.inside.steps _ _ c.stop_of-self-inside.ensures (rw (← c.self.view_is) at c.requires.begun);
+  ends = ends-made (c.bus-self-inside.result.exchange.stop % 4) c.self.inside.steps _ c.stop_of-self-inside.ensures;
 })

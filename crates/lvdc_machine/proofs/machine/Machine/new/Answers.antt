@@ -2,7 +2,7 @@ use Rattle.std.proofs.Common.{ℕ, refl, sym, ap, subst, ◌∙◌, arith}
 use Rattle.lvdc_port.specs.Devices.{HasSpare, HoldWords}
 use Rattle.lvdc_machine.specs.declared.mode.Pace.{Pace}
 use Rattle.lvdc_machine.specs.Room.{exchanges_left}
-use Rattle.lvdc_machine.proofs.Starting.{stands-start, nothing-within, starts-in-step, starts-in-time, starts-going, judges-by}
+use Rattle.lvdc_machine.proofs.Starting.{stands-start, nothing-within, starts-in-time, starts-going, judges-by}
 use Rattle.lvdc_machine.proofs.Noting.{no-log, no-repairs}
 use Rattle.lvdc_machine.proofs.machine.Machine.new.Goals as goal
 
@@ -37,8 +37,8 @@ invariant_of-result g c = record {
   steps = omega arith;
   limit = c.requires.limit;
   judges = λ e. judges-by c.args.mode (sym c.of-pace.ensures ∙ e);
-  phase = rw c.of-pace.ensures (starts-in-step c.args.mode c.args.start _ c.in_ok-logic.ensures.copies);
   timed = starts-in-time c.args.mode c.args.start _ c.in_ok-logic.ensures.copies;
+  bus = c.bus.ensures;
   going = λ none. starts-going c.args.start _ c.in_ok-logic.ensures.copies;
   logged = rw c.in_ok-log.ensures.items (no-log 0);
   noted = rw c.in_ok-repairs.ensures.items (no-repairs c.args.banks 0);

@@ -1,16 +1,20 @@
-use Rattle.std.proofs.Common.{◌+◌, ◌∙◌}
+use Rattle.std.proofs.Common.{sym, ◌∙◌}
 use Rattle.lvdc_model.specs.Voted.{voted_start}
 use Rattle.lvdc_machine.proofs.Resuming.{stands-kept}
-use Rattle.lvdc_machine.proofs.Standing.{stands-start, stands-back}
 use Rattle.lvdc_machine.proofs.machine.Machine.phase.Goals as goal
 
 pub returns-in-Some-clause-resumes : goal.returns-in-Some-clause-resumes
 returns-in-Some-clause-resumes g c =
-    λ o r t h. stands-kept o r t 1 _ _ c.in-Some.end (rw (← c.self.view_is) c.in-Some.is) h
+    λ o r t h. stands-kept o r t 1 _ _ c.in-Some.end (sym c.ended.ensures ∙ c.in-Some.is) h
 
 pub returns-in-Some-clause-stands : goal.returns-in-Some-clause-stands
-returns-in-Some-clause-stands g c =
-    λ o t h. stands-back o (t + 1) _ _ (returns-in-Some-clause-resumes g c o (voted_start o) t (stands-start o t _ _ h))
+returns-in-Some-clause-stands g c = λ o t h. returns-in-Some-clause-resumes g c o (voted_start o) t h
+
+pub returns-in-Some-advance-clause-stands : goal.returns-in-Some-advance-clause-stands
+returns-in-Some-advance-clause-stands g c = λ o t h. c.in-Some-advance.ensures.stands o (voted_start o) t h
+
+pub returns-in-None-clause-stands : goal.returns-in-None-clause-stands
+returns-in-None-clause-stands g c = λ o t h. c.in-None.ensures.stands o (voted_start o) t h
 
 pub returns-in-Some-clause-guarded : goal.returns-in-Some-clause-guarded
 returns-in-Some-clause-guarded g c = λ mode o t opens h.
@@ -18,8 +22,8 @@ returns-in-Some-clause-guarded g c = λ mode o t opens h.
 
 pub returns-in-Some-advance-clause-guarded : goal.returns-in-Some-advance-clause-guarded
 returns-in-Some-advance-clause-guarded g c = λ mode o t opens h.
-    c.guarded_follows.ensures o _ _ _ opens (c.in-Some-advance.ensures.keeps.mode ∙ mode) (c.in-Some-advance.ensures.stands o t h)
+    c.guarded_follows.ensures o _ _ _ opens (c.in-Some-advance.ensures.keeps.mode ∙ mode) (returns-in-Some-advance-clause-stands g c o t h)
 
 pub returns-in-None-clause-guarded : goal.returns-in-None-clause-guarded
 returns-in-None-clause-guarded g c = λ mode o t opens h.
-    c.guarded_follows.ensures o _ _ _ opens (c.in-None.ensures.keeps.mode ∙ mode) (c.in-None.ensures.stands o t h)
+    c.guarded_follows.ensures o _ _ _ opens (c.in-None.ensures.keeps.mode ∙ mode) (returns-in-None-clause-stands g c o t h)

@@ -1,26 +1,27 @@
 use Rattle.std.proofs.Common.{◌+◌, ◌*◌, refl, sym, ◌∙◌, arith, add-zero, rules}
-use Rattle.lvdc_machine.proofs.Blame.{since-start, since-more, caused-since}
+use Rattle.lvdc_plain.proofs.Causes.{since-start, since-more}
+use Rattle.lvdc_machine.proofs.Blame.{caused-since}
 use Rattle.lvdc_machine.proofs.Frames.{keeps-then}
 use Rattle.lvdc_model.specs.Voted.{voted_start}
 use Rattle.lvdc_machine.proofs.Resuming.{stands-kept, stands-early, stands-next, stands-at}
-use Rattle.lvdc_machine.proofs.Standing.{stands-start, stands-back, stands-times}
+use Rattle.lvdc_machine.proofs.Standing.{stands-times}
 use Rattle.lvdc_machine.proofs.machine.Machine.run.Goals as goal
 
 pub returns-in-Some-clause-resumes : goal.returns-in-Some-clause-resumes
 returns-in-Some-clause-resumes g c =
-    λ o r t h. stands-kept o r t (3 * c.args.times) _ _ c.in-Some.end (rw (← c.self.view_is) c.in-Some.is) h
+    λ o r t h. stands-kept o r t (3 * c.args.times) _ _ c.in-Some.end (sym c.ended.ensures ∙ c.in-Some.is) h
 
 pub returns-in-Some-clause-stands : goal.returns-in-Some-clause-stands
 returns-in-Some-clause-stands g c =
-    λ o t h. stands-back o (t + 3 * c.args.times) _ _ (returns-in-Some-clause-resumes g c o (voted_start o) t (stands-start o t _ _ h))
+    λ o t h. returns-in-Some-clause-resumes g c o (voted_start o) t h
 
 pub returns-in-Some-advance-clause-resumes : goal.returns-in-Some-advance-clause-resumes
 returns-in-Some-advance-clause-resumes g c =
-    λ o r t h. stands-early o r t c.loop-made._made (3 * c.args.times) _ _ _ c.in-Some-advance.ensures.answer c.loop-made-test.true (c.in-Some-advance.ensures.resumes o r (t + c.loop-made._made) (c.loop-made.invariant.resumes o r t h))
+    λ o r t h. stands-early o r t c.loop-made._made (3 * c.args.times) _ _ _ c.in-Some-advance.ensures.answer c.loop-made-test.true (c.in-Some-advance.ensures.stands o r (t + c.loop-made._made) (c.loop-made.invariant.resumes o r t h))
 
 pub returns-in-Some-advance-clause-stands : goal.returns-in-Some-advance-clause-stands
 returns-in-Some-advance-clause-stands g c =
-    λ o t h. stands-back o (t + 3 * c.args.times) _ _ (returns-in-Some-advance-clause-resumes g c o (voted_start o) t (stands-start o t _ _ h))
+    λ o t h. returns-in-Some-advance-clause-resumes g c o (voted_start o) t h
 
 pub returns-in-Some-advance-clause-left : goal.returns-in-Some-advance-clause-left
 returns-in-Some-advance-clause-left g c =
@@ -35,7 +36,7 @@ returns-in-Some-advance-clause-keeps g c = keeps-then c.loop-made.invariant.keep
 
 pub loop-made-preserved : goal.loop-made-preserved
 loop-made-preserved g c = record {
-  resumes = λ o r t h. stands-next o r t c.loop-made._made _ _ (c.in_default-advance.ensures.resumes o r (t + c.loop-made._made) (c.loop-made.invariant.resumes o r t h));
+  resumes = λ o r t h. stands-next o r t c.loop-made._made _ _ (c.in_default-advance.ensures.stands o r (t + c.loop-made._made) (c.loop-made.invariant.resumes o r t h));
   running = sym c.in_default-advance.ensures.answer;
   keeps = keeps-then c.loop-made.invariant.keeps c.in_default-advance.ensures.keeps;
   steps = let before = c.loop-made.invariant.steps in let more = c.in_default-advance.ensures.steps in omega arith;
@@ -50,7 +51,7 @@ returns-clause-resumes g c =
 
 pub returns-clause-stands : goal.returns-clause-stands
 returns-clause-stands g c =
-    λ o t h. stands-back o (t + 3 * c.args.times) _ _ (returns-clause-resumes g c o (voted_start o) t (stands-start o t _ _ h))
+    λ o t h. returns-clause-resumes g c o (voted_start o) t h
 
 pub loop-made-init : goal.loop-made-init
 loop-made-init g c = record {

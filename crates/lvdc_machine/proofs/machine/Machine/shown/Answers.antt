@@ -1,7 +1,5 @@
-use Rattle.std.proofs.Common.{◌∙◌, sym, ap, rules}
-use Rattle.lvdc_model.specs.Voted.{Voted, voted_start}
-use Rattle.lvdc_machine.specs.Stands.{shown_of}
-use Rattle.lvdc_machine.proofs.Standing.{stands-start, state-start}
+use Rattle.std.proofs.Common.{◌∙◌, sym, rules}
+use Rattle.lvdc_model.specs.Voted.{voted_start}
 use Rattle.lvdc_machine.proofs.Telling.{known-is, shown-known, shown-unknown}
 use Rattle.lvdc_machine.proofs.machine.Machine.shown.Goals as goal
 
@@ -14,9 +12,7 @@ returns-then-recoverable-clause-resumed c = λ o r n ds h.
     (rw (← c.self.view_is) (c.intended.ensures o _ _ _ holds))
 
 pub returns-then-recoverable-clause-told : goal.returns-then-recoverable-clause-told
-returns-then-recoverable-clause-told c = λ o t ds h.
-    returns-then-recoverable-clause-resumed c o (voted_start o) t ds (stands-start o t _ ds h)
-    ∙ ap (λ (v : Voted). shown_of o v c.args.at) (state-start c.args.self.now.end c.args.self.now.mode o t)
+returns-then-recoverable-clause-told c = λ o t ds h. returns-then-recoverable-clause-resumed c o (voted_start o) t ds h
 
 pub returns-else-recoverable-clause-resumed : goal.returns-else-recoverable-clause-resumed
 returns-else-recoverable-clause-resumed c = λ o r n ds h.
@@ -26,9 +22,7 @@ returns-else-recoverable-clause-resumed c = λ o r n ds h.
     (sym c.if-recoverable.false ∙ known-is s c.args.at c.recoverable.result h.begun (rw (← c.self.view_is) (c.recoverable.ensures o _ _ _ holds)))
 
 pub returns-else-recoverable-clause-told : goal.returns-else-recoverable-clause-told
-returns-else-recoverable-clause-told c = λ o t ds h.
-    returns-else-recoverable-clause-resumed c o (voted_start o) t ds (stands-start o t _ ds h)
-    ∙ ap (λ (v : Voted). shown_of o v c.args.at) (state-start c.args.self.now.end c.args.self.now.mode o t)
+returns-else-recoverable-clause-told c = λ o t ds h. returns-else-recoverable-clause-resumed c o (voted_start o) t ds h
 
 pub returns-then-recoverable-clause-guarded : goal.returns-then-recoverable-clause-guarded
 returns-then-recoverable-clause-guarded c = λ mode o t ds opens h.

@@ -1,5 +1,5 @@
 -- Twins and intended words have the same banks.
-use Rattle.std.proofs.Common.{◌≡◌, ℕ, sym, ap, ◌∙◌, subst}
+use Rattle.std.proofs.Common.{ℕ, ap, ◌∙◌, subst}
 use Rattle.lvdc_map.specs.Memory.{AllThere}
 use Rattle.lvdc_memory.specs.Holds.{Kept}
 use Rattle.lvdc_memory.proofs.memory.VotedMemory.placed.Goals as goal
