@@ -4,4 +4,5 @@ pub mod Lining
 pub mod Meant
 pub mod Imaging
 pub mod Known
+pub mod Counts
 mod Rows

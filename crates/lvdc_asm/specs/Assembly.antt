@@ -1,8 +1,9 @@
 -- The assembly of a source, or its first refusal.
-use Rattle.std.specs.Prelude.{ℕ, List, [], Result, Ok, Err}
+use Rattle.std.specs.Prelude.{ℕ, ◌≤◌, List, [], length, Result, Ok, Err}
 use Rattle.lvdc_map.specs.Address.{Spot}
 use Rattle.lvdc_map.specs.declared.placed.Placed.{Placed}
-use Rattle.lvdc_source.specs.Lines.{NumberedLine}
+use Rattle.lvdc_text.specs.Lines.{NumberedLine}
+use Rattle.lvdc_source.specs.Items.{AreFew}
 use Rattle.lvdc_source.specs.Source.{source_of}
 use Rattle.lvdc_source.specs.declared.fault.SourceFault.{SourceFault}
 use Rattle.lvdc_source.specs.declared.item.Item.{Item}
@@ -27,6 +28,11 @@ pub record Assembled : Type 0 where
   pub plan : Plan
   pub pool : List (Literal × Spot)
   pub words : List Placed
+
+-- no more items than this, with names as labels, and no more pooled words than items
+pub record IsSmall (assembled : Assembled) (most : ℕ) : Type 0 where
+  pub items : AreFew assembled.items most
+  pub pool : length assembled.pool ≤ length assembled.items
 
 -- before the first line
 abbrev pub start_from : Slots → Progress

@@ -1,6 +1,7 @@
-ghost use Rattle.std.specs.Prelude.{◌≡◌, ◌≢◌, ◌<◌, ◌-◌, ◌^◌, None, Ok, Err, IfOk, IfErr, is_some, length, All};
-ghost use Rattle.lvdc_text.specs.Lines.{IsWithin};
-ghost use Rattle.lvdc_source.specs.Lines.{numbered};
+ghost use Rattle.std.specs.Prelude.{◌≡◌, ◌≢◌, ◌<◌, ◌-◌, ◌^◌, None, Ok, Err, IfOk, IfErr, Some, is_some, length, slice_get, slice_index_or, All};
+ghost use Rattle.std.specs.Map.{values_of};
+ghost use Rattle.lvdc_text.specs.Lines.{IsWithin, numbered};
+ghost use Rattle.lvdc_place.specs.Placement.{IsInPairs};
 ghost use Rattle.lvdc_place.specs.Slots.{set_of};
 ghost use Rattle.lvdc_asm.specs.Assembly.{by_plan, by_names, assembly_of};
 ghost use Rattle.lvdc_asm.specs.Faults.{IsOwn};
@@ -15,9 +16,9 @@ use crate::places::Places;
 use crate::pool::Pool;
 use crate::table::Table;
 use lvdc_image::Image;
-use lvdc_map::Hop;
-use lvdc_place::{Layout, place};
-use lvdc_source::{Program, parse_source};
+use lvdc_map::{Address, Hop};
+use lvdc_place::{Layout, Spot, place};
+use lvdc_source::{Item, Program, parse_source};
 use lvdc_text::Line;
 use std::alloc::Global;
 use std::marker::Model;
@@ -33,7 +34,7 @@ pub struct Assembly {
 }
 
 impl Model for Assembly {
-    ghost use Rattle.std.specs.Prelude.{◌≡◌, None};
+    ghost use Rattle.std.specs.Prelude.{◌≡◌, None, length};
     ghost use Rattle.lvdc_asm.specs.Assembly.{Assembled};
     ghost use Rattle.lvdc_asm.specs.Hop.{plan_at};
 
@@ -41,7 +42,7 @@ impl Model for Assembly {
 
     ghost view = { λ a. record { items = a.program; plan = plan_at a.places.names a.places.layout; pool = a.pool; words = a.image.words } };
 
-    ghost invariant = { λ a. (a.image.start ≡ None) × (a.image.banks ≡ 0) };
+    ghost invariant = { λ a. (a.image.start ≡ None) × (a.image.banks ≡ 0) × (length a.places.layout.spots ≡ length a.program) };
 }
 
 impl Assembly {
@@ -50,6 +51,13 @@ impl Assembly {
         ensures { result.now ≡ record { words = self.now.words; start = None; banks = 0 } }
     {
         &self.image
+    }
+
+    /// The same, as a value of its own. It takes no memory.
+    pub fn into_image(self) -> Image
+        ensures { result ≡ record { words = self.words; start = None; banks = 0 } }
+    {
+        self.image
     }
 
     /// The HOP constant of a line of code by its name, with the data place that is assumed on the line that defines it; none
@@ -65,6 +73,38 @@ impl Assembly {
         ensures { result ≡ is_some (definition_of self.now.plan.names name.now) }
     {
         self.places.names.definition(name).is_some()
+    }
+
+    /// The items of the source, in the order of their lines.
+    pub fn items(&self) -> &[Item]
+        ensures items { result.now ≡ self.now.items }
+        ensures stand { length self.now.plan.spots ≡ length result.now }
+    {
+        self.program.items()
+    }
+
+    /// Where an item stands, counted from 0; none for one that takes no place.
+    pub fn spot(&self, item: usize) -> Option<Spot>
+        requires { item < length self.now.items }
+        ensures value { result ≡ slice_index_or self.now.plan.spots item None }
+        ensures pairs { IsInPairs result }
+    {
+        self.places.layout.spot(item)
+    }
+
+    /// How many words are pooled.
+    pub fn pool_size(&self) -> usize
+        ensures { result ≡ length self.now.pool }
+    {
+        self.pool.size()
+    }
+
+    /// Where a pooled word stands, counted from 0 in the order of their first use.
+    pub fn pooled(&self, index: usize) -> Address
+        requires { index < length self.now.pool }
+        ensures { slice_get (values_of self.now.pool) index ≡ Some result }
+    {
+        self.pool.at(index)
     }
 }
 

@@ -4,6 +4,7 @@
 mod assembly;
 mod data;
 mod fault;
+mod laws;
 mod lines;
 mod location;
 mod names;
@@ -15,6 +16,7 @@ mod target;
 
 pub use assembly::{Assembly, assemble};
 pub use fault::AsmFault;
+pub use laws::assembly_is_small;
 
 #[cfg(test)]
 mod tests;

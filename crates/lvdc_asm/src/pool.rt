@@ -1,5 +1,5 @@
-ghost use Rattle.std.specs.Prelude.{◌≡◌, None, ◌++◌, ◌∷◌, [], OnOk};
-ghost use Rattle.std.specs.Map.{lookup};
+ghost use Rattle.std.specs.Prelude.{◌≡◌, ◌<◌, None, Some, ◌++◌, ◌∷◌, [], length, slice_get, OnOk};
+ghost use Rattle.std.specs.Map.{lookup, values_of};
 ghost use Rattle.lvdc_asm.specs.Pool.{is_same_literal};
 
 use indexmap::IndexMap;
@@ -47,6 +47,21 @@ impl Pool {
         ensures { result ≡ lookup (is_same_literal literal.now) self.now }
     {
         self.words.get(literal).copied()
+    }
+
+    /// How many words are pooled.
+    pub(crate) fn size(&self) -> usize
+        ensures { result ≡ length self.now }
+    {
+        self.words.len()
+    }
+
+    /// Where a pooled word stands, counted from 0 in the order of their first use.
+    pub(crate) fn at(&self, index: usize) -> Address
+        requires { index < length self.now }
+        ensures { slice_get (values_of self.now) index ≡ Some result }
+    {
+        self.words[index]
     }
 
     /// Pools a word at an address.

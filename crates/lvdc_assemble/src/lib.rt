@@ -3,7 +3,11 @@
 
 mod reply;
 
+use lvdc_listing::LONGEST_LISTING;
 pub use reply::{Product, assemble_bytes};
+
+/// The text of a reply has at most so many bytes: a listing is the longest.
+pub const LONGEST_TEXT: usize = LONGEST_LISTING;
 
 #[cfg(test)]
 mod tests;

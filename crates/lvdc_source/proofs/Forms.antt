@@ -23,7 +23,8 @@ use Rattle.lvdc_source.specs.declared.meaning.Meaning.TheVariants as meaning
 use Rattle.lvdc_source.specs.declared.operation.Operation.{Operation}
 use Rattle.lvdc_source.specs.declared.operation.Operation.TheVariants as operation
 use Rattle.lvdc_source.specs.Items.{is_literal, is_octal, is_address, is_pair, takes, IsSector, IsBody}
-use Rattle.lvdc_source.specs.Lines.{NumberedLine, Parts, is_long, is_comment, parts_of}
+use Rattle.lvdc_text.specs.Lines.{NumberedLine, is_long, is_comment}
+use Rattle.lvdc_source.specs.Lines.{Parts, parts_of}
 use Rattle.lvdc_source.specs.Numbers.{octals_of}
 use Rattle.lvdc_source.specs.Operations.{operation_of, is_unlabelled, is_modified, is_code, is_words, is_misplaced}
 use Rattle.lvdc_source.specs.Operands.{octal_of, decimal_of, hop_of, number_in, place_of, place_in, either, address_in, constant_in, literal_in, pair_of, operand_in, is_sector, org_of, words_of, use_of, room_of, body_in}

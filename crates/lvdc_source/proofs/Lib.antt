@@ -1,8 +1,7 @@
-pub mod Decimals
 pub mod Cuts
 pub mod Fields
-pub mod WordCounts
 pub mod LineSteps
 pub mod Forms
 pub mod Programs
+pub mod Labels
 mod Rows

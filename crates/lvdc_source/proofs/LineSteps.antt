@@ -2,7 +2,7 @@
 use Rattle.std.proofs.Common.{◌≡◌, ℕ, ◌+◌, ◌<◌, ◌≤◌, Bool, true, false, List, [], ◌∷◌, ◌++◌, length, get_or, drop, Result, Ok, Err, refl, sym, ap, ◌∙◌, append_assoc}
 use Rattle.std.proofs.lemmas.List.{append-nil, drop_more, drop_all}
 use Rattle.lvdc_text.specs.declared.cutting.Line.{Line}
-use Rattle.lvdc_text.specs.Lines.{part_of}
+use Rattle.lvdc_text.specs.Lines.{part_of, NumberedLine, numbered_line, numbered, is_long, is_comment}
 use Rattle.lvdc_source.specs.declared.fault.SourceFault.{SourceFault}
 use Rattle.lvdc_source.specs.declared.fault.SourceFault.TheVariants.{LineTooLong, MissingEnd, AfterEnd}
 use Rattle.lvdc_source.specs.declared.block.Block.{Block}
@@ -10,17 +10,7 @@ use Rattle.lvdc_source.specs.declared.item.Item.{Item}
 use Rattle.lvdc_source.specs.declared.meaning.Meaning.{Meaning}
 use Rattle.lvdc_source.specs.declared.meaning.Meaning.TheVariants as meaning
 use Rattle.lvdc_source.specs.Items.{block_after}
-use Rattle.lvdc_source.specs.Lines.{NumberedLine, numbered, is_long, is_comment}
 use Rattle.lvdc_source.specs.Source.{meaning_of, open_after, after_end, with_item, by_meaning, items_from}
-
--- a line with its number
-abbrev pub numbered_line : List ℕ → Line → NumberedLine
-numbered_line bytes line = record { number = line.number; text = part_of bytes line }
-
--- the first of the numbered lines
-pub first_numbered : (bytes : List ℕ) (lines : List Line) (index : ℕ) (d : Line) → index < length lines
-    → numbered bytes (drop index lines) ≡ numbered_line bytes (get_or lines index d) ∷ numbered bytes (drop (index + 1) lines)
-first_numbered bytes lines index d l = ap (numbered bytes) (drop_more lines index d l)
 
 -- ---- after END
 
@@ -43,7 +33,7 @@ after_end-none = refl
 module _ (bytes : List ℕ) (index : ℕ) (lines : List Line) (d : Line) (text : List ℕ) (total : Result (List Item) SourceFault)
     (within : index < length lines) (reads : text ≡ part_of bytes (get_or lines index d)) (so_far : after_end (numbered bytes (drop index lines)) ≡ total) where
   here : after_end (numbered_line bytes (get_or lines index d) ∷ numbered bytes (drop (index + 1) lines)) ≡ total
-  here = ap after_end (sym (first_numbered bytes lines index d within)) ∙ so_far
+  here = ap after_end (sym (ap (numbered bytes) (drop_more lines index d within))) ∙ so_far
 
   pub at_long : (tested : Bool) → tested ≡ is_long text → tested ≡ true → total ≡ Err (LineTooLong (get_or lines index d).number)
   at_long tested t e = sym here ∙ after_end-long (numbered_line bytes (get_or lines index d)) (numbered bytes (drop (index + 1) lines)) (ap is_long (sym reads) ∙ sym t ∙ e)
@@ -99,7 +89,7 @@ module _ (bytes : List ℕ) (items : List Item) (block : Block) (next index : �
   by_this told e =
       ap (with_items items) (sym (items_from-line block next (numbered_line bytes (get_or lines index d)) rest told
       (ap (λ (t : List ℕ). meaning_of block (record { number = (get_or lines index d).number; text = t })) (sym reads) ∙ e)))
-      ∙ ap (λ (found : List NumberedLine). with_items items (items_from block next found)) (sym (first_numbered bytes lines index d within)) ∙ so_far
+      ∙ ap (λ (found : List NumberedLine). with_items items (items_from block next found)) (sym (ap (numbered bytes) (drop_more lines index d within))) ∙ so_far
 
   pub at_fault : (fault : SourceFault) → meaning_of block (record { number = (get_or lines index d).number; text = text }) ≡ Err fault → total ≡ Err fault
   at_fault fault e = sym (by_this (Err fault) e)

@@ -9,7 +9,7 @@ use Rattle.lvdc_source.specs.declared.item.Item.{Item}
 use Rattle.lvdc_source.specs.declared.meaning.Meaning.{Meaning}
 use Rattle.lvdc_source.specs.declared.meaning.Meaning.TheVariants as meaning
 use Rattle.lvdc_source.specs.Items.{block_after, IsBody, AreItems, IsProgram}
-use Rattle.lvdc_source.specs.Lines.{NumberedLine, is_long, is_comment}
+use Rattle.lvdc_text.specs.Lines.{NumberedLine, is_long, is_comment}
 use Rattle.lvdc_source.specs.Source.{meaning_of, open_after, after_end, with_item, by_meaning, items_from, source_of}
 use Rattle.lvdc_source.proofs.Forms.{meaning_of-is}
 

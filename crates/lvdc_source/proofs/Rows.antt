@@ -13,7 +13,8 @@ use Rattle.lvdc_source.specs.declared.item.Body.TheVariants.{Code, Org, Words, S
 use Rattle.lvdc_source.specs.declared.item.Item.{Item}
 use Rattle.lvdc_source.specs.Names.{is_name}
 use Rattle.lvdc_source.specs.Numbers.{signed_of, octals_of}
-use Rattle.lvdc_source.specs.Lines.{NumberedLine, parts_of}
+use Rattle.lvdc_text.specs.Lines.{NumberedLine}
+use Rattle.lvdc_source.specs.Lines.{parts_of}
 use Rattle.lvdc_source.specs.Operations.{operation_of}
 use Rattle.lvdc_source.specs.Operands.{address_in, literal_in, body_in}
 use Rattle.lvdc_source.specs.Source.{meaning_of, after_end, items_from, source_of}

@@ -1,5 +1,6 @@
 -- The items of a source: the forms that they have, and the blocks that they stand in.
-use Rattle.std.specs.Prelude.{◌≡◌, ℕ, ◌<◌, ◌≤◌, Bool, true, false, ◌||◌, List, [], ◌∷◌, if◌then◌else◌}
+use Rattle.std.specs.Prelude.{◌≡◌, ℕ, ◌<◌, ◌≤◌, Bool, true, false, ◌||◌, List, [], ◌∷◌, length, if◌then◌else◌}
+use Rattle.std.specs.List.{AllByRecursion}
 use Rattle.std.specs.declared.option.Option.{Option}
 use Rattle.std.specs.declared.option.Option.TheVariants.{None, Some}
 use Rattle.lvdc_isa.specs.Instr.{takes_operand}
@@ -86,3 +87,12 @@ AreItems block (item ∷ items) = IsBody block item.label item.body × AreItems 
 -- the items of a source
 abbrev pub IsProgram : List Item → Type 0
 IsProgram items = AreItems kind.Nowhere items
+
+-- at most the eight characters of a name
+abbrev pub IsShort : Item → Type 0
+IsShort item = length item.label ≤ 8
+
+-- no more items than this, with names as labels
+pub record AreFew (items : List Item) (most : ℕ) : Type 0 where
+  pub count : length items ≤ most
+  pub labels : AllByRecursion IsShort items

@@ -1,26 +1,6 @@
 -- The parts of a line: label, operation and operand, each ended by a blank; what follows is comment.
-use Rattle.std.specs.Prelude.{ℕ, nat_lt, Bool, true, false, not, ◌==◌, ◌||◌, List, [], ◌∷◌, map, length, slice_index_or}
-use Rattle.std.specs.List.{list_all}
-use Rattle.lvdc_text.specs.Lines.{is_blank, word_texts_of, part_of}
-use Rattle.lvdc_text.specs.declared.cutting.Line.{Line}
-
--- the bytes of a line, and its number
-pub record NumberedLine : Type 0 where
-  pub number : ℕ
-  pub text : List ℕ
-
--- these lines of the bytes
-abbrev pub numbered : List ℕ → List Line → List NumberedLine
-numbered bytes lines = map (λ (line : Line). record { number = line.number; text = part_of bytes line }) lines
-
--- above 120 bytes
-abbrev pub is_long : List ℕ → Bool
-is_long text = nat_lt 120 (length text)
-
--- a blank line, or one that begins with `*`
-abbrev pub is_comment : List ℕ → Bool
-is_comment [] = true
-is_comment (b ∷ bs) = b == 42 || list_all is_blank (b ∷ bs)
+use Rattle.std.specs.Prelude.{ℕ, Bool, true, false, not, List, [], ◌∷◌, slice_index_or}
+use Rattle.lvdc_text.specs.Lines.{is_blank, word_texts_of}
 
 -- the parts of a line; one that is missing is empty
 pub record Parts : Type 0 where

@@ -12,7 +12,8 @@ use Rattle.lvdc_source.specs.declared.meaning.Meaning.{Meaning}
 use Rattle.lvdc_source.specs.declared.meaning.Meaning.TheVariants as meaning
 use Rattle.lvdc_source.specs.Items.{block_after}
 use Rattle.lvdc_source.specs.Names.{is_name}
-use Rattle.lvdc_source.specs.Lines.{NumberedLine, Parts, is_long, is_comment, parts_of}
+use Rattle.lvdc_text.specs.Lines.{NumberedLine, is_long, is_comment}
+use Rattle.lvdc_source.specs.Lines.{Parts, parts_of}
 use Rattle.lvdc_source.specs.Operations.{operation_of, is_unlabelled, is_modified, is_misplaced}
 use Rattle.lvdc_source.specs.Operands.{body_in}
 

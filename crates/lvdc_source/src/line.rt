@@ -1,5 +1,6 @@
 ghost use Rattle.std.specs.Prelude.{◌≡◌};
-ghost use Rattle.lvdc_source.specs.Lines.{NumberedLine, Parts};
+ghost use Rattle.lvdc_text.specs.Lines.{NumberedLine};
+ghost use Rattle.lvdc_source.specs.Lines.{Parts};
 ghost use Rattle.lvdc_source.specs.Operations.{operation_of};
 ghost use Rattle.lvdc_source.specs.Source.{is_bad_label, wrong_operand, by_operand, by_parts, meaning_of, Tells};
 
@@ -7,8 +8,9 @@ use crate::bodies::body_in;
 use crate::meaning::Meaning;
 use crate::names::{copy_of, is_name};
 use crate::operation::{Operation, operation_in};
-use crate::parts::{Parts, is_comment, is_long, parts_of};
+use crate::parts::{Parts, parts_of};
 use crate::{Block, Item, SourceFault};
+use lvdc_text::{is_comment, is_long};
 use std::alloc::Global;
 
 /// Is the label no name, or does it stand where none may?

@@ -1,12 +1,9 @@
 ghost use Rattle.std.specs.Prelude.{◌≡◌, ◌≤◌, [], length, map, slice_index_or, All};
-ghost use Rattle.std.specs.List.{list_all};
-ghost use Rattle.lvdc_text.specs.Lines.{IsWithin, part_of, is_blank};
-ghost use Rattle.lvdc_source.specs.Lines.{is_long, is_comment, is_labelled, word_at, parts_of};
+ghost use Rattle.lvdc_text.specs.Lines.{IsWithin, part_of};
+ghost use Rattle.lvdc_source.specs.Lines.{is_labelled, word_at, parts_of};
+ghost use Rattle.lvdc_text.specs.declared.comment.TheConstants.{LONGEST_LINE};
 
-use lvdc_text::{Line, few_tokens, part};
-
-/// The most bytes of a line (this project's profile).
-const LONGEST: usize = 120;
+use lvdc_text::{LONGEST_LINE, Line, few_tokens, is_blank, part};
 
 /// The parts of a line; one that is missing is empty.
 #[derive(Clone, Copy, Debug)]
@@ -14,37 +11,6 @@ pub(crate) struct Parts<'a> {
     pub(crate) label: &'a [u8],
     pub(crate) operation: &'a [u8],
     pub(crate) operand: &'a [u8],
-}
-
-/// Does the line have too many bytes?
-pub(crate) fn is_long(text: &[u8]) -> bool
-    ensures { result ≡ is_long text.now }
-{
-    text.len() > LONGEST
-}
-
-/// Is it a space or a tab?
-fn is_blank(byte: u8) -> bool
-    ensures { result ≡ is_blank byte }
-{
-    byte == b' ' || byte == b'\t'
-}
-
-/// Are all bytes spaces and tabs?
-fn are_blank(text: &[u8]) -> bool
-    ensures { result ≡ list_all is_blank text.now }
-{
-    text.iter().all(|byte| is_blank(*byte))
-}
-
-/// Is the line blank, or does it begin with `*`?
-pub(crate) fn is_comment(text: &[u8]) -> bool
-    ensures { result ≡ is_comment text.now }
-{
-    match text {
-        [] => true,
-        [first, ..] => *first == b'*' || are_blank(text),
-    }
 }
 
 /// Does the line begin with a label?
@@ -71,12 +37,12 @@ fn word_at<'a>(text: &'a [u8], words: &[Line], index: usize) -> &'a [u8]
 /// The parts of a line.
 #[tactic(auto, unfolding(crate::specs::Lines::parts_of))]
 pub(crate) fn parts_of(text: &[u8]) -> Parts<'_>
-    requires { length text.now ≤ 120 }
+    requires { length text.now ≤ LONGEST_LINE }
     ensures label { result.label.now ≡ (parts_of text.now).label }
     ensures operation { result.operation.now ≡ (parts_of text.now).operation }
     ensures operand { result.operand.now ≡ (parts_of text.now).operand }
 {
-    let Some(words) = few_tokens::<LONGEST>(text) else {
+    let Some(words) = few_tokens::<LONGEST_LINE>(text) else {
         unreachable!();
     };
     let words = words.as_slice();

@@ -1,14 +1,12 @@
 ghost use Rattle.std.specs.Prelude.{◌≡◌, ◌≢◌, ◌-◌, ◌^◌, ◌<◌, length, IfOk, IfErr, All, Ok, Err, []};
-ghost use Rattle.lvdc_text.specs.Lines.{IsWithin};
-ghost use Rattle.lvdc_source.specs.Lines.{numbered};
+ghost use Rattle.lvdc_text.specs.Lines.{IsWithin, numbered};
 ghost use Rattle.lvdc_source.specs.Source.{after_end, source_of, Tells};
 ghost use Rattle.lvdc_source.specs.declared.fault.SourceFault.TheVariants.{NoMemory as WantsMemory};
 
 use crate::line::meaning_of;
 use crate::meaning::Meaning;
-use crate::parts::{is_comment, is_long};
 use crate::{Block, Item, Program, SourceFault};
-use lvdc_text::{Line, part};
+use lvdc_text::{Line, is_comment, is_long, part};
 use std::alloc::Global;
 
 /// Whether only comments stand on the lines after END.

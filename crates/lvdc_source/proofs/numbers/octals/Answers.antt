@@ -13,7 +13,7 @@ returns-in_err-number-clause-none c =
     let so_far : with_numbers c.loop-rest.numbers.items (octals_in (slice_split is_comma c.in-Some.fields.now)) ≡ octals_of c.args.text.now =
     rw c.in-Some.is at c.loop-rest.invariant in
     let none : octals_of c.args.text.now ≡ None =
-    at_other c.loop-rest.numbers.items c.in-Some.fields.now (octals_of c.args.text.now) so_far (c.in_err-number.ensures ∙ ap (number_of 8 9) c.cut.ensures.before) in
+    at_other c.loop-rest.numbers.items c.in-Some.fields.now (octals_of c.args.text.now) so_far (c.in_err-number.ensures.value ∙ ap (number_of 8 9) c.cut.ensures.before) in
     rw (c.from_residual.ensures, none) tt
 
 pub returns-then-is_err-clause-none : goal.returns-then-is_err-clause-none
@@ -22,7 +22,7 @@ returns-then-is_err-clause-none c =
     rw c.in-Some.is at c.loop-rest.invariant in
     let exact : length c.loop-rest.numbers.items ≡ 4 = search rules in
     at_full c.loop-rest.numbers.items c.in-Some.fields.now (octals_of c.args.text.now) so_far c.in_ok-number.number (omega arith)
-    (c.in_ok-number.ensures ∙ ap (number_of 8 9) c.cut.ensures.before)
+    (c.in_ok-number.ensures.value ∙ ap (number_of 8 9) c.cut.ensures.before)
 
 pub loop-rest-preserved : goal.loop-rest-preserved
 loop-rest-preserved c =
@@ -31,4 +31,4 @@ loop-rest-preserved c =
     let pushed : c.try_push.new.self.items ≡ c.loop-rest.numbers.items ++ c.in_ok-number.number ∷ [] = search rules in
     rw (pushed, c.cut.ensures.after)
     (at_number c.loop-rest.numbers.items c.in-Some.fields.now (octals_of c.args.text.now) so_far c.in_ok-number.number
-    (c.in_ok-number.ensures ∙ ap (number_of 8 9) c.cut.ensures.before))
+    (c.in_ok-number.ensures.value ∙ ap (number_of 8 9) c.cut.ensures.before))

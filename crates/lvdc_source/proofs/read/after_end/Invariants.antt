@@ -1,5 +1,5 @@
 use Rattle.std.proofs.Common.{◌≡◌, drop}
-use Rattle.lvdc_source.specs.Lines.{numbered}
+use Rattle.lvdc_text.specs.Lines.{numbered}
 use Rattle.lvdc_source.specs.Source.{after_end}
 use Rattle.lvdc_source.proofs.read.after_end.Given as goal
 

@@ -1,4 +1,4 @@
-use Rattle.lvdc_source.specs.Lines.{numbered}
+use Rattle.lvdc_text.specs.Lines.{numbered}
 use Rattle.lvdc_source.proofs.Programs.{source_of-IsProgram}
 use Rattle.lvdc_source.proofs.read.parse_source.Goals as goal
 

@@ -6,7 +6,7 @@ use Rattle.lvdc_text.specs.declared.cutting.Line.{Line}
 use Rattle.lvdc_source.specs.declared.block.Block.{Block}
 use Rattle.lvdc_source.specs.declared.item.Item.{Item}
 use Rattle.lvdc_source.specs.declared.meaning.Meaning.{Meaning}
-use Rattle.lvdc_source.specs.Lines.{numbered}
+use Rattle.lvdc_text.specs.Lines.{numbered}
 use Rattle.lvdc_source.specs.Source.{items_from}
 use Rattle.lvdc_source.proofs.LineSteps.{with_items, at_fault, at_nothing, at_item, at_end, at_end_fault, at_missing_end}
 use Rattle.lvdc_source.proofs.read.read_items.Goals as goal

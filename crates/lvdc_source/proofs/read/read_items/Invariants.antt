@@ -1,5 +1,5 @@
 use Rattle.std.proofs.Common.{◌≡◌, drop}
-use Rattle.lvdc_source.specs.Lines.{numbered}
+use Rattle.lvdc_text.specs.Lines.{numbered}
 use Rattle.lvdc_source.specs.Source.{items_from, source_of}
 use Rattle.lvdc_source.proofs.LineSteps.{with_items}
 use Rattle.lvdc_source.proofs.read.read_items.Given as goal
