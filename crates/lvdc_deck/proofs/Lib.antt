@@ -3,5 +3,7 @@ pub mod Left
 pub mod Ends
 pub mod Steps
 pub mod Banked
-pub mod Soaking
+pub mod Loaded
+pub mod SessionDecks
+pub mod Apart
 mod Rows

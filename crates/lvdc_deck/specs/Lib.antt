@@ -1,4 +1,4 @@
 pub mod Sections
 pub mod Deck
-pub mod Soak
+pub mod Loading
 pub mod Faults

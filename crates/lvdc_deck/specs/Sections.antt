@@ -1,11 +1,11 @@
 -- The sections of a deck after its program, line by line.
-use Rattle.std.specs.Prelude.{◌≡◌, ◌≢◌, ℕ, ◌+◌, ◌^◌, ◌-◌, nat_lt, nat_le, Bool, true, false, ◌&&◌, ◌||◌, ◌==◌, List, [], ◌∷◌, ◌++◌, map, length, codes, if◌then◌else◌, Result, Ok, Err}
-use Rattle.std.specs.List.{list_all, list_any}
+use Rattle.std.specs.Prelude.{◌≡◌, ◌≢◌, ℕ, ◌+◌, ◌^◌, ◌-◌, nat_lt, nat_le, Bool, true, false, ◌&&◌, ◌==◌, List, [], ◌∷◌, ◌++◌, map, length, codes, if◌then◌else◌, Result, Ok, Err}
+use Rattle.std.specs.List.{list_any}
 use Rattle.std.specs.Str.{bytes_eq}
 use Rattle.std.specs.declared.option.Option.{Option}
 use Rattle.std.specs.declared.option.Option.TheVariants.{None, Some}
-use Rattle.lvdc_map.specs.Hop.{HopConstant, hop_of}
-use Rattle.lvdc_text.specs.Lines.{word_texts_of, is_blank}
+use Rattle.lvdc_map.specs.Hop.{hop_of}
+use Rattle.lvdc_text.specs.Lines.{word_texts_of, is_long, is_comment}
 use Rattle.lvdc_text.specs.Numbers.{number_of, plain_number_of, below, word_in}
 use Rattle.lvdc_port.specs.Device.{Device}
 use Rattle.lvdc_port.specs.Supplies.{kind_at}
@@ -15,16 +15,24 @@ use Rattle.lvdc_port.specs.declared.requests.Supply.{Supply}
 use Rattle.lvdc_plain.specs.declared.records.Unplug.{Unplug}
 use Rattle.lvdc_fault.specs.declared.event.Event.{Event}
 use Rattle.lvdc_script_lines.specs.Lines.{fault_in, order_in}
+use Rattle.lvdc_source.specs.Names.{is_name}
+use Rattle.lvdc_deck.specs.declared.TheConstants.{MOST_TIMES, MOST_EVENTS, MOST_ORDERS}
+use Rattle.lvdc_deck.specs.declared.entry.EntryPoint.{EntryPoint}
+use Rattle.lvdc_deck.specs.declared.entry.EntryPoint.TheVariants.{Constant, Name}
 use Rattle.lvdc_deck.specs.declared.fault.DeckFault.{DeckFault}
-use Rattle.lvdc_deck.specs.declared.fault.DeckFault.TheVariants.{NoMemory as WantsMemory, BadSection, BadLine, NoDevice, TooManyEvents, CountTooLarge, NotBuilt}
+use Rattle.lvdc_deck.specs.declared.fault.DeckFault.TheVariants.{NoMemory as WantsMemory, BadSection, BadLine, NoDevice, TooManyEvents, CountTooLarge}
+use Rattle.lvdc_deck.specs.declared.section.ProgramKind.{ProgramKind}
+use Rattle.lvdc_deck.specs.declared.section.ProgramKind.TheVariants.{Image, Source}
 use Rattle.lvdc_deck.specs.declared.section.Section.{Section}
 use Rattle.lvdc_deck.specs.declared.section.Section.TheVariants.{Program, Start, Simplex, Ports, Faults, Order, Run, Debug}
 
--- what the sections have said so far: the section in force, START's constant, SIMPLEX's pairs as a bit each, the words
--- for tapes and the unplug lines in their order, the events of FAULTS, the orders of ORDER, and RUN's count
+-- what the sections have said so far, after a program of this kind: the section in force, the entry point of START, SIMPLEX's
+-- pairs as a bit each, the words for tapes and the unplug lines in their order, the events of FAULTS, the orders of ORDER, and
+-- RUN's count
 pub record Sections : Type 0 where
+  pub kind : ProgramKind
   pub section : Section
-  pub start : Option HopConstant
+  pub start : Option EntryPoint
   pub simplex : ℕ
   pub supplies : List Supply
   pub unplugs : List Unplug
@@ -33,9 +41,10 @@ pub record Sections : Type 0 where
   pub count : Option ℕ
 
 -- before any section
-abbrev pub nothing_said : Sections
-nothing_said =
+abbrev pub nothing_said : ProgramKind → Sections
+nothing_said kind =
     record {
+      kind = kind;
       section = Program;
       start = None;
       simplex = 0;
@@ -47,15 +56,6 @@ nothing_said =
     }
 
 -- ---- lines outside the program's text
-
--- a line of above 120 bytes
-abbrev pub is_long : List ℕ → Bool
-is_long text = nat_lt 120 (length text)
-
--- a blank line or a comment, which begins with `*`
-abbrev pub is_skipped : List ℕ → Bool
-is_skipped [] = true
-is_skipped (b ∷ bs) = b == 42 || list_all is_blank (b ∷ bs)
 
 -- these tokens are one word, and it is this one
 abbrev pub is_word : List ℕ → List (List ℕ) → Bool
@@ -86,10 +86,10 @@ section_of word =
     else (if bytes_eq word (codes "RUN") then Some Run
     else (if bytes_eq word (codes "DEBUG") then Some Debug else None))))))
 
--- the section that isn't built yet: its word alone on a line is refused as such
-abbrev pub is_unbuilt : Section → Bool
-is_unbuilt Debug = true
-is_unbuilt section = false
+-- the last section, in which every line is a command
+abbrev pub is_debug : Section → Bool
+is_debug Debug = true
+is_debug section = false
 
 -- ---- numbers of lines
 
@@ -97,9 +97,9 @@ is_unbuilt section = false
 abbrev pub port_in : List ℕ → Option ℕ
 port_in token = below (2 ^ 8) (number_of 8 3 token)
 
--- an instruction time: a decimal number up to 1,000,000, without a needless zero
+-- an instruction time: a decimal number up to the greatest count, without a needless zero
 abbrev pub time_in : List ℕ → Option ℕ
-time_in token = below 1000001 (plain_number_of 7 token)
+time_in token = below (MOST_TIMES + 1) (plain_number_of 7 token)
 
 -- a word before others, where all were found
 abbrev pub words_with : Option ℕ → Option (List ℕ) → Option (List ℕ)
@@ -114,14 +114,23 @@ words_in (token ∷ tokens) = words_with (word_in token) (words_in tokens)
 
 -- ---- the forms of sections
 
--- START's constant, where it has its form
-abbrev pub with_start : Sections → ℕ → Option ℕ → Result Sections DeckFault
-with_start s number None = Err (BadLine number)
-with_start s number (Some w) = Ok (record s { section = Start; start = Some (hop_of w) })
+-- the entry point that a token after START names: a constant or, after SOURCE, a name
+abbrev pub entry_by : ProgramKind → ℕ → List ℕ → Option ℕ → Option EntryPoint
+entry_by kind number token (Some w) = Some (Constant (hop_of w))
+entry_by Source number token None = if is_name token then Some (Name number token) else None
+entry_by Image number token None = None
 
--- START and a constant
+abbrev pub entry_in : ProgramKind → ℕ → List ℕ → Option EntryPoint
+entry_in kind number token = entry_by kind number token (word_in token)
+
+-- START's entry point, where it has its form
+abbrev pub with_start : Sections → ℕ → Option EntryPoint → Result Sections DeckFault
+with_start s number None = Err (BadLine number)
+with_start s number (Some entry) = Ok (record s { section = Start; start = Some entry })
+
+-- START and an entry point
 abbrev pub start_line : Sections → ℕ → List (List ℕ) → Result Sections DeckFault
-start_line s number (token ∷ []) = with_start s number (word_in token)
+start_line s number (token ∷ []) = with_start s number (entry_in s.kind number token)
 start_line s number tokens = Err (BadLine number)
 
 -- a pair before later ones, where all were found
@@ -161,18 +170,23 @@ abbrev pub order_line : Sections → ℕ → List (List ℕ) → Result Sections
 order_line s number [] = Ok (record s { section = Order })
 order_line s number tokens = Err (BadLine number)
 
--- RUN's count, where it has its form, up to 1,000,000
+-- RUN's count, where it has its form, up to the greatest
 abbrev pub with_count : Sections → ℕ → Option ℕ → Result Sections DeckFault
 with_count s number None = Err (BadLine number)
 with_count s number (Some n) =
-    if nat_lt 1000000 n then Err (CountTooLarge number) else Ok (record s { section = Run; count = Some n })
+    if nat_lt MOST_TIMES n then Err (CountTooLarge number) else Ok (record s { section = Run; count = Some n })
 
 -- RUN and a count of one to nine digits
 abbrev pub run_line : Sections → ℕ → List (List ℕ) → Result Sections DeckFault
 run_line s number (token ∷ []) = with_count s number (number_of 10 9 token)
 run_line s number tokens = Err (BadLine number)
 
--- a section word in its place: that of the unbuilt section has more on its line here
+-- DEBUG alone
+abbrev pub debug_line : Sections → ℕ → List (List ℕ) → Result Sections DeckFault
+debug_line s number [] = Ok (record s { section = Debug })
+debug_line s number tokens = Err (BadLine number)
+
+-- a section word in its place; the program has no word here
 abbrev pub opens : Section → Sections → ℕ → List (List ℕ) → Result Sections DeckFault
 opens Start s number tokens = start_line s number tokens
 opens Simplex s number tokens = simplex_line s number tokens
@@ -180,7 +194,8 @@ opens Ports s number tokens = ports_line s number tokens
 opens Faults s number tokens = faults_line s number tokens
 opens Order s number tokens = order_line s number tokens
 opens Run s number tokens = run_line s number tokens
-opens section s number tokens = Err (BadLine number)
+opens Debug s number tokens = debug_line s number tokens
+opens Program s number tokens = Err (BadLine number)
 
 -- ---- lines of PORTS
 
@@ -234,17 +249,17 @@ port_line devices s number first tokens =
 
 -- ---- lines of FAULTS and ORDER
 
--- an event, where the line has its form; there are at most 65,536
+-- an event, where the line has its form and isn't one too many
 abbrev pub with_event : Sections → ℕ → Option Event → Result Sections DeckFault
 with_event s number None = Err (BadLine number)
 with_event s number (Some event) =
-    if nat_lt (length s.script) 65536 then Ok (record s { script = s.script ++ event ∷ [] }) else Err (TooManyEvents number)
+    if nat_lt (length s.script) MOST_EVENTS then Ok (record s { script = s.script ++ event ∷ [] }) else Err (TooManyEvents number)
 
--- an order, where the line has its form; there are at most sixteen, and one more is a line out of form
+-- an order, where the line has its form; one too many is a line out of form
 abbrev pub with_order : Sections → ℕ → Option (List ℕ) → Result Sections DeckFault
 with_order s number None = Err (BadLine number)
 with_order s number (Some order) =
-    if nat_lt (length s.orders) 16 then Ok (record s { orders = s.orders ++ order ∷ [] }) else Err (BadLine number)
+    if nat_lt (length s.orders) MOST_ORDERS then Ok (record s { orders = s.orders ++ order ∷ [] }) else Err (BadLine number)
 
 -- ---- one line
 
@@ -259,27 +274,21 @@ belongs devices section s number first tokens = Err (BadSection number)
 abbrev pub in_order : Section → Sections → ℕ → List (List ℕ) → Result Sections DeckFault
 in_order section s number tokens = if nat_lt (rank s.section) (rank section) then opens section s number tokens else Err (BadSection number)
 
--- nothing follows the first word
-abbrev pub is_alone : List (List ℕ) → Bool
-is_alone [] = true
-is_alone tokens = false
-
 -- a line by the section that its first word opens
 abbrev pub by_word : List Device → Option Section → Sections → ℕ → List ℕ → List (List ℕ) → Result Sections DeckFault
 by_word devices None s number first tokens = belongs devices s.section s number first tokens
-by_word devices (Some section) s number first tokens =
-    if is_unbuilt section && is_alone tokens then Err (NotBuilt number) else in_order section s number tokens
+by_word devices (Some section) s number first tokens = in_order section s number tokens
 
 -- a line by its tokens
 abbrev pub by_tokens : List Device → Sections → ℕ → List (List ℕ) → Result Sections DeckFault
 by_tokens devices s number [] = Ok s
 by_tokens devices s number (first ∷ tokens) = by_word devices (section_of first) s number first tokens
 
--- what a line with this number makes of the sections before it
+-- what a line with this number, which is no command, makes of the sections before it
 abbrev pub after_line : List Device → Sections → ℕ → List ℕ → Result Sections DeckFault
 after_line devices s number text =
     if is_long text then Err (BadLine number)
-    else (if is_skipped text then Ok s else by_tokens devices s number (word_texts_of text))
+    else (if is_comment text then Ok s else by_tokens devices s number (word_texts_of text))
 
 -- a call made these sections, or was refused by this fault, unless memory ran out
 abbrev pub Makes : {T : Type 0} → Result T DeckFault → Sections → Result Sections DeckFault → Type 0

@@ -4,13 +4,15 @@ use lvdc_map::{Banks, Hop};
 use lvdc_orders::Orders;
 use lvdc_plain::Unplug;
 use lvdc_port::Supply;
+use lvdc_text::Line;
 use lvdc_word::Seq;
 
 /// What a deck asks for.
 #[derive(Debug, Drop)]
 pub struct Deck {
+    /// The image of the program; a source is assembled.
     pub image: Image,
-    /// Where the run starts: START's constant, else the image's, else `000000016`.
+    /// Where the run starts: START's constant or name, else the image's constant, else `000000016`.
     pub start: Hop,
     /// The simplex pairs of the image and of the SIMPLEX line.
     pub banks: Banks,
@@ -24,4 +26,6 @@ pub struct Deck {
     pub orders: Orders,
     /// The instruction times asked for, at most 1,000,000.
     pub count: u64,
+    /// The lines of the commands after DEBUG, in their order.
+    pub commands: Seq<Line>,
 }

@@ -1,6 +1,7 @@
 ghost use Rattle.std.specs.Prelude.{◌≡◌, ◌≤◌, length};
 ghost use Rattle.lvdc_deck.specs.declared.fault.DeckFault.TheVariants.{NoMemory as WantsMemory};
 
+use lvdc_asm::AsmFault;
 use lvdc_image::ImageFault;
 use lvdc_word::NoMemory;
 use std::alloc::{AllocError, AllocFailed};
@@ -30,21 +31,21 @@ pub enum DeckFault {
     /// More than 1,000,000 instruction times are asked for.
     #[error("the count on line {0} is too large")]
     CountTooLarge(u32),
-    /// The section that the line opens isn't built yet.
-    #[error("the section on line {0} is not built")]
-    NotBuilt(u32),
     /// The program is no image.
     #[error(transparent)]
     Image(ImageFault),
+    /// The program is no source that can be assembled, or START names no line of code of it.
+    #[error(transparent)]
+    Asm(AsmFault),
 }
 
 impl DeckFault {
     ghost use Rattle.lvdc_deck.specs.Faults.{name_of, line_of};
 
-    /// The name of the cause, as a refusal tells it; of an image's refusal the image's own.
+    /// The name of the cause, as a refusal tells it; that of an image or of a source is told by its own.
     pub fn name(&self) -> &'static [u8]
         ensures name { result.now ≡ name_of self.now }
-        ensures short { length result.now ≤ 13 }
+        ensures short { length result.now ≤ 16 }
     {
         match self {
             DeckFault::NoMemory => b"NoMemory",
@@ -54,8 +55,8 @@ impl DeckFault {
             DeckFault::NoDevice(_) => b"NoDevice",
             DeckFault::TooManyEvents(_) => b"TooManyEvents",
             DeckFault::CountTooLarge(_) => b"CountTooLarge",
-            DeckFault::NotBuilt(_) => b"NotBuilt",
             DeckFault::Image(fault) => fault.name(),
+            DeckFault::Asm(fault) => fault.name(),
         }
     }
 
@@ -71,8 +72,8 @@ impl DeckFault {
             DeckFault::NoDevice(line) => *line,
             DeckFault::TooManyEvents(line) => *line,
             DeckFault::CountTooLarge(line) => *line,
-            DeckFault::NotBuilt(line) => *line,
             DeckFault::Image(fault) => fault.line(),
+            DeckFault::Asm(fault) => fault.line(),
         }
     }
 }

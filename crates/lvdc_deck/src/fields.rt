@@ -2,14 +2,12 @@ ghost use Rattle.std.specs.Prelude.{◌≡◌, ℕ, ◌+◌, ◌<◌, ◌≤◌,
 ghost use Rattle.lvdc_text.specs.Lines.{IsWithin, part_of};
 ghost use Rattle.lvdc_deck.specs.Sections.{port_in, time_in, words_in, supply_of, pairs_from};
 
+use crate::MOST_TIMES;
 use lvdc_map::Banks;
 use lvdc_port::Supply;
 use lvdc_text::{Line, octal, octal_word, part, plain_decimal};
 use lvdc_word::NoMemory;
 use std::alloc::Global;
-
-/// The greatest count of instruction times (this project's profile).
-pub(crate) const MOST_TIMES: u64 = 1_000_000;
 
 /// A port: one to three octal digits up to 377.
 pub(crate) fn port_in(token: &[u8]) -> Option<u8>
@@ -21,7 +19,7 @@ pub(crate) fn port_in(token: &[u8]) -> Option<u8>
     }
 }
 
-/// An instruction time: a decimal number up to 1,000,000, without a needless zero.
+/// An instruction time: a decimal number up to the greatest count, without a needless zero.
 pub(crate) fn time_in(token: &[u8]) -> Option<u64>
     ensures { result ≡ time_in token.now }
 {

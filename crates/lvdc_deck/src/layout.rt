@@ -1,38 +1,10 @@
 ghost use Rattle.std.specs.Prelude.{◌≡◌, ◌<◌, ◌-◌, ◌^◌, length, map, All};
-ghost use Rattle.std.specs.List.{list_all};
-ghost use Rattle.lvdc_text.specs.Lines.{IsWithin, part_of, is_blank};
-ghost use Rattle.lvdc_deck.specs.Sections.{is_long, is_skipped, is_word, section_of, rank, is_unbuilt};
+ghost use Rattle.lvdc_text.specs.Lines.{IsWithin, part_of};
+ghost use Rattle.lvdc_deck.specs.Sections.{is_word, section_of};
 ghost use Rattle.lvdc_deck.specs.Deck.{opened_by, opening_of, is_end, end_of};
 
-use crate::section::{Opening, Section};
-use lvdc_text::{Line, few_tokens, part};
-
-/// The most bytes of a line outside the program's text (this project's profile).
-const LONGEST: usize = 120;
-
-/// Does the line have too many bytes to stand outside the program's text?
-pub(crate) fn is_long(text: &[u8]) -> bool
-    ensures { result ≡ is_long text.now }
-{
-    text.len() > LONGEST
-}
-
-/// Are all bytes spaces and tabs?
-fn is_blank(text: &[u8]) -> bool
-    ensures { result ≡ list_all is_blank text.now }
-{
-    text.iter().all(|byte| *byte == b' ' || *byte == b'\t')
-}
-
-/// Is the line blank, or a comment?
-pub(crate) fn is_skipped(text: &[u8]) -> bool
-    ensures { result ≡ is_skipped text.now }
-{
-    match text {
-        [] => true,
-        [first, ..] => *first == b'*' || is_blank(text),
-    }
-}
+use crate::section::{Opening, ProgramKind, Section};
+use lvdc_text::{Line, few_tokens, is_comment, is_long, part};
 
 /// Are the tokens this word alone?
 fn is_word(word: &[u8], text: &[u8], tokens: &[Line]) -> bool
@@ -74,9 +46,9 @@ fn opened_by(text: &[u8], tokens: &[Line]) -> Opening
     ensures { result ≡ opened_by (map (part_of text.now) tokens.now) }
 {
     if is_word(b"IMAGE", text, tokens) {
-        Opening::Image
+        Opening::Program(ProgramKind::Image)
     } else if is_word(b"SOURCE", text, tokens) {
-        Opening::Source
+        Opening::Program(ProgramKind::Source)
     } else {
         Opening::Other
     }
@@ -90,7 +62,7 @@ pub(crate) fn opening_of(text: &[u8]) -> Opening
     if is_long(text) {
         return Opening::Long;
     }
-    if is_skipped(text) {
+    if is_comment(text) {
         return Opening::Skipped;
     }
     match few_tokens::<1>(text) {

@@ -1,37 +1,41 @@
-ghost use Rattle.std.specs.Prelude.{◌≡◌, ◌≢◌, ℕ, List, ◌+◌, ◌-◌, ◌^◌, ◌<◌, ◌≤◌, ◌∷◌, length, map, true, IfOk, IfErr, All, Ok, Err};
+ghost use Rattle.std.specs.Prelude.{◌≡◌, ◌≢◌, ℕ, List, ◌+◌, ◌-◌, ◌^◌, ◌<◌, ◌≤◌, ◌∷◌, length, map, true, IfOk, IfErr, All, Ok, Err, bit_or};
+ghost use Rattle.lvdc_map.specs.Hop.{HopConstant};
 ghost use Rattle.lvdc_map.specs.Memory.{are_rising, AllThere};
 ghost use Rattle.lvdc_text.specs.Lines.{IsWithin, part_of, word_texts_of};
 ghost use Rattle.lvdc_orders.specs.Events.{IsEvent};
 ghost use Rattle.lvdc_script_lines.specs.Lines.{fault_in, order_in};
-ghost use Rattle.lvdc_deck.specs.Sections.{nothing_said, start_line, simplex_line, ports_line, faults_line, order_line, run_line, opens, in_order, with_event, with_order, belongs, by_word, by_tokens, after_line, Makes};
-ghost use Rattle.lvdc_deck.specs.Deck.{sections_from, with_program};
+ghost use Rattle.lvdc_deck.specs.Sections.{nothing_said, entry_in, start_line, simplex_line, ports_line, faults_line, order_line, run_line, debug_line, opens, in_order, with_event, with_order, belongs, by_word, by_tokens, after_line, Makes};
+ghost use Rattle.lvdc_deck.specs.Deck.{told_from, count_in, made_of};
+ghost use Rattle.lvdc_text.specs.declared.comment.TheConstants.{LONGEST_LINE};
+ghost use Rattle.lvdc_deck.specs.declared.TheConstants.{MOST_TIMES, MOST_EVENTS};
 ghost use Rattle.lvdc_deck.specs.declared.fault.DeckFault.TheVariants.{NoMemory as WantsMemory};
 
 use crate::banks::in_either;
-use crate::fields::{MOST_TIMES, pairs_in};
-use crate::layout::{is_long, is_skipped, section_of};
-use crate::section::Section;
-use crate::{Deck, DeckFault};
+use crate::commands::commands_in;
+use crate::entry::EntryPoint;
+use crate::fields::pairs_in;
+use crate::layout::section_of;
+use crate::program::Program;
+use crate::section::{ProgramKind, Section};
+use crate::{Deck, DeckFault, MOST_EVENTS, MOST_TIMES};
 use lvdc_fault::Script;
-use lvdc_image::{ImageFault, read_image};
 use lvdc_map::{Banks, Hop};
 use lvdc_orders::Orders;
 use lvdc_plain::Unplug;
 use lvdc_port::{PortDevice, Supply};
 use lvdc_script_lines::{event_of, order_of};
-use lvdc_text::{Line, decimal, octal_word, part, tokens};
-use lvdc_word::{Seq, Word};
+use lvdc_source::is_name;
+use lvdc_text::{Line, decimal, is_comment, is_long, octal_word, part, tokens};
+use lvdc_word::{NoMemory, Seq};
 use std::alloc::Global;
 use std::marker::Model;
 
-/// The most events of a script (this project's profile).
-const MOST_EVENTS: usize = 65_536;
-
-/// What the sections have said so far.
+/// What the sections have said so far, after a program of this kind.
 #[derive(Debug, Drop)]
 pub(crate) struct Said {
+    kind: ProgramKind,
     section: Section,
-    start: Option<Hop>,
+    start: Option<EntryPoint>,
     simplex: Banks,
     pub(crate) supplies: Vec<Supply>,
     pub(crate) unplugs: Vec<Unplug>,
@@ -44,10 +48,12 @@ impl Model for Said {
     ghost use Rattle.std.specs.Prelude.{◌≤◌, length, IfSome, All};
     ghost use Rattle.lvdc_orders.specs.Events.{IsEvent};
     ghost use Rattle.lvdc_deck.specs.Sections.{Sections};
+    ghost use Rattle.lvdc_deck.specs.declared.TheConstants.{MOST_TIMES, MOST_EVENTS};
 
     ghost Value = { Sections };
 
     ghost view = { λ s. record {
+      kind = s.kind;
       section = s.section;
       start = s.start;
       simplex = s.simplex;
@@ -58,15 +64,16 @@ impl Model for Said {
       count = s.count;
     } };
 
-    ghost invariant = { λ s. IfSome s.count (λ count. count ≤ 1000000) × (length s.script ≤ 65536) × All IsEvent s.script };
+    ghost invariant = { λ s. IfSome s.count (λ count. count ≤ MOST_TIMES) × (length s.script ≤ MOST_EVENTS) × All IsEvent s.script };
 }
 
 impl Said {
     /// Before any section.
-    pub(crate) fn new(alloc: Global) -> Said
-        ensures { result ≡ nothing_said }
+    pub(crate) fn new(alloc: Global, kind: ProgramKind) -> Said
+        ensures { result ≡ nothing_said kind }
     {
         Said {
+            kind,
             section: Section::Program,
             start: None,
             simplex: Banks::DUPLEX,
@@ -78,18 +85,46 @@ impl Said {
         }
     }
 
-    fn start_line(&mut self, number: u32, text: &[u8], tokens: &[Line]) -> Result<(), DeckFault>
+    /// The entry point that a token after START names.
+    fn entry_in(
+        &self,
+        alloc: Global,
+        number: u32,
+        token: &[u8],
+    ) -> Result<Option<EntryPoint>, NoMemory>
+        ensures { IfOk result (λ entry. entry ≡ entry_in self.now.kind number token.now) }
+    {
+        if let Some(word) = octal_word(token) {
+            return Ok(Some(EntryPoint::Constant(Hop::of(word))));
+        }
+        if self.kind == ProgramKind::Image || !is_name(token) {
+            return Ok(None);
+        }
+        let name = Vec::from_slice(alloc, token)?;
+        Ok(Some(EntryPoint::Name {
+            number,
+            name: Seq::from_vec(name),
+        }))
+    }
+
+    fn start_line(
+        &mut self,
+        alloc: Global,
+        number: u32,
+        text: &[u8],
+        tokens: &[Line],
+    ) -> Result<(), DeckFault>
         requires { All (IsWithin text.now) tokens.now }
         ensures { Makes result self.new (start_line self.old number (map (part_of text.now) tokens.now)) }
     {
         let [token] = tokens else {
             return Err(DeckFault::BadLine(number));
         };
-        let Some(word) = octal_word(part(text, token)) else {
+        let Some(entry) = self.entry_in(alloc, number, part(text, token))? else {
             return Err(DeckFault::BadLine(number));
         };
         self.section = Section::Start;
-        self.start = Some(Hop::of(word));
+        self.start = Some(entry);
         Ok(())
     }
 
@@ -156,9 +191,20 @@ impl Said {
         Ok(())
     }
 
+    fn debug_line(&mut self, number: u32, text: &[u8], tokens: &[Line]) -> Result<(), DeckFault>
+        ensures { Makes result self.new (debug_line self.old number (map (part_of text.now) tokens.now)) }
+    {
+        if !tokens.is_empty() {
+            return Err(DeckFault::BadLine(number));
+        }
+        self.section = Section::Debug;
+        Ok(())
+    }
+
     /// Takes a line with the word of a section, in its order.
     fn open(
         &mut self,
+        alloc: Global,
         section: Section,
         number: u32,
         text: &[u8],
@@ -171,13 +217,14 @@ impl Said {
             return Err(DeckFault::BadSection(number));
         }
         match section {
-            Section::Start => self.start_line(number, text, tokens),
+            Section::Start => self.start_line(alloc, number, text, tokens),
             Section::Simplex => self.simplex_line(number, text, tokens),
             Section::Ports => self.ports_line(number, text, tokens),
             Section::Faults => self.faults_line(number, text, tokens),
             Section::Order => self.order_line(number, text, tokens),
             Section::Run => self.run_line(number, text, tokens),
-            _ => Err(DeckFault::BadLine(number)),
+            Section::Debug => self.debug_line(number, text, tokens),
+            Section::Program => Err(DeckFault::BadLine(number)),
         }
     }
 
@@ -246,15 +293,12 @@ impl Said {
             return Ok(());
         };
         match section_of(part(text, first)) {
-            Some(section) if section.is_unbuilt() && rest.is_empty() => Err(DeckFault::NotBuilt(
-                number,
-            )),
-            Some(section) => self.open(section, number, text, rest),
+            Some(section) => self.open(alloc, section, number, text, rest),
             None => self.take_other(alloc, devices, number, text, tokens),
         }
     }
 
-    /// Takes a line after the program.
+    /// Takes a line after the program that is no command.
     fn take_line(
         &mut self,
         alloc: Global,
@@ -268,64 +312,77 @@ impl Said {
         if is_long(text) {
             return Err(DeckFault::BadLine(number));
         }
-        if is_skipped(text) {
+        if is_comment(text) {
             return Ok(());
         }
         let tokens = tokens(alloc, text)?;
         self.take_tokens(alloc, devices, number, text, tokens.as_slice())
     }
 
-    /// Takes the lines after the program, in order.
+    /// Takes the lines after the program, in order, and gives the commands among them.
     pub(crate) fn take_lines(
         &mut self,
         alloc: Global,
         devices: &Vec<Box<dyn PortDevice>>,
         bytes: &[u8],
         lines: &[Line],
-    ) -> Result<(), DeckFault>
+    ) -> Result<Vec<Line>, DeckFault>
         requires size { length bytes.now < 2 ^ 32 - 1 }
         requires within { All (IsWithin bytes.now) lines.now }
-        ensures { Makes result self.new (sections_from (map device_of devices.now.items) bytes.now self.old lines.now) }
+        ensures told { IfOk result (λ commands. told_from (map device_of devices.now.items) bytes.now self.old lines.now
+            ≡ Ok (record { sections = self.new; commands = commands.items })) }
+        ensures refusal { IfErr result (λ fault. fault ≢ WantsMemory →
+            told_from (map device_of devices.now.items) bytes.now self.old lines.now ≡ Err fault) }
+        ensures within { IfOk result (λ commands. All (IsWithin bytes.now) commands.items) }
+        ensures short { IfOk result (λ commands. All (λ line. length (part_of bytes.now line) ≤ LONGEST_LINE) commands.items) }
     {
-        for line in lines {
+        for (at, line) in lines.iter().enumerate() {
             match self.take_line(alloc, devices, line.number, part(bytes, line)) {
                 Ok(()) => {}
                 Err(fault) => return Err(fault),
             }
+            if self.section.is_debug() {
+                return commands_in(alloc, bytes, &lines[at + 1..]);
+            }
         }
-        Ok(())
+        Ok(Vec::new(alloc))
     }
 
-    /// The deck of these sections and of the program in these lines of the bytes. A missing RUN is named at `next`.
-    pub(crate) fn with_program(
+    /// The count of RUN. Where it is missing, or DEBUG while a debugger's session is asked for, that is named at `next`.
+    pub(crate) fn count(&self, debugging: bool, next: u32) -> Result<u64, DeckFault>
+        ensures count { result ≡ count_in debugging next self.now }
+        ensures few { IfOk result (λ count. count ≤ MOST_TIMES) }
+    {
+        if debugging && !self.section.is_debug() {
+            return Err(DeckFault::BadSection(next));
+        }
+        match self.count {
+            Some(count) => Ok(count),
+            None => Err(DeckFault::BadSection(next)),
+        }
+    }
+
+    /// The deck of these sections, of the program and of the commands.
+    pub(crate) fn into_deck(
         self,
-        alloc: Global,
-        bytes: &[u8],
-        text: &[Line],
-        next: u32,
+        program: Program,
+        commands: Vec<Line>,
+        count: u64,
     ) -> Result<Deck, DeckFault>
-        requires size { length bytes.now < 2 ^ 32 - 1 }
-        requires within { All (IsWithin bytes.now) text.now }
-        ensures deck { IfOk result (λ deck. with_program bytes.now text.now next self self.count ≡ Ok deck) }
-        ensures refusal { IfErr result (λ fault. fault ≢ WantsMemory → with_program bytes.now text.now next self self.count ≡ Err fault) }
-        ensures count { IfOk result (λ deck. deck.count ≤ 1000000) }
+        requires { count ≤ MOST_TIMES }
+        ensures deck { result ≡ made_of program (record { sections = self; commands = commands.items }) count }
+        ensures commands { IfOk result (λ deck. deck.commands ≡ commands.items) }
+        ensures count { IfOk result (λ deck. deck.count ≤ MOST_TIMES) }
         ensures rising { IfOk result (λ deck. are_rising deck.image.words ≡ true) }
         ensures there { IfOk result (λ deck. AllThere deck.banks deck.image.words) }
-        ensures few { IfOk result (λ deck. length deck.script ≤ 65536) }
+        ensures few { IfOk result (λ deck. length deck.script ≤ MOST_EVENTS) }
         ensures events { IfOk result (λ deck. All IsEvent deck.script) }
     {
-        let Some(count) = self.count else {
-            return Err(DeckFault::BadSection(next));
+        let start = match program.start(&self.start) {
+            Ok(start) => start,
+            Err(fault) => return Err(fault),
         };
-        let image = match read_image(alloc, bytes, text) {
-            Ok(image) => image,
-            Err(ImageFault::NoMemory) => return Err(DeckFault::NoMemory),
-            Err(fault) => return Err(DeckFault::Image(fault)),
-        };
-        let start = match self.start {
-            Some(start) => start,
-            None => image.start().unwrap_or(Hop::of(Word::within(0o16))),
-        };
+        let image = program.into_image();
         let banks = in_either(image.banks(), self.simplex);
         Ok(Deck {
             image,
@@ -336,6 +393,7 @@ impl Said {
             script: self.script,
             orders: self.orders,
             count,
+            commands: Seq::from_vec(commands),
         })
     }
 }

@@ -1,5 +1,5 @@
 ghost use Rattle.std.specs.Prelude.{◌≡◌};
-ghost use Rattle.lvdc_deck.specs.Sections.{rank, is_unbuilt};
+ghost use Rattle.lvdc_deck.specs.Sections.{rank, is_debug};
 
 /// The sections of a deck, in the order in which they stand.
 #[derive(Clone, Copy, Debug, PartialEq, Eq)]
@@ -14,6 +14,13 @@ pub(crate) enum Section {
     Debug,
 }
 
+/// What the text of a deck's program is.
+#[derive(Clone, Copy, Debug, PartialEq, Eq)]
+pub(crate) enum ProgramKind {
+    Image,
+    Source,
+}
+
 /// What a line says that may be a deck's first.
 #[derive(Clone, Copy, Debug, PartialEq, Eq)]
 pub(crate) enum Opening {
@@ -21,8 +28,8 @@ pub(crate) enum Opening {
     Long,
     /// A blank line or a comment.
     Skipped,
-    Image,
-    Source,
+    /// IMAGE or SOURCE.
+    Program(ProgramKind),
     Other,
 }
 
@@ -43,9 +50,9 @@ impl Section {
         }
     }
 
-    /// Is the section the one that isn't built yet?
-    pub(crate) fn is_unbuilt(self) -> bool
-        ensures { result ≡ is_unbuilt self }
+    /// Is it the last section, in which every line is a command?
+    pub(crate) fn is_debug(self) -> bool
+        ensures { result ≡ is_debug self }
     {
         matches!(self, Section::Debug)
     }

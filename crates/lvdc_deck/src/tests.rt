@@ -1,22 +1,27 @@
-use crate::{Deck, DeckFault, read_deck, soak_deck};
-use lvdc_fault::Event;
+use crate::{Deck, DeckFault, read_deck};
 use lvdc_image::ImageFault;
-use lvdc_map::{Address, Banks, Hop};
+use lvdc_map::{Banks, Hop};
 use lvdc_plain::Unplug;
 use lvdc_port::{Latch, PortDevice, Supply, Tape};
-use lvdc_word::{Cell, Word};
+use lvdc_text::Line;
+use lvdc_word::Word;
 use std::alloc::Global;
 use std::test::Fail;
 
 /// The deck of the text over a tape at port 000 and a latch at port 014.
 fn deck(alloc: Global, text: &[u8]) -> Result<Result<Deck, DeckFault>, Fail> {
+    deck_for(alloc, text, false)
+}
+
+/// The same, where a debugger's session is asked for or not.
+fn deck_for(alloc: Global, text: &[u8], debugging: bool) -> Result<Result<Deck, DeckFault>, Fail> {
     if text.len() > 1_000_000 {
         return Err("a text of at most a million bytes".into());
     }
     let mut devices: Vec<Box<dyn PortDevice>> = Vec::new(alloc);
     devices.push(Box::new(alloc, Tape::new(alloc, 0))?)?;
     devices.push(Box::new(alloc, Latch::new(0o14))?)?;
-    Ok(read_deck(alloc, text, &devices))
+    Ok(read_deck(alloc, text, &devices, debugging))
 }
 
 #[test]
@@ -37,7 +42,10 @@ fn refusals_name_their_lines(rt: HostRuntime) -> Result<(), Fail> {
             b"IMAGE\nLVDC 1\nEND\nPORTS\nTAPE 016 1\n",
             DeckFault::NoDevice(5),
         ),
-        (b"IMAGE\nLVDC 1\nEND\nDEBUG\n", DeckFault::NotBuilt(4)),
+        (
+            b"IMAGE\nLVDC 1\nEND\nRUN 3\nDEBUG X\n",
+            DeckFault::BadLine(5),
+        ),
         (
             b"IMAGE\nLVDC 3\nEND\nRUN 3",
             DeckFault::Image(ImageFault::BadImageLine(2)),
@@ -72,6 +80,23 @@ fn sections_are_kept_in_a_deck(rt: HostRuntime) -> Result<(), Fail> {
     assert_eq!(rt; (deck.script.len(), deck.orders.count()), (1, 1));
     assert_eq!(rt; deck.orders.at_step(2).at(0), 20);
     assert_eq!(rt; deck.count, 4);
+    Ok(())
+}
+
+#[test]
+fn a_source_and_a_session_are_kept_in_a_deck(rt: HostRuntime) -> Result<(), Fail> {
+    let text =
+        b"SOURCE\n        CODE\n        HOP   000\nMAIN    CLA   000\n        END\nSTART MAIN\nRUN 2\nDEBUG\n* NOTE\nRUN 4\n";
+    let deck = deck_for(rt.alloc(), text.as_slice(), true)??;
+    assert_eq!(rt; deck.image.words().len(), 2);
+    assert_eq!(rt; deck.start, Hop::of(Word::within(0o2016)));
+    assert_eq!(rt; deck.count, 2);
+    let command = Line {
+        number: 10,
+        start: 98,
+        end: 103,
+    };
+    assert_eq!(rt; deck.commands.items(), [command].as_slice());
     Ok(())
 }
 
@@ -133,40 +158,6 @@ fn without_start_the_image_says_where_to_start(rt: HostRuntime) -> Result<(), Fa
     )??;
     assert_eq!(rt; two.start, Hop::of(Word::within(0o216)));
     assert_eq!(rt; Some(two.banks), Banks::new(3));
-    Ok(())
-}
-
-#[test]
-fn a_soak_deck_is_drawn_from_its_number(rt: HostRuntime) -> Result<(), Fail> {
-    for (number, first, mask) in [
-        (0, 0o000001403, 0o1000000000),
-        (1, 0o007063752, 0o200),
-        (u32::MAX, 0o370717034, 0o100000),
-    ] {
-        let deck = soak_deck(rt.alloc(), number)?;
-        assert_eq!(rt; deck.image.words().len(), 18);
-        assert_eq!(rt; deck.image.words()[12].word, Word::within(0o10000));
-        assert_eq!(rt; deck.image.words()[13].word, Word::within(first));
-        assert_eq!(rt;
-            deck.image.words()[17].at,
-            Address::new(0, 1, 4).ok_or("an address")?
-        );
-        assert_eq!(rt; deck.start, Hop::of(Word::within(0o16)));
-        assert_eq!(rt;
-            (deck.supplies.items().len(), deck.unplugs.items().len()),
-            (0, 0)
-        );
-        assert_eq!(rt; (deck.script.len(), deck.count), (4096, 200_000));
-        assert_eq!(rt;
-            deck.script.event(4095),
-            &Event::Damage {
-                twin: 0,
-                at: Address::new(0, 0, 7).ok_or("an address")?,
-                step: 597_870,
-                mask: Cell::within(mask),
-            }
-        );
-    }
     Ok(())
 }
 

@@ -1,13 +1,13 @@
 -- What the answer of a job is by its deck, and what it tells.
-use Rattle.std.proofs.Common.{◌≡◌, ◌≢◌, ℕ, ◌*◌, List, map, Result, Ok, Err, OnErr, refl, sym, subst, ap, ◌∙◌, inl, inr, ◌⊎◌, arith}
+use Rattle.std.proofs.Common.{◌≡◌, ℕ, ◌*◌, false, List, map, Result, Ok, Err, OnErr, refl, sym, subst, ap, ◌∙◌, inl, inr, ◌⊎◌, arith}
 use Rattle.lvdc_port.specs.Device.{Device}
 use Rattle.lvdc_model.specs.Runs.{guarded}
 use Rattle.lvdc_model.specs.Trial.{Trial}
 use Rattle.lvdc_deck.specs.Deck.{deck_of}
-use Rattle.lvdc_deck.specs.Soak.{soak_of}
+use Rattle.lvdc_soak.specs.Soak.{soak_of}
 use Rattle.lvdc_deck.specs.declared.deck.Deck.{Deck}
 use Rattle.lvdc_deck.specs.declared.fault.DeckFault.{DeckFault}
-use Rattle.lvdc_deck.specs.declared.fault.DeckFault.TheVariants.{NoMemory, BadSection, BadLine, NoProgram, NoDevice, TooManyEvents, CountTooLarge, NotBuilt, Image}
+use Rattle.lvdc_deck.specs.declared.fault.DeckFault.TheVariants.{NoMemory, BadSection, BadLine, NoProgram, NoDevice, TooManyEvents, CountTooLarge, Image, Asm}
 use Rattle.lvdc_report.specs.Voted.{wrong_text, repairs_text}
 use Rattle.lvdc_reply.specs.Answer.{Answer, answer_with, refusal_text}
 use Rattle.lvdc_reply.specs.Replies as reply
@@ -22,7 +22,7 @@ use Rattle.lvdc_deck.specs.Faults.{name_of, line_of}
 use Rattle.lvdc_run.specs.Refusals.{refusal_status, refused_answer}
 use Rattle.lvdc_run.specs.Answers.{run_answer, failed_answer, deck_answer, job_answer}
 use Rattle.lvdc_run.specs.Runs.{Means, HasRunThat}
-use Rattle.lvdc_run.specs.Replies.{IsRun, made, failed, IsRunOf, IsAnswered, refused, ran, FailsInRun, IsJobReply, IsUnreported, IsUnanswered, untouched, begun}
+use Rattle.lvdc_run.specs.Replies.{made, failed, IsRunOf, IsAnswered, refused, ran, FailsInRun, IsJobReply, IsUnreported, IsUnanswered, untouched, begun}
 use Rattle.lvdc_run.proofs.Statuses.{IsMadeStatus, made-status, failed-status}
 
 -- ---- statuses
@@ -35,7 +35,7 @@ made-unfailed n (inr (inr e)) = inr (inr (inr (inr (inr e))))
 made-kept : {X : Type 0} (n : ℕ) → IsMadeStatus n → IsRefused n → X
 made-kept n h r = absurd (omega (arith, h.is, r))
 
-refusal_is : (fault : DeckFault) → (refusal_status fault ≡ 2) ⊎ (refusal_status fault ≡ 4)
+refusal_is : (fault : DeckFault) → IsRefused (refusal_status fault)
 refusal_is NoMemory = inl refl
 refusal_is (BadSection line) = inl refl
 refusal_is (BadLine line) = inl refl
@@ -43,12 +43,13 @@ refusal_is (NoProgram line) = inl refl
 refusal_is (NoDevice line) = inl refl
 refusal_is (TooManyEvents line) = inl refl
 refusal_is (CountTooLarge line) = inl refl
-refusal_is (NotBuilt line) = inl refl
-refusal_is (Image fault) = inr refl
+refusal_is (Image fault) = inr (inr refl)
+refusal_is (Asm fault) = inr (inl refl)
 
-refused-unfailed : (n : ℕ) → (n ≡ 2) ⊎ (n ≡ 4) → IsUnfailed n
+refused-unfailed : (n : ℕ) → IsRefused n → IsUnfailed n
 refused-unfailed n (inl e) = inr (inl e)
-refused-unfailed n (inr e) = inr (inr (inr (inl e)))
+refused-unfailed n (inr (inl e)) = inr (inr (inl e))
+refused-unfailed n (inr (inr e)) = inr (inr (inr (inl e)))
 
 -- ---- the answer of a job
 
@@ -60,7 +61,7 @@ job_answer-ran (job.Soak number) bytes devices deck means = ap (λ (d : Deck). r
 
 -- or the refusal of its deck
 job_answer-refused : (j : Job) (engine : Engine) (bytes : List ℕ) (devices : List Device) (fault : DeckFault) → j ≡ job.Deck engine
-    → deck_of bytes devices ≡ Err fault → refused_answer devices fault ≡ job_answer j bytes devices
+    → deck_of bytes devices false ≡ Err fault → refused_answer devices fault ≡ job_answer j bytes devices
 job_answer-refused j engine bytes devices fault is means =
     sym (ap (λ (k : Job). job_answer k bytes devices) is ∙ ap (deck_answer engine devices) means)
 
@@ -100,7 +101,7 @@ job_replied {device_of} {faults} j k bytes {old} {new} due is h =
 
 -- the reply to a refused deck, by its parts
 pub refused_by : {B : Type 0} (device_of : B → Device) (faults : B → ℕ) (engine : Engine) (bytes : List ℕ) (old : List B) (fault : DeckFault) (status : ℕ) (text : List ℕ)
-    → deck_of bytes (map device_of old) ≡ Err fault → status ≡ refusal_status fault → text ≡ refusal_text (name_of fault) (line_of fault)
+    → deck_of bytes (map device_of old) false ≡ Err fault → status ≡ refusal_status fault → text ≡ refusal_text (name_of fault) (line_of fault)
     → IsAnswered device_of faults (job.Deck engine) bytes old old (answer_with status text (map device_of old))
 refused_by device_of faults engine bytes old fault status text means s t =
     let same : refused_answer (map device_of old) fault ≡ answer_with status text (map device_of old) = λ i. answer_with (sym s i) (sym t i) (map device_of old) in
@@ -126,16 +127,16 @@ soak_unanswered device_of faults number bytes old new (Err e) h = h bytes
 -- ---- what the answer tells
 
 -- a status says what the run comes to
-pub job_has : (P : Job → Trial → ℕ → Type 0) (n : ℕ) → n ≢ 2 → n ≢ 4
+pub job_has : (P : Job → Trial → ℕ → Type 0) (n : ℕ) → (IsRefused n → ⊥)
     → ((j : Job) (o : Trial) (times : ℕ) → (run_answer j o times).status ≡ n → P j o times)
     → (j : Job) (bytes : List ℕ) (devices : List Device) → (job_answer j bytes devices).status ≡ n → HasRunThat P j bytes devices
-job_has P n no_2 no_4 law (job.Deck engine) bytes devices e = by_deck (deck_of bytes devices) refl e
+job_has P n kept law (job.Deck engine) bytes devices e = by_deck (deck_of bytes devices false) refl e
   where
-    by_deck : (r : Result Deck DeckFault) → deck_of bytes devices ≡ r → (deck_answer engine devices r).status ≡ n
+    by_deck : (r : Result Deck DeckFault) → deck_of bytes devices false ≡ r → (deck_answer engine devices r).status ≡ n
         → HasRunThat P (job.Deck engine) bytes devices
     by_deck (Ok deck) means e = record { deck = deck; means = means; comes = law (job.Deck engine) (trial_of devices deck) deck.count e }
-    by_deck (Err fault) means e = absurd (omega (arith, e, no_2, no_4, refusal_is fault))
-job_has P n no_2 no_4 law (job.Soak number) bytes devices e =
+    by_deck (Err fault) means e = absurd (kept (subst IsRefused e (refusal_is fault)))
+job_has P n kept law (job.Soak number) bytes devices e =
     record { deck = soak_of number; means = refl; comes = law (job.Soak number) (trial_of devices (soak_of number)) (soak_of number).count e }
 
 -- and the other way round
@@ -153,7 +154,7 @@ account-headline o n =
     }
 
 -- the headline of a deck
-pub job-headline : (bytes : List ℕ) (devices : List Device) (deck : Deck) → deck_of bytes devices ≡ Ok deck
+pub job-headline : (bytes : List ℕ) (devices : List Device) (deck : Deck) → deck_of bytes devices false ≡ Ok deck
     → Headline (trial_of devices deck) deck.count (job_answer (job.Deck Guarded) bytes devices).text (job_answer (job.Deck Guarded) bytes devices).devices
 job-headline bytes devices deck means =
     subst (λ (a : Answer). Headline (trial_of devices deck) deck.count a.text a.devices) (job_answer-ran (job.Deck Guarded) bytes devices deck means)

@@ -5,4 +5,5 @@ pub mod Statuses
 pub mod PlainRuns
 pub mod VotedRuns
 pub mod Making
+pub mod Loading
 pub mod Jobs

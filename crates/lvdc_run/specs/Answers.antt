@@ -1,5 +1,5 @@
 -- The answer to a job over bytes and devices: a status, the text that is written, and what the devices are then.
-use Rattle.std.specs.Prelude.{ℕ, ◌*◌, List, ◌++◌, codes, length, Result, Ok, Err}
+use Rattle.std.specs.Prelude.{ℕ, ◌*◌, false, List, ◌++◌, codes, length, Result, Ok, Err}
 use Rattle.lvdc_port.specs.Device as device
 use Rattle.lvdc_plain.specs.Plain.{World}
 use Rattle.lvdc_plain.specs.Run.{run}
@@ -13,7 +13,7 @@ use Rattle.lvdc_model.specs.Trial.{Trial, plain_in}
 use Rattle.lvdc_model.specs.Voted.{Voted}
 use Rattle.lvdc_machine.specs.View.{answer_of_end}
 use Rattle.lvdc_deck.specs.Deck.{deck_of}
-use Rattle.lvdc_deck.specs.Soak.{soak_of}
+use Rattle.lvdc_soak.specs.Soak.{soak_of}
 use Rattle.lvdc_deck.specs.declared.deck.Deck.{Deck}
 use Rattle.lvdc_deck.specs.declared.fault.DeckFault.{DeckFault}
 use Rattle.lvdc_report.specs.Report.{report_text, outcome_of, end_text, times_line, word_line}
@@ -89,5 +89,5 @@ deck_answer engine devices (Err fault) = refused_answer devices fault
 
 -- the answer to a job over these bytes and devices, where no device fails
 abbrev pub job_answer : Job → List ℕ → List device.Device → Answer
-job_answer (job.Deck engine) bytes devices = deck_answer engine devices (deck_of bytes devices)
+job_answer (job.Deck engine) bytes devices = deck_answer engine devices (deck_of bytes devices false)
 job_answer (job.Soak number) bytes devices = run_answer (job.Soak number) (trial_of devices (soak_of number)) (soak_of number).count

@@ -2,6 +2,7 @@ pub mod Trials
 pub mod Refusals
 pub mod Accounts
 pub mod Headline
+pub mod Loaded
 pub mod Answers
 pub mod Runs
 pub mod Replies

@@ -1,5 +1,5 @@
 -- How a job is answered over devices that may fail, and what a want of memory leaves of them.
-use Rattle.std.specs.Prelude.{◌≡◌, ℕ, List, map, take, Ok, Err}
+use Rattle.std.specs.Prelude.{◌≡◌, ℕ, false, List, map, take, Err}
 use Rattle.lvdc_port.specs.Device.{Device}
 use Rattle.lvdc_port.specs.Supplies.{supplied}
 use Rattle.lvdc_model.specs.Trial.{Trial}
@@ -31,7 +31,7 @@ IsRunOf device_of faults j deck old new due = IsRun device_of faults j (trial_of
 
 -- How the deck of a job is answered: it is refused, and the devices are the same objects as before; or it is run.
 pub data IsAnswered {B : Type 0} (device_of : B → Device) (faults : B → ℕ) (j : Job) (bytes : List ℕ) (old new : List B) : Answer → Type 0 where
-  refused : (engine : Engine) (fault : DeckFault) → j ≡ job.Deck engine → deck_of bytes (map device_of old) ≡ Err fault → new ≡ old
+  refused : (engine : Engine) (fault : DeckFault) → j ≡ job.Deck engine → deck_of bytes (map device_of old) false ≡ Err fault → new ≡ old
       → IsAnswered device_of faults j bytes old new (refused_answer (map device_of old) fault)
   ran : (deck : Deck) (due : Answer) → Means j bytes (map device_of old) deck → IsRunOf device_of faults j deck old new due
       → IsAnswered device_of faults j bytes old new due

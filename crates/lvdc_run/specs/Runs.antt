@@ -1,5 +1,5 @@
 -- What the run of a job comes to: where a device may fail, the first inadmissible step, a stop.
-use Rattle.std.specs.Prelude.{◌≡◌, ◌≢◌, ℕ, suc, ◌*◌, ◌<◌, List, IsSome, Ok}
+use Rattle.std.specs.Prelude.{◌≡◌, ◌≢◌, ℕ, suc, ◌*◌, ◌<◌, false, List, IsSome, Ok}
 use Rattle.std.specs.declared.option.Option.{Option}
 use Rattle.std.specs.declared.option.Option.TheVariants.{None, Some}
 use Rattle.lvdc_port.specs.Device as device
@@ -13,7 +13,7 @@ use Rattle.lvdc_machine.specs.Guarded.{IsExchanged}
 use Rattle.lvdc_machine.specs.Stands.{HasFailed}
 use Rattle.lvdc_machine.specs.declared.mode.Mode.TheVariants as modes
 use Rattle.lvdc_deck.specs.Deck.{deck_of}
-use Rattle.lvdc_deck.specs.Soak.{soak_of}
+use Rattle.lvdc_soak.specs.Soak.{soak_of}
 use Rattle.lvdc_deck.specs.declared.deck.Deck.{Deck}
 use Rattle.lvdc_run.specs.declared.job.Engine.TheVariants.{Guarded, Through, Plain}
 use Rattle.lvdc_run.specs.declared.job.Job.{Job}
@@ -22,7 +22,7 @@ use Rattle.lvdc_run.specs.Trials.{trial_of}
 
 -- the deck of a job: that which the bytes mean, or that which its number draws
 abbrev pub Means : Job → List ℕ → List device.Device → Deck → Type 0
-Means (job.Deck engine) bytes devices deck = deck_of bytes devices ≡ Ok deck
+Means (job.Deck engine) bytes devices deck = deck_of bytes devices false ≡ Ok deck
 Means (job.Soak number) bytes devices deck = deck ≡ soak_of number
 
 -- ---- devices that may fail

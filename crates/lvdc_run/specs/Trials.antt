@@ -6,6 +6,7 @@ use Rattle.lvdc_port.specs.Supplies.{supplied}
 use Rattle.lvdc_plain.specs.Run.{plugged, run}
 use Rattle.lvdc_orders.specs.Events.{IsEvent}
 use Rattle.lvdc_model.specs.Trial.{Trial}
+use Rattle.lvdc_deck.specs.declared.TheConstants.{MOST_TIMES, MOST_EVENTS}
 use Rattle.lvdc_deck.specs.declared.deck.Deck.{Deck}
 
 -- the trial of a deck over these devices: the words of its TAPE lines stand behind those that the tapes have
@@ -29,8 +30,8 @@ devices_in o step = plugged o.opening.unplugs (step / 3) (run o.opening (step / 
 
 -- what is true of each deck that is read or drawn
 pub record IsRunnable (deck : Deck) : Type 0 where
-  pub count : deck.count ≤ 1000000
+  pub count : deck.count ≤ MOST_TIMES
   pub rising : are_rising deck.image.words ≡ true
   pub there : AllThere deck.banks deck.image.words
-  pub few : length deck.script ≤ 65536
+  pub few : length deck.script ≤ MOST_EVENTS
   pub events : All IsEvent deck.script

@@ -1,23 +1,37 @@
 //! What the answers of jobs tell, as laws over their definitions: functions that do nothing.
 
-ghost use Rattle.std.specs.Prelude.{◌≡◌, ℕ, List, Ok};
+ghost use Rattle.std.specs.Prelude.{◌≡◌, ℕ, false, List, Some, Ok};
 ghost use Rattle.lvdc_port.specs.Device.{Device};
+ghost use Rattle.lvdc_text.specs.Lines.{NumberedLine};
+ghost use Rattle.lvdc_asm.specs.Assembly.{assembly_of};
 ghost use Rattle.lvdc_deck.specs.Deck.{deck_of};
+ghost use Rattle.lvdc_deck.specs.Loading.{source_in};
 ghost use Rattle.lvdc_deck.specs.declared.deck.Deck.{Deck};
 ghost use Rattle.lvdc_run.specs.Trials.{trial_of};
 ghost use Rattle.lvdc_run.specs.Headline.{Headline};
+ghost use Rattle.lvdc_run.specs.Loaded.{StartsWith};
 ghost use Rattle.lvdc_run.specs.Answers.{job_answer};
 ghost use Rattle.lvdc_run.specs.Runs.{Judges, Stops, HasRunThat};
 ghost use Rattle.lvdc_run.specs.declared.job.Engine.TheVariants as engines;
 ghost use Rattle.lvdc_run.specs.declared.job.Job.{Job};
 ghost use Rattle.lvdc_run.specs.declared.job.Job.TheVariants as jobs;
 
+use lvdc_deck::source_is_assembled;
+
 /// The answer of `run` to a deck carries the headline.
 pub fn headline_told()
-    ensures { (bytes : List ℕ) (devices : List Device) (deck : Deck) → deck_of bytes devices ≡ Ok deck →
+    ensures { (bytes : List ℕ) (devices : List Device) (deck : Deck) → deck_of bytes devices false ≡ Ok deck →
         Headline (trial_of devices deck) deck.count (job_answer (jobs.Deck engines.Guarded) bytes devices).text
         (job_answer (jobs.Deck engines.Guarded) bytes devices).devices }
 {}
+
+/// A run of a deck that begins with a source starts with exactly the words that assembling the source's lines gives.
+pub fn source_is_loaded()
+    ensures { (bytes : List ℕ) (devices : List Device) (deck : Deck) (source : List NumberedLine) → deck_of bytes devices false ≡ Ok deck →
+        source_in bytes ≡ Some source → StartsWith (trial_of devices deck) (assembly_of source) }
+{
+    source_is_assembled();
+}
 
 /// The statuses 5 and 6 have their causes in the run of the job.
 pub fn statuses_caused()

@@ -8,8 +8,9 @@ mod refusal;
 mod runs;
 
 pub use job::{Engine, Job};
-pub use laws::{headline_told, statuses_caused};
-pub use perform::run_job;
+pub use laws::{headline_told, source_is_loaded, statuses_caused};
+pub use perform::{refuse, run_job};
+pub use runs::end_status;
 
 #[cfg(test)]
 mod tests;

@@ -40,7 +40,7 @@ fn run_deck(
 }
 
 /// The reply to a refused deck.
-fn refuse(alloc: Global, fault: DeckFault) -> Result<Reply, NoMemory>
+pub fn refuse(alloc: Global, fault: DeckFault) -> Result<Reply, NoMemory>
     ensures refused { OnOk result (fault ≢ WantsMemory) }
     ensures status { IfOk result (λ reply. reply.status ≡ refusal_status fault) }
     ensures text { IfOk result (λ reply. reply.text ≡ refusal_text (name_of fault) (line_of fault)) }
@@ -66,7 +66,7 @@ fn run_bytes(
     ensures unanswered { OnErr result (IsUnanswered device_of faults (jobs.Deck engine) bytes.now devices.old.items devices.new.items) }
     ensures room { IfOk result (λ reply. length reply.text ≤ LONGEST_REPORT) }
 {
-    match read_deck(alloc, bytes, devices) {
+    match read_deck(alloc, bytes, devices, false) {
         Ok(deck) => {
             let reply = run_deck(alloc, engine, deck, devices)?;
             Ok(reply)

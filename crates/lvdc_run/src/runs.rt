@@ -16,12 +16,13 @@ ghost use Rattle.lvdc_run.specs.declared.job.Job.{Job as Asked};
 ghost use Rattle.lvdc_run.specs.declared.job.Job.TheVariants as jobs;
 ghost use Rattle.lvdc_run.specs.declared.job.Engine.TheVariants as engines;
 
-use lvdc_deck::{Deck, soak_deck};
+use lvdc_deck::Deck;
 use lvdc_machine::{Machine, Mode, Outcome, failed_exchange, guarded_follows};
 use lvdc_plain::{Plain, PlainEnd};
 use lvdc_port::{PortDevice, supply_all};
 use lvdc_reply::Reply;
 use lvdc_report::{LONGEST_REPORT, report_plain, report_run, report_soak};
+use lvdc_soak::soak_deck;
 use lvdc_word::{NoMemory, Seq};
 use std::alloc::Global;
 
@@ -40,7 +41,7 @@ struct FinishedPlain {
 }
 
 /// The status of an end.
-fn end_status(end: &Outcome) -> u8
+pub fn end_status(end: &Outcome) -> u8
     ensures { result ≡ end_status end.now }
 {
     match end {

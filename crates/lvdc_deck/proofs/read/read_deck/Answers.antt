@@ -4,29 +4,26 @@ use Rattle.std.proofs.lemmas.Result.{IfOk-weaker, IfErr-weaker}
 use Rattle.lvdc_deck.specs.Deck.{opening_of}
 use Rattle.lvdc_deck.specs.declared.section.Opening.TheVariants as opening
 use Rattle.lvdc_deck.proofs.Tokens.{no_line}
-use Rattle.lvdc_deck.proofs.Steps.{deck-by, deck-image, deck-none}
+use Rattle.lvdc_deck.proofs.Steps.{deck-by, deck-program, deck-none}
 use Rattle.lvdc_deck.proofs.read.read_deck.Goals as goal
 
 pub returns-in-Long-clause-refusal : goal.returns-in-Long-clause-refusal
-returns-in-Long-clause-refusal g c = λ known. sym (deck-by (map (λ b. (goal.PortDevice-dyn g (b.vtable, b.value)).device_of b.value) c.args.devices.now.items) c.args.bytes.now _ c.as_slice-all.result.now c.loop-at.at no_line _ c.loop-at.invariant c.loop-at-test.true opening.Long (sym c.in-Long.is ∙ c.opening_of.ensures ∙ ap opening_of c.part.ensures))
-
-pub returns-in-Source-clause-refusal : goal.returns-in-Source-clause-refusal
-returns-in-Source-clause-refusal g c = λ known. sym (deck-by (map (λ b. (goal.PortDevice-dyn g (b.vtable, b.value)).device_of b.value) c.args.devices.now.items) c.args.bytes.now _ c.as_slice-all.result.now c.loop-at.at no_line _ c.loop-at.invariant c.loop-at-test.true opening.Source (sym c.in-Source.is ∙ c.opening_of.ensures ∙ ap opening_of c.part.ensures))
+returns-in-Long-clause-refusal g c = λ known. sym (deck-by (map (λ b. (goal.PortDevice-dyn g (b.vtable, b.value)).device_of b.value) c.args.devices.now.items) c.args.debugging c.args.bytes.now _ c.as_slice-all.result.now c.loop-at.at no_line _ c.loop-at.invariant c.loop-at-test.true opening.Long (sym c.in-Long.is ∙ c.opening_of.ensures ∙ ap opening_of c.part.ensures))
 
 pub returns-in-Other-clause-refusal : goal.returns-in-Other-clause-refusal
-returns-in-Other-clause-refusal g c = λ known. sym (deck-by (map (λ b. (goal.PortDevice-dyn g (b.vtable, b.value)).device_of b.value) c.args.devices.now.items) c.args.bytes.now _ c.as_slice-all.result.now c.loop-at.at no_line _ c.loop-at.invariant c.loop-at-test.true opening.Other (sym c.in-Other.is ∙ c.opening_of.ensures ∙ ap opening_of c.part.ensures))
+returns-in-Other-clause-refusal g c = λ known. sym (deck-by (map (λ b. (goal.PortDevice-dyn g (b.vtable, b.value)).device_of b.value) c.args.devices.now.items) c.args.debugging c.args.bytes.now _ c.as_slice-all.result.now c.loop-at.at no_line _ c.loop-at.invariant c.loop-at-test.true opening.Other (sym c.in-Other.is ∙ c.opening_of.ensures ∙ ap opening_of c.part.ensures))
 
-pub returns-in-Image-clause-deck : goal.returns-in-Image-clause-deck
-returns-in-Image-clause-deck g c =
-    IfOk-weaker c.read_program.result _ _ (λ deck is. sym (deck-image (map (λ b. (goal.PortDevice-dyn g (b.vtable, b.value)).device_of b.value) c.args.devices.now.items) c.args.bytes.now _ c.as_slice-all.result.now c.loop-at.at no_line _ c.loop-at.invariant c.loop-at-test.true (sym c.in-Image.is ∙ c.opening_of.ensures ∙ ap opening_of c.part.ensures) _ (take_rest c.as_slice-all.result.now (c.loop-at.at + 1))) ∙ is) c.read_program.ensures.deck
+pub returns-in-Program-clause-deck : goal.returns-in-Program-clause-deck
+returns-in-Program-clause-deck g c =
+    IfOk-weaker c.read_program.result _ _ (λ deck is. sym (deck-program (map (λ b. (goal.PortDevice-dyn g (b.vtable, b.value)).device_of b.value) c.args.devices.now.items) c.args.debugging c.args.bytes.now _ c.as_slice-all.result.now c.loop-at.at no_line _ c.loop-at.invariant c.loop-at-test.true c.in-Program.kind (sym c.in-Program.is ∙ c.opening_of.ensures ∙ ap opening_of c.part.ensures) _ (take_rest c.as_slice-all.result.now (c.loop-at.at + 1))) ∙ is) c.read_program.ensures.deck
 
-pub returns-in-Image-clause-refusal : goal.returns-in-Image-clause-refusal
-returns-in-Image-clause-refusal g c =
-    IfErr-weaker c.read_program.result _ _ (λ fault is known. sym (deck-image (map (λ b. (goal.PortDevice-dyn g (b.vtable, b.value)).device_of b.value) c.args.devices.now.items) c.args.bytes.now _ c.as_slice-all.result.now c.loop-at.at no_line _ c.loop-at.invariant c.loop-at-test.true (sym c.in-Image.is ∙ c.opening_of.ensures ∙ ap opening_of c.part.ensures) _ (take_rest c.as_slice-all.result.now (c.loop-at.at + 1))) ∙ is known) c.read_program.ensures.refusal
+pub returns-in-Program-clause-refusal : goal.returns-in-Program-clause-refusal
+returns-in-Program-clause-refusal g c =
+    IfErr-weaker c.read_program.result _ _ (λ fault is known. sym (deck-program (map (λ b. (goal.PortDevice-dyn g (b.vtable, b.value)).device_of b.value) c.args.devices.now.items) c.args.debugging c.args.bytes.now _ c.as_slice-all.result.now c.loop-at.at no_line _ c.loop-at.invariant c.loop-at-test.true c.in-Program.kind (sym c.in-Program.is ∙ c.opening_of.ensures ∙ ap opening_of c.part.ensures) _ (take_rest c.as_slice-all.result.now (c.loop-at.at + 1))) ∙ is known) c.read_program.ensures.refusal
 
 pub loop-at-preserved : goal.loop-at-preserved
-loop-at-preserved g c = deck-by (map (λ b. (goal.PortDevice-dyn g (b.vtable, b.value)).device_of b.value) c.args.devices.now.items) c.args.bytes.now _ c.as_slice-all.result.now c.loop-at.at no_line _ c.loop-at.invariant c.loop-at-test.true opening.Skipped (sym c.in-Skipped.is ∙ c.opening_of.ensures ∙ ap opening_of c.part.ensures)
+loop-at-preserved g c = deck-by (map (λ b. (goal.PortDevice-dyn g (b.vtable, b.value)).device_of b.value) c.args.devices.now.items) c.args.debugging c.args.bytes.now _ c.as_slice-all.result.now c.loop-at.at no_line _ c.loop-at.invariant c.loop-at-test.true opening.Skipped (sym c.in-Skipped.is ∙ c.opening_of.ensures ∙ ap opening_of c.part.ensures)
 
 pub returns-clause-refusal : goal.returns-clause-refusal
 returns-clause-refusal g c =
-    λ known. deck-none (map (λ b. (goal.PortDevice-dyn g (b.vtable, b.value)).device_of b.value) c.args.devices.now.items) c.args.bytes.now _ c.as_slice-all.result.now c.loop-at.at no_line _ c.loop-at.invariant c.loop-at-test.false
+    λ known. deck-none (map (λ b. (goal.PortDevice-dyn g (b.vtable, b.value)).device_of b.value) c.args.devices.now.items) c.args.debugging c.args.bytes.now _ c.as_slice-all.result.now c.loop-at.at no_line _ c.loop-at.invariant c.loop-at-test.false

@@ -4,5 +4,5 @@ use Rattle.lvdc_deck.proofs.read.read_deck.Given as goal
 
 abbrev pub invariant-loop-at : goal.invariant-loop-at
 invariant-loop-at g l =
-    deck_from (map (λ b. (goal.PortDevice-dyn g (b.vtable, b.value)).device_of b.value) l.devices.items) l.bytes l.next (drop l.at l.all)
-    ≡ deck_of l.bytes (map (λ b. (goal.PortDevice-dyn g (b.vtable, b.value)).device_of b.value) l.devices.items)
+    deck_from (map (λ b. (goal.PortDevice-dyn g (b.vtable, b.value)).device_of b.value) l.devices.items) l.debugging l.bytes l.next (drop l.at l.all)
+    ≡ deck_of l.bytes (map (λ b. (goal.PortDevice-dyn g (b.vtable, b.value)).device_of b.value) l.devices.items) l.debugging

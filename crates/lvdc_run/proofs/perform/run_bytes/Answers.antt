@@ -1,4 +1,3 @@
-use Rattle.std.proofs.Common.{refl}
 use Rattle.lvdc_run.specs.Replies.{ran, begun}
 use Rattle.lvdc_run.proofs.Jobs.{refused_by}
 use Rattle.lvdc_run.proofs.Counts.{on_err}

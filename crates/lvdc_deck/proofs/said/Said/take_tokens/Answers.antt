@@ -3,17 +3,11 @@ use Rattle.std.proofs.lemmas.List.{take_rest}
 use Rattle.lvdc_text.specs.Lines.{part_of}
 use Rattle.lvdc_deck.specs.Sections.{Makes, section_of}
 use Rattle.lvdc_deck.proofs.Tokens.{no_line}
-use Rattle.lvdc_deck.proofs.Steps.{not-refused, not-unbuilt, in_order-word}
+use Rattle.lvdc_deck.proofs.Steps.{in_order-word}
 use Rattle.lvdc_deck.proofs.said.Said.take_tokens.Goals as goal
-use Rattle.lvdc_deck.proofs.said.Said.take_tokens.Goals.{then-is_unbuilt+else-is_empty, else-is_unbuilt}
 
-pub returns-in-Some-2 : goal.returns-in-Some-2
-returns-in-Some-2 g c =
-    elim c.if-is_unbuilt.branch [
-      | then-is_unbuilt+else-is_empty w ↦ subst (Makes c.open.result c.open.new.self)
-          (in_order-word (map (λ b. (goal.PortDevice-dyn g (b.vtable, b.value)).device_of b.value) c.args.devices.now.items) c.args.self.now c.args.number (part_of c.args.text.now) c.args.tokens.now c.in-Some.section no_line c.in-len1-up.len_at_least
-          (sym c.in-Some.is ∙ c.section_of.ensures ∙ ap section_of c.part.ensures) _ (take_rest c.args.tokens.now 1) (not-refused c.in-Some.section (part_of c.args.text.now) _ (sym w.is_empty.ensures ∙ w.if-is_empty.false))) c.open.ensures
-      | else-is_unbuilt w ↦ subst (Makes c.open.result c.open.new.self)
-          (in_order-word (map (λ b. (goal.PortDevice-dyn g (b.vtable, b.value)).device_of b.value) c.args.devices.now.items) c.args.self.now c.args.number (part_of c.args.text.now) c.args.tokens.now c.in-Some.section no_line c.in-len1-up.len_at_least
-          (sym c.in-Some.is ∙ c.section_of.ensures ∙ ap section_of c.part.ensures) _ (take_rest c.args.tokens.now 1) (not-unbuilt c.in-Some.section (part_of c.args.text.now) _ (sym c.is_unbuilt.ensures ∙ w.if-is_unbuilt.false))) c.open.ensures
-    ]
+pub returns-in-Some : goal.returns-in-Some
+returns-in-Some g c =
+    subst (Makes c.open.result c.open.new.self)
+    (in_order-word (map (λ b. (goal.PortDevice-dyn g (b.vtable, b.value)).device_of b.value) c.args.devices.now.items) c.args.self.now c.args.number (part_of c.args.text.now) c.args.tokens.now c.in-Some.section no_line c.in-len1-up.len_at_least
+    (sym c.in-Some.is ∙ c.section_of.ensures ∙ ap section_of c.part.ensures) _ (take_rest c.args.tokens.now 1)) c.open.ensures

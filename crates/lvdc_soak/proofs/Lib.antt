@@ -1,0 +1,2 @@
+pub mod Soaking
+mod Rows
