@@ -1,0 +1,181 @@
+-- A machine that goes on: where it then stands, and that what it had run before is the same.
+use Rattle.std.proofs.Common.{◌≡◌, ℕ, zero, suc, ◌+◌, ◌*◌, ◌≤◌, List, [], ◌∷◌, Bool, true, false, None, Some, IsSome, IsNone, Result, Ok, Err, OnErr, refl, sym, ap, subst, ◌∙◌, arith}
+use Rattle.std.specs.Prelude.{nat_lt, ◌==◌, if◌then◌else◌}
+use Rattle.std.specs.declared.option.Option.{Option}
+use Rattle.std.proofs.lemmas.Bool.Decides.{nat_tests}
+use Rattle.lvdc_port.specs.Causes.{Rose}
+use Rattle.lvdc_port.specs.Device as device
+use Rattle.lvdc_port.specs.Devices.{has_port, count_at}
+use Rattle.lvdc_model.specs.Runs.{guarded}
+use Rattle.lvdc_model.specs.Trial.{Trial}
+use Rattle.lvdc_model.specs.Voted.{Voted}
+use Rattle.lvdc_model.specs.declared.outcome.Outcome.{Outcome}
+use Rattle.lvdc_model.specs.declared.outcome.Outcome.TheVariants.{Done, Stopped, Inadmissible, Device}
+use Rattle.lvdc_machine.specs.Causes.{Caused}
+use Rattle.lvdc_machine.specs.Resumed.{StandsFrom, EndsFrom, state_from, steps_after}
+use Rattle.lvdc_machine.specs.Shows.{Shows}
+use Rattle.lvdc_machine.specs.Stands.{Stands, EndsAs, state_by}
+use Rattle.lvdc_machine.specs.View.{View, answer_of_end}
+use Rattle.lvdc_machine.specs.declared.mode.Mode.{Mode}
+use Rattle.lvdc_debug.specs.Session.{state_after}
+use Rattle.lvdc_debug.specs.Session.{Subject}
+use Rattle.lvdc_debug.specs.Standing.{failure_of, CausedSince, GoesOn, Moves, IsSubject}
+
+-- ---- where no end has come, a machine stands at its state
+
+from_first : (end : Option Outcome) (mode : Mode) (o : Trial) (first : Voted) → end ≡ None → state_from end mode o first 0 ≡ first
+from_first None mode o first is = refl
+from_first (Some e) mode o first is = absurd (cc)
+
+-- no step after so many
+after-none : (made : ℕ) → steps_after made 0 ≡ made
+after-none zero = refl
+after-none (suc made) = omega arith
+
+ends_first : (end : Option Outcome) (o : Trial) (first : Voted) (mode : Mode) (steps : ℕ) → end ≡ None → steps ≡ first.steps + 0
+    → EndsFrom end o first 0 mode steps
+ends_first None o first mode steps is at = omega (arith, at, after-none first.steps)
+ends_first (Some e) o first mode steps is at = absurd (cc)
+
+steps_made : (end : Option Outcome) (o : Trial) (t : ℕ) (mode : Mode) (steps : ℕ) → end ≡ None → EndsAs end o t mode steps → steps ≡ t
+steps_made None o t mode steps is at = at
+steps_made (Some e) o t mode steps is at = absurd (cc)
+
+module _ (o : Trial) (t more : ℕ) (m after : View) (ds later : List device.Device) (going : m.end ≡ None) (s : Stands o t m ds)
+    (resumes : (o : Trial) (first : Voted) (n : ℕ) → StandsFrom o first n m ds → StandsFrom o first (n + more) after later) where
+  abbrev first : Voted
+  first = state_by m.end m.mode o t
+
+  at_first : StandsFrom o first 0 m ds
+  at_first = record {
+    shows = subst (λ (v : Voted). Shows o m ds v) (sym (from_first m.end m.mode o first going)) s.shows;
+    begun = s.begun;
+    ends = let at = s.shows.steps in ends_first m.end o first m.mode m.steps going (omega (arith, at));
+  }
+
+  -- a device that then fails fails in a later step
+  pub fails_later : (step port : ℕ) → after.end ≡ Some (Device step port) → t ≤ step
+  fails_later step port is =
+      let there = resumes o first 0 at_first in
+      let ends = subst (λ (e : Option Outcome). EndsFrom e o first (0 + more) after.mode after.steps) is there.ends in
+      let steps = steps_made m.end o t m.mode m.steps going s.ends in
+      let later = ends.later in
+      let at = s.shows.steps in
+      omega (arith, later, at, steps)
+
+-- ---- the run up to a time
+
+-- a run in which no device fails before this time
+unfailed : (o : Trial) (from : ℕ) (end : Option Outcome) → ((step port : ℕ) → end ≡ Some (Device step port) → 3 * from ≤ step)
+    → (times : ℕ) → times ≤ from → state_after (failure_of end) o times ≡ guarded o (3 * times)
+unfailed o from None later times h = refl
+unfailed o from (Some Done) later times h = refl
+unfailed o from (Some (Stopped step stop)) later times h = refl
+unfailed o from (Some (Inadmissible verdict)) later times h = refl
+unfailed o from (Some (Device step port)) later times h =
+    let l = later step port refl in
+    let early : nat_lt step (3 * times) ≡ false = grind (arith, nat_tests) in
+    rw early refl
+
+-- where the machine then stands, and that the run so far is the same
+pub goes_on : (o : Trial) (from times : ℕ) (m after : View) (ds later : List device.Device) → Stands o (3 * from) m ds
+    → Stands o (3 * from + 3 * times) after later
+    → ((o : Trial) (first : Voted) (n : ℕ) → StandsFrom o first n m ds → StandsFrom o first (n + 3 * times) after later)
+    → (IsSome m.end → after ≡ m)
+    → GoesOn o from (from + times) m after later
+goes_on o from times m after ds later s stands resumes kept = record {
+  stands = let e : 3 * from + 3 * times ≡ 3 * (from + times) = omega arith in subst (λ (t : ℕ). Stands o t after later) e stands;
+  same = by m.end refl;
+}
+  where
+    by : (end : Option Outcome) → m.end ≡ end → (k : ℕ) → k ≤ from → state_after (failure_of after.end) o k ≡ state_after (failure_of m.end) o k
+    by None is k h =
+        unfailed o from after.end (fails_later o (3 * from) (3 * times) m after ds later is s resumes) k h
+        ∙ sym (ap (λ (e : Option Outcome). state_after (failure_of e) o k) is)
+    by (Some e) is k h = ap (λ (v : View). state_after (failure_of v.end) o k) (kept (rw is refl))
+
+-- one going after the other
+goes_then : (o : Trial) (a b d : ℕ) (first m after : View) (ds later : List device.Device) → a ≤ b → GoesOn o a b first m ds → GoesOn o b d m after later
+    → GoesOn o a d first after later
+goes_then o a b d first m after ds later forward p q = record {
+  stands = q.stands;
+  same = λ k h. q.same k (omega (arith, h, forward)) ∙ p.same k h;
+}
+
+pub moves_then : {B : Type 0} (device_of : B → device.Device) (faults : B → ℕ) (a b d : ℕ) (first m after : View) (xs ys zs : List B)
+    → Moves device_of faults a b first m xs ys → Moves device_of faults b d m after ys zs → Moves device_of faults a d first after xs zs
+moves_then device_of faults a b d first m after xs ys zs p q = record {
+  forward = let f = p.forward in let l = q.forward in omega (arith, f, l);
+  goes = λ o s. let before = p.goes o s in goes_then o a b d first m after _ _ p.forward before (q.goes o before.stands);
+  cause = λ counts h. q.cause counts (p.cause counts h);
+}
+
+-- where nothing was made
+pub moves_not : {B : Type 0} (device_of : B → device.Device) (faults : B → ℕ) (a : ℕ) (m : View) (xs : List B) → Moves device_of faults a a m m xs xs
+moves_not device_of faults a m xs = record {
+  forward = omega arith;
+  goes = λ o s. record { stands = s; same = λ k h. refl };
+  cause = λ counts h. h;
+}
+
+-- what the machine has run is what it had run before
+pub subject_before : (o : Trial) (a b : ℕ) (m after : View) (ds : List device.Device) (s : Subject) → a ≤ b → after.limit ≡ m.limit → GoesOn o a b m after ds
+    → IsSubject o after b s → IsSubject o m a s
+subject_before o a b m after ds s forward limit goes is = record {
+  trial = is.trial;
+  limit = is.limit ∙ limit;
+  state = λ k h. is.state k (omega (arith, h, forward)) ∙ goes.same k h;
+}
+
+-- ---- causes
+
+-- a port that has no device has no count
+absent : {B : Type 0} (device_of : B → device.Device) (count : B → ℕ) (port : ℕ) (xs : List B) → has_port device_of port xs ≡ false
+    → count_at device_of count port xs ≡ 0
+absent device_of count port [] is = refl
+absent device_of count port (x ∷ xs) is = by ((device_of x).port == port) (absent device_of count port xs) is
+  where
+    by : (here : Bool) → (has_port device_of port xs ≡ false → count_at device_of count port xs ≡ 0)
+        → (if here then true else has_port device_of port xs) ≡ false → (if here then count x else count_at device_of count port xs) ≡ 0
+    by true rest f = absurd (cc)
+    by false rest f = rest f
+
+-- a count that rose is that of a device that is there
+risen_there : {B : Type 0} (device_of : B → device.Device) (count : B → ℕ) (port before : ℕ) (xs : List B) (has : Bool) → has_port device_of port xs ≡ has
+    → Rose before (count_at device_of count port xs) → has ≡ true
+risen_there device_of count port before xs true is rose = refl
+risen_there device_of count port before xs false is rose =
+    let none = absent device_of count port xs is in absurd (omega (arith, none, rose))
+
+module _ {B : Type 0} (device_of : B → device.Device) (faults : B → ℕ) (first : ℕ → ℕ) (old new : List B)
+    (left : (port : ℕ) → has_port device_of port new ≡ true → has_port device_of port old ≡ true)
+    (quiet : (port : ℕ) → has_port device_of port old ≡ true → count_at device_of faults port old ≡ first port) where
+  caused_on : (end : Outcome)
+      → Caused end (λ port. count_at device_of faults port old) (λ port. count_at device_of faults port new) (λ port. has_port device_of port new)
+      → Caused end first (λ port. count_at device_of faults port new) (λ port. has_port device_of port new)
+  caused_on Done c = λ port l. c port l ∙ quiet port (left port l)
+  caused_on (Stopped step stop) c = λ port l. c port l ∙ quiet port (left port l)
+  caused_on (Inadmissible verdict) c = λ port l. c port l ∙ quiet port (left port l)
+  caused_on (Device step port) c =
+      let there = risen_there device_of faults port (count_at device_of faults port old) new (has_port device_of port new) refl c.rose in
+      record {
+        rose = subst (λ (k : ℕ). Rose k (count_at device_of faults port new)) (quiet port (left port there)) c.rose;
+        others = λ other apart l. c.others other apart l ∙ quiet other (left other l);
+      }
+
+-- an end that comes now has its cause since the first
+pub cause_on : {B : Type 0} (device_of : B → device.Device) (faults : B → ℕ) (first : ℕ → ℕ) (before after : Option Outcome) (old new : List B)
+    → ((port : ℕ) → has_port device_of port new ≡ true → has_port device_of port old ≡ true)
+    → (IsSome before → (after ≡ before) × (new ≡ old))
+    → (IsNone before → Caused (answer_of_end after) (λ port. count_at device_of faults port old) (λ port. count_at device_of faults port new) (λ port. has_port device_of port new))
+    → CausedSince device_of faults first before old → CausedSince device_of faults first after new
+cause_on device_of faults first None after old new left kept cause h = caused_on device_of faults first old new left h (answer_of_end after) (cause refl)
+cause_on {B} device_of faults first (Some e) after old new left kept cause h =
+    let same = kept refl in
+    subst (λ (x : Option Outcome). CausedSince device_of faults first x new) (sym same.0)
+    (subst (λ (ds : List B). CausedSince device_of faults first (Some e) ds) (sym same.1) h)
+
+-- a fact of every error
+pub on_err : {A E P : Type 0} (result : Result A E) → P → OnErr result P
+on_err (Ok a) fact = tt
+on_err (Err e) fact = fact

@@ -1,0 +1,8 @@
+pub mod Lengths
+pub mod Lines
+pub mod Going
+pub mod Showing
+pub mod Resting
+pub mod Entries
+pub mod Spent
+pub mod Spread

@@ -1,0 +1,8 @@
+use Rattle.std.proofs.Common.{◌++◌, ◌∙◌, ap}
+use Rattle.lvdc_machine.specs.declared.shown.Shown.{Shown}
+use Rattle.lvdc_debug.specs.Session.{word_shown}
+use Rattle.lvdc_debug.proofs.texts.put_word.Goals as goal
+
+pub returns-clause-line : goal.returns-clause-line
+returns-clause-line c = λ o t ds s.
+    c.in_ok-put_word_line.ensures.line ∙ ap (λ (x : Shown). c.args.out.now.items ++ word_shown c.args.at x) (c.shown.ensures.told o t ds s)

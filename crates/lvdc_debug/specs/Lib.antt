@@ -1,0 +1,5 @@
+pub mod Commands
+pub mod Breaks
+pub mod Session
+pub mod Standing
+pub mod Room

@@ -1,0 +1,148 @@
+ghost use Rattle.std.specs.Prelude.{◌≡◌, ◌-◌, ◌^◌, ◌<◌, ◌≤◌, ℕ, List, length, map, All, true, Ok, OnOk, OnErr, IfOk};
+ghost use Rattle.lvdc_port.specs.Devices.{AreDistinct};
+ghost use Rattle.lvdc_port.specs.Supplies.{ports_of, supplied};
+ghost use Rattle.lvdc_text.specs.Lines.{IsWithin};
+ghost use Rattle.lvdc_machine.specs.View.{answer_of_end};
+ghost use Rattle.lvdc_reply.specs.Answer.{answer_with};
+ghost use Rattle.lvdc_run.specs.Answers.{end_status};
+ghost use Rattle.lvdc_run.specs.Trials.{IsRunnable};
+ghost use Rattle.lvdc_debug.specs.Standing.{AreApart};
+ghost use Rattle.lvdc_session.specs.Replies.{IsSession, IsAnswered, IsSessionReply, IsUnwritten, IsUnanswered};
+
+use lvdc_debug::{LONGEST_SESSION, debug};
+use lvdc_deck::{Deck, commands_are_apart, read_deck};
+use lvdc_machine::{Machine, Mode, failed_exchange, guarded_follows};
+use lvdc_port::{PortDevice, supply_all};
+use lvdc_reply::Reply;
+use lvdc_run::{end_status, refuse};
+use lvdc_word::{NoMemory, Seq};
+use std::alloc::Global;
+
+/// The status of a machine by the end that it keeps.
+fn status_of(machine: &Machine) -> u8
+    ensures { result ≡ end_status (answer_of_end machine.now.end) }
+{
+    match machine.ended() {
+        Some(end) => end_status(&end),
+        None => 0,
+    }
+}
+
+/// Puts the words of a deck's TAPE lines behind those that the tapes still have.
+fn supply_tapes(devices: &mut Vec<Box<dyn PortDevice>>, deck: &Deck) -> Result<(), NoMemory>
+    requires distinct { AreDistinct (map device_of devices.old.items) }
+    ensures ok { OnOk result (map device_of devices.new.items ≡ supplied deck.now.supplies (map device_of devices.old.items)) }
+    ensures part { OnErr result ((bytes : List ℕ) → IsUnwritten device_of faults bytes deck.now devices.old.items devices.new.items) }
+    ensures ports { ports_of (map device_of devices.new.items) ≡ ports_of (map device_of devices.old.items) }
+    ensures faults { map faults devices.new.items ≡ map faults devices.old.items }
+    ensures distinct { AreDistinct (map device_of devices.new.items) }
+{
+    supply_all(devices, deck.supplies.items())
+}
+
+/// The reply to a deck: its session over the guarded run. The laws of guarded runs are cited here alone.
+fn debug_deck(
+    alloc: Global,
+    bytes: &[u8],
+    deck: Deck,
+    devices: &mut Vec<Box<dyn PortDevice>>,
+) -> Result<Reply, NoMemory>
+    requires runnable { IsRunnable deck }
+    requires few { length bytes.now < 2 ^ 32 - 1 }
+    requires within { All (IsWithin bytes.now) deck.commands }
+    requires distinct { AreDistinct (map device_of devices.old.items) }
+    ensures session { IfOk result (λ reply. IsSession device_of faults bytes.now deck devices.old.items devices.new.items
+        (answer_with reply.status reply.text (map device_of devices.new.items))) }
+    ensures unwritten { OnErr result (IsUnwritten device_of faults bytes.now deck devices.old.items devices.new.items) }
+    ensures room { IfOk result (λ reply. AreApart deck.commands → length bytes.now ≤ 1048576 → length reply.text ≤ LONGEST_SESSION) }
+{
+    guarded_follows();
+    failed_exchange();
+    lvdc_laws::judges_alone();
+    lvdc_laws::guarded_verdict();
+    lvdc_laws::guarded_ends();
+    supply_tapes(devices, &deck)?;
+    let Deck {
+        image,
+        start,
+        banks,
+        unplugs,
+        script,
+        orders,
+        count,
+        commands,
+        ..
+    } = deck;
+    let mut machine = Machine::new(
+        alloc,
+        image.words(),
+        banks,
+        start,
+        script,
+        unplugs.into_vec(),
+        Mode::Guarded,
+        count,
+        devices,
+    )?;
+    let text = debug(
+        alloc,
+        &mut machine,
+        &orders,
+        bytes,
+        commands.items(),
+        count,
+        devices,
+    )?;
+    Ok(Reply {
+        status: status_of(&machine),
+        text: Seq::from_vec(text),
+    })
+}
+
+/// Reads a deck and debugs it.
+fn debug_or_refuse(
+    alloc: Global,
+    bytes: &[u8],
+    devices: &mut Vec<Box<dyn PortDevice>>,
+) -> Result<Reply, NoMemory>
+    requires few { length bytes.now < 2 ^ 32 - 1 }
+    requires distinct { AreDistinct (map device_of devices.old.items) }
+    ensures reply { IfOk result (λ reply. IsAnswered device_of faults bytes.now devices.old.items devices.new.items
+        (answer_with reply.status reply.text (map device_of devices.new.items))) }
+    ensures unanswered { OnErr result (IsUnanswered device_of faults bytes.now devices.old.items devices.new.items) }
+    ensures room { IfOk result (λ reply. length bytes.now ≤ 1048576 → length reply.text ≤ LONGEST_SESSION) }
+{
+    commands_are_apart();
+    match read_deck(alloc, bytes, devices, true) {
+        Ok(deck) => {
+            let reply = debug_deck(alloc, bytes, deck, devices)?;
+            Ok(reply)
+        }
+        Err(fault) => {
+            let reply = refuse(alloc, fault)?;
+            Ok(reply)
+        }
+    }
+}
+
+/// The reply to a debugging session over these bytes and the devices at the ports.
+pub fn debug_bytes(
+    alloc: Global,
+    bytes: &[u8],
+    devices: &mut Vec<Box<dyn PortDevice>>,
+) -> Result<Reply, NoMemory>
+    requires few { length bytes.now < 2 ^ 32 - 1 }
+    requires distinct { AreDistinct (map device_of devices.old.items) }
+
+    // Status, text and devices are those of the definition, or those of the session in which a device failed in an exchange.
+    ensures reply { IfOk result (λ reply. IsSessionReply device_of faults bytes.now devices.old.items devices.new.items
+        (answer_with reply.status reply.text (map device_of devices.new.items))) }
+
+    // The devices are as before, or tapes were supplied in part, or they are as after the first so many commands.
+    ensures unanswered { OnErr result (IsUnanswered device_of faults bytes.now devices.old.items devices.new.items) }
+
+    ensures room { IfOk result (λ reply. length bytes.now ≤ 1048576 → length reply.text ≤ LONGEST_SESSION) }
+{
+    let reply = debug_or_refuse(alloc, bytes, devices)?;
+    Ok(reply)
+}
