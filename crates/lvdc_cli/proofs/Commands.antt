@@ -1,5 +1,5 @@
 -- The laws of the runs, as facts of commands: each command has its case.
-use Rattle.std.proofs.Common.{◌≡◌, ◌≢◌, ℕ, List, map, Result, Ok, Err, IfOk, refl, sym, subst, ap, ◌∙◌, ◌⊎◌, inl, inr, arith}
+use Rattle.std.proofs.Common.{◌≡◌, ◌≢◌, ℕ, false, List, map, Result, Ok, Err, IfOk, refl, sym, subst, ap, ◌∙◌, ◌⊎◌, inl, inr, arith}
 use Rattle.lvdc_port.specs.Device.{Device}
 use Rattle.lvdc_model.specs.Trial.{Trial}
 use Rattle.lvdc_deck.specs.Deck.{deck_of}
@@ -18,22 +18,25 @@ use Rattle.lvdc_run.specs.Trials.{trial_of}
 use Rattle.lvdc_run.specs.Headline.{Headline}
 use Rattle.lvdc_run.specs.Answers.{job_answer}
 use Rattle.lvdc_run.specs.Runs.{HasRunThat}
+use Rattle.lvdc_session.specs.Answers.{session_answer, HasSessionThat}
 use Rattle.lvdc_cli.specs.declared.command.Command.{Command}
-use Rattle.lvdc_cli.specs.declared.command.Command.TheVariants.{Run, Soak, Assemble}
+use Rattle.lvdc_cli.specs.declared.command.Command.TheVariants.{Run, Soak, Assemble, Debug}
 use Rattle.lvdc_cli.specs.Commands.{command_answer, RunsThat, IsReplyTo}
 use Rattle.lvdc_cli.proofs.Answered.{reply_answer}
 
--- this status of a job says this of its run, and the other way round
-abbrev pub StatusSays : (Job → Trial → ℕ → Type 0) → ℕ → Type 0
-StatusSays P n = (j : Job) (bytes : List ℕ) (devices : List Device) → (job_answer j bytes devices).status ≡ n → HasRunThat P j bytes devices
+-- this status of a job or of a session says this of its run, and the other way round
+pub record StatusSays (P : Job → Trial → ℕ → Type 0) (n : ℕ) : Type 0 where
+  pub of_job : (j : Job) (bytes : List ℕ) (devices : List Device) → (job_answer j bytes devices).status ≡ n → HasRunThat P j bytes devices
+  pub of_session : (bytes : List ℕ) (devices : List Device) → (session_answer bytes devices).status ≡ n → HasSessionThat (P (job.Deck Guarded)) bytes devices
 
-abbrev pub RunSays : (Job → Trial → ℕ → Type 0) → ℕ → Type 0
-RunSays P n = (j : Job) (bytes : List ℕ) (devices : List Device) → HasRunThat P j bytes devices → (job_answer j bytes devices).status ≡ n
+pub record RunSays (P : Job → Trial → ℕ → Type 0) (n : ℕ) : Type 0 where
+  pub of_job : (j : Job) (bytes : List ℕ) (devices : List Device) → HasRunThat P j bytes devices → (job_answer j bytes devices).status ≡ n
+  pub of_session : (bytes : List ℕ) (devices : List Device) → HasSessionThat (P (job.Deck Guarded)) bytes devices → (session_answer bytes devices).status ≡ n
 
 -- the answer of `run` to a deck carries the headline
 abbrev pub HeadlineTold : Type 0
 HeadlineTold =
-    (bytes : List ℕ) (devices : List Device) (deck : Deck) → deck_of bytes devices ≡ Ok deck
+    (bytes : List ℕ) (devices : List Device) (deck : Deck) → deck_of bytes devices false ≡ Ok deck
     → Headline (trial_of devices deck) deck.count (job_answer (job.Deck Guarded) bytes devices).text (job_answer (job.Deck Guarded) bytes devices).devices
 
 -- ---- sources
@@ -48,7 +51,7 @@ unfailed (Err fault) = inr (inr (inl refl))
 
 -- a source is answered, and no device is asked
 pub source_answered : {B : Type 0} {device_of : B → Device} {faults : B → ℕ} (product : Product) (bytes : List ℕ) {old : List B} (status : ℕ) (text : List ℕ)
-    → status ≡ status_of (assembly_in bytes) → text ≡ text_of product (assembly_in bytes)
+    → status ≡ status_of (assembly_in bytes) → text ≡ text_of product bytes (assembly_in bytes)
     → IsReplyTo device_of faults (Assemble product) bytes old old (answer_with status text (map device_of old))
 source_answered {B} {device_of} {faults} product bytes {old} status text is_status is_text =
     rw (is_status, is_text) (answered (unfailed (assembly_in bytes)) (λ refused. refl) (λ port within. refl))
@@ -56,7 +59,7 @@ source_answered {B} {device_of} {faults} product bytes {old} status text is_stat
 -- the same of what a call answers
 pub source_replied : {B E : Type 0} (device_of : B → Device) (faults : B → ℕ) (command : Command) (product : Product) (bytes : List ℕ) (old : List B) (result : Result Reply E)
     → command ≡ Assemble product → IfOk result (λ reply. reply.status ≡ status_of (assembly_in bytes))
-    → IfOk result (λ reply. reply.text ≡ text_of product (assembly_in bytes))
+    → IfOk result (λ reply. reply.text ≡ text_of product bytes (assembly_in bytes))
     → IfOk result (λ reply. IsReplyTo device_of faults command bytes old old (answer_with reply.status reply.text (map device_of old)))
 source_replied device_of faults command product bytes old (Ok reply) is status text =
     subst (λ (c : Command). IsReplyTo device_of faults c bytes old old (answer_with reply.status reply.text (map device_of old))) (sym is)
@@ -68,18 +71,20 @@ source_replied device_of faults command product bytes old (Err wanting) is statu
 -- 5 and 6 are statuses of runs alone
 command_runs : (P : Job → Trial → ℕ → Type 0) (n : ℕ) → (n ≡ 5) ⊎ (n ≡ 6) → StatusSays P n
     → (command : Command) (bytes : List ℕ) (devices : List Device) → (command_answer command bytes devices).status ≡ n → RunsThat P command bytes devices
-command_runs P n of_run law (Run engine) bytes devices e = law (job.Deck engine) bytes devices e
-command_runs P n of_run law (Soak number) bytes devices e = law (job.Soak number) bytes devices e
+command_runs P n of_run law (Run engine) bytes devices e = law.of_job (job.Deck engine) bytes devices e
+command_runs P n of_run law (Soak number) bytes devices e = law.of_job (job.Soak number) bytes devices e
 command_runs P n of_run law (Assemble product) bytes devices e = absurd (never_run (assembly_in bytes) n of_run e)
+command_runs P n of_run law Debug bytes devices e = law.of_session bytes devices e
 
 pub command_is : (P : Job → Trial → ℕ → Type 0) (n : ℕ) → RunSays P n
     → (command : Command) (bytes : List ℕ) (devices : List Device) → RunsThat P command bytes devices → (command_answer command bytes devices).status ≡ n
-command_is P n law (Run engine) bytes devices h = law (job.Deck engine) bytes devices h
-command_is P n law (Soak number) bytes devices h = law (job.Soak number) bytes devices h
+command_is P n law (Run engine) bytes devices h = law.of_job (job.Deck engine) bytes devices h
+command_is P n law (Soak number) bytes devices h = law.of_job (job.Soak number) bytes devices h
 command_is P n law (Assemble product) bytes devices h = absurd h
+command_is P n law Debug bytes devices h = law.of_session bytes devices h
 
 command_headline : HeadlineTold → (command : Command) (bytes : List ℕ) (devices : List Device) (deck : Deck) → command ≡ Run Guarded
-    → deck_of bytes devices ≡ Ok deck
+    → deck_of bytes devices false ≡ Ok deck
     → Headline (trial_of devices deck) deck.count (command_answer command bytes devices).text (command_answer command bytes devices).devices
 command_headline law command bytes devices deck is means =
     subst (λ (c : Command). Headline (trial_of devices deck) deck.count (command_answer c bytes devices).text (command_answer c bytes devices).devices) (sym is)
@@ -89,7 +94,7 @@ command_headline law command bytes devices deck is means =
 
 module _ {B : Type 0} {device_of : B → Device} {faults : B → ℕ} (command : Command) (bytes : List ℕ) {old new : List B} where
   pub reply_headline : HeadlineTold → (a : Answer) → a.status ≢ 10 → IsReplyTo device_of faults command bytes old new a
-      → (deck : Deck) → command ≡ Run Guarded → deck_of bytes (map device_of old) ≡ Ok deck
+      → (deck : Deck) → command ≡ Run Guarded → deck_of bytes (map device_of old) false ≡ Ok deck
       → Headline (trial_of (map device_of old) deck) deck.count a.text a.devices
   reply_headline law a free h deck is means =
       subst (λ (x : Answer). Headline (trial_of (map device_of old) deck) deck.count x.text x.devices) (sym (reply_answer a free h))

@@ -1,3 +1,4 @@
+pub mod Rooms
 pub mod Answered
 pub mod Commands
 pub mod Inputs

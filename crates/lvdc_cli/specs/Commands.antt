@@ -6,15 +6,18 @@ use Rattle.lvdc_port.specs.Device.{Device}
 use Rattle.lvdc_model.specs.Trial.{Trial}
 use Rattle.lvdc_reply.specs.Answer.{Answer, answer_with}
 use Rattle.lvdc_reply.specs.Replies.{IsReply}
+use Rattle.lvdc_run.specs.declared.job.Engine.TheVariants.{Guarded}
 use Rattle.lvdc_run.specs.declared.job.Job.{Job}
 use Rattle.lvdc_run.specs.declared.job.Job.TheVariants as job
 use Rattle.lvdc_run.specs.Answers.{job_answer}
 use Rattle.lvdc_run.specs.Runs.{HasRunThat}
 use Rattle.lvdc_run.specs.Replies.{FailsInRun, IsUnanswered}
 use Rattle.lvdc_assemble.specs.Answers.{source_answer}
-use Rattle.lvdc_cli.specs.declared.TheConstants.{LIMIT}
+use Rattle.lvdc_session.specs.Answers.{session_answer, HasSessionThat}
+use Rattle.lvdc_session.specs.Replies.{FailsInSession, IsUnanswered as IsSessionUnanswered}
+use Rattle.lvdc_cli.specs.declared.TheConstants.{LIMIT, ROOM, SESSION_ROOM}
 use Rattle.lvdc_cli.specs.declared.command.Command.{Command}
-use Rattle.lvdc_cli.specs.declared.command.Command.TheVariants.{Run, Soak, Assemble}
+use Rattle.lvdc_cli.specs.declared.command.Command.TheVariants.{Run, Soak, Assemble, Debug}
 use Rattle.lvdc_cli.specs.Words.{command_of, reads_for}
 use Rattle.lvdc_cli.specs.Texts.{usage_text, read_fault_text, too_long_text}
 
@@ -23,24 +26,35 @@ abbrev pub command_answer : Command → List ℕ → List Device → Answer
 command_answer (Run engine) bytes devices = job_answer (job.Deck engine) bytes devices
 command_answer (Soak number) bytes devices = job_answer (job.Soak number) bytes devices
 command_answer (Assemble product) bytes devices = source_answer product bytes devices
+command_answer Debug bytes devices = session_answer bytes devices
 
 -- this is the answer where the device at this port fails in this step; a command that asks no device has none
 abbrev pub FailsInCommand : Command → List ℕ → List Device → ℕ → ℕ → Answer → Type 0
 FailsInCommand (Run engine) bytes devices = FailsInRun (job.Deck engine) bytes devices
 FailsInCommand (Soak number) bytes devices = FailsInRun (job.Soak number) bytes devices
 FailsInCommand (Assemble product) bytes devices = λ step port reply. ⊥
+FailsInCommand Debug bytes devices = FailsInSession bytes devices
 
 -- what a want of memory leaves of the devices
 abbrev pub IsLeftUnanswered : {B : Type 0} → (B → Device) → (B → ℕ) → Command → List ℕ → List B → List B → Type 0
 IsLeftUnanswered device_of faults (Run engine) bytes old new = IsUnanswered device_of faults (job.Deck engine) bytes old new
 IsLeftUnanswered device_of faults (Soak number) bytes old new = IsUnanswered device_of faults (job.Soak number) bytes old new
 IsLeftUnanswered device_of faults (Assemble product) bytes old new = new ≡ old
+IsLeftUnanswered device_of faults Debug bytes old new = IsSessionUnanswered device_of faults bytes old new
 
--- the command runs a deck, and this is so of its run
+-- the command runs a deck, and this is so of its run; a session runs it as `run` does, as far as its commands ask
 abbrev pub RunsThat : (Job → Trial → ℕ → Type 0) → Command → List ℕ → List Device → Type 0
 RunsThat P (Run engine) bytes devices = HasRunThat P (job.Deck engine) bytes devices
 RunsThat P (Soak number) bytes devices = HasRunThat P (job.Soak number) bytes devices
 RunsThat P (Assemble product) bytes devices = ⊥
+RunsThat P Debug bytes devices = HasSessionThat (P (job.Deck Guarded)) bytes devices
+
+-- the room that the text of a command may take
+abbrev pub room_of : Command → ℕ
+room_of (Run engine) = ROOM
+room_of (Soak number) = ROOM
+room_of (Assemble product) = ROOM
+room_of Debug = SESSION_ROOM
 
 -- ---- of all commands
 
@@ -48,6 +62,11 @@ RunsThat P (Assemble product) bytes devices = ⊥
 abbrev pub IsReplyTo : {B : Type 0} → (B → Device) → (B → ℕ) → Command → List ℕ → List B → List B → Answer → Type 0
 IsReplyTo device_of faults command bytes old new reply =
     IsReply device_of faults (command_answer command bytes (map device_of old)) (FailsInCommand command bytes (map device_of old)) old new reply
+
+-- the room that words may take; no other text is longer than a report
+abbrev pub room_for : Option Command → ℕ
+room_for None = ROOM
+room_for (Some command) = room_of command
 
 -- what a command reads of these bytes: all of them, or none
 abbrev pub input_of : Command → List ℕ → List ℕ

@@ -98,7 +98,7 @@ pub record CarriesHeadline {B : Type 0} (device_of : B → Device) (before after
   pub read : HasRead true before.source after.source bytes
   pub text : List ℕ
   pub written : Appends before.sink.written after.sink.written text
-  pub headline : (deck : Deck) → deck_of bytes (map device_of before.devices) ≡ Ok deck
+  pub headline : (deck : Deck) → deck_of bytes (map device_of before.devices) false ≡ Ok deck
       → Headline (trial_of (map device_of before.devices) deck) deck.count text (map device_of after.devices)
 
 -- a write failed, and what was written is a front of the text that was due

@@ -6,9 +6,9 @@ use Rattle.std.specs.declared.option.Option.{Option}
 use Rattle.std.specs.declared.option.Option.TheVariants.{None, Some}
 use Rattle.lvdc_text.specs.Numbers.{number_of, below}
 use Rattle.lvdc_run.specs.declared.job.Engine.TheVariants.{Guarded, Through, Plain}
-use Rattle.lvdc_assemble.specs.declared.reply.Product.TheVariants.{Image}
+use Rattle.lvdc_assemble.specs.declared.reply.Product.TheVariants.{Image, Listing}
 use Rattle.lvdc_cli.specs.declared.command.Command.{Command}
-use Rattle.lvdc_cli.specs.declared.command.Command.TheVariants.{Run, Soak, Assemble}
+use Rattle.lvdc_cli.specs.declared.command.Command.TheVariants.{Run, Soak, Assemble, Debug}
 
 -- the bytes of the words
 abbrev pub texts : List (String Global) → List (List ℕ)
@@ -44,9 +44,16 @@ of_two first second =
     else (if is (codes "asm") first then product_of second
     else (if is (codes "soak") first then soaked_by (soak_number second) else None))
 
--- `run`, `run --plain`, `run --through`, `asm --image`, and `soak` with a number
+-- what one word asks for
+abbrev pub of_one : List ℕ → Option Command
+of_one word =
+    if is (codes "run") word then Some (Run Guarded)
+    else (if is (codes "asm") word then Some (Assemble Listing)
+    else (if is (codes "debug") word then Some Debug else None))
+
+-- `run`, `run --plain`, `run --through`, `asm`, `asm --image`, `debug`, and `soak` with a number
 abbrev pub command_of : List (List ℕ) → Option Command
-command_of (first ∷ []) = if is (codes "run") first then Some (Run Guarded) else None
+command_of (first ∷ []) = of_one first
 command_of (first ∷ second ∷ []) = of_two first second
 command_of words = None
 
@@ -55,6 +62,7 @@ abbrev pub reads_for : Command → Bool
 reads_for (Run engine) = true
 reads_for (Soak number) = false
 reads_for (Assemble product) = true
+reads_for Debug = true
 
 -- where the words are a command that reads an input
 abbrev pub reads : Option Command → Bool

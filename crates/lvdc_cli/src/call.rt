@@ -10,14 +10,15 @@ ghost use Rattle.lvdc_run.specs.Runs.{Judges, Stops};
 ghost use Rattle.lvdc_cli.specs.declared.command.Command.TheVariants.{Run};
 ghost use Rattle.lvdc_cli.specs.Words.{texts, command_of, reads};
 ghost use Rattle.lvdc_cli.specs.Texts.{usage_text, read_fault_text, too_long_text};
-ghost use Rattle.lvdc_cli.specs.Commands.{answer, Has};
+ghost use Rattle.lvdc_cli.specs.Commands.{answer, Has, room_for};
 ghost use Rattle.lvdc_cli.specs.Outside.{sink_state, outside_of};
 ghost use Rattle.lvdc_cli.specs.Top.{IsAbandoned, IsEnd, IsTold, IsReplied, CarriesHeadline, IsCut, HasFailed, IsUnhindered, IsOfReply, IsRefusal};
 
+use crate::LIMIT;
 use crate::due::due_of;
-use crate::{LIMIT, ROOM};
 use lvdc_port::PortDevice;
 use lvdc_run::{headline_told, statuses_caused};
+use lvdc_session::session_statuses;
 use lvdc_text::{Sink, Source, write_all};
 use std::alloc::Global;
 
@@ -42,7 +43,7 @@ pub fn lvdc<S: Source, K: Sink>(
     sink: &mut K,
     devices: &mut Vec<Box<dyn PortDevice>>,
 ) -> u8
-    requires room { HasRoom (K.room sink.old) ROOM }
+    requires room { HasRoom (K.room sink.old) (room_for (command_of (texts words.now))) }
     requires distinct { AreDistinct (map device_of devices.old.items) }
 
     // The status of a reply is that of `reply` over the bytes that were read, and so are the text that was written and the devices.
@@ -129,6 +130,7 @@ pub fn lvdc<S: Source, K: Sink>(
 {
     headline_told();
     statuses_caused();
+    session_statuses();
     let due = due_of(alloc, words, source, devices);
     tell(sink, due.status(), due.text())
 }

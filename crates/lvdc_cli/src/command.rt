@@ -1,5 +1,5 @@
 ghost use Rattle.std.specs.Prelude.{◌≡◌, string_bytes};
-ghost use Rattle.lvdc_cli.specs.Words.{texts, flagged, product_of, soak_number, of_two, command_of, reads_for};
+ghost use Rattle.lvdc_cli.specs.Words.{texts, flagged, product_of, soak_number, of_one, of_two, command_of, reads_for};
 
 use lvdc_assemble::Product;
 use lvdc_run::Engine;
@@ -12,8 +12,10 @@ pub enum Command {
     Run(Engine),
     /// `soak` with a number: runs the deck that the number draws.
     Soak(u32),
-    /// `asm --image`: reads a source and assembles it.
+    /// `asm` and `asm --image`: reads a source and assembles it.
     Assemble(Product),
+    /// `debug`: reads a deck and answers the commands of its debug session.
+    Debug,
 }
 
 impl Command {
@@ -25,6 +27,7 @@ impl Command {
             Command::Run(_) => true,
             Command::Soak(_) => false,
             Command::Assemble(_) => true,
+            Command::Debug => true,
         }
     }
 }
@@ -61,6 +64,18 @@ fn soak_number(word: &String) -> Option<u32>
     }
 }
 
+/// What one word asks for.
+fn of_one(word: &String) -> Option<Command>
+    ensures { result ≡ of_one (string_bytes word.now) }
+{
+    match word.as_str() {
+        "run" => Some(Command::Run(Engine::Guarded)),
+        "asm" => Some(Command::Assemble(Product::Listing)),
+        "debug" => Some(Command::Debug),
+        _ => None,
+    }
+}
+
 /// What two words ask for.
 fn of_two(first: &String, second: &String) -> Option<Command>
     ensures { result ≡ of_two (string_bytes first.now) (string_bytes second.now) }
@@ -81,7 +96,7 @@ pub fn read_command(words: &[String]) -> Option<Command>
     ensures { result ≡ command_of (texts words.now) }
 {
     match words {
-        [first] if first.as_str() == "run" => Some(Command::Run(Engine::Guarded)),
+        [first] => of_one(first),
         [first, second] => of_two(first, second),
         _ => None,
     }

@@ -5,12 +5,13 @@ ghost use Rattle.lvdc_port.specs.Devices.{AreDistinct};
 ghost use Rattle.lvdc_reply.specs.Answer.{answer_with};
 ghost use Rattle.lvdc_cli.specs.Words.{texts, command_of, reads, reads_for};
 ghost use Rattle.lvdc_cli.specs.Outside.{SinkState, source_state, outside};
+ghost use Rattle.lvdc_cli.specs.Commands.{room_of, room_for};
 ghost use Rattle.lvdc_cli.specs.Telling.{due_status, due_text};
 ghost use Rattle.lvdc_cli.specs.Top.{HasRead, IsDue};
 
+use crate::LIMIT;
 use crate::command::{Command, read_command};
 use crate::join::reply;
-use crate::{LIMIT, ROOM};
 use lvdc_port::PortDevice;
 use lvdc_reply::Reply;
 use lvdc_text::{ReadEnd, Source, read_all};
@@ -100,7 +101,7 @@ fn due_for<S: Source>(
         (outside (source_state (S.left source.new) (S.read_faults source.new)) after devices.new.items)
         (answer_with (due_status result) (due_text result) (map device_of devices.new.items)) }
     ensures unread { reads_for command ≡ false → source.new ≡ source.old }
-    ensures room { length (due_text result) ≤ ROOM }
+    ensures room { length (due_text result) ≤ room_of command }
 {
     match read_input(alloc, command, source) {
         Ok(bytes) => match reply(alloc, command, bytes.as_slice(), devices) {
@@ -126,7 +127,7 @@ pub(crate) fn due_of<S: Source>(
         (outside (source_state (S.left source.new) (S.read_faults source.new)) after devices.new.items)
         (answer_with (due_status result) (due_text result) (map device_of devices.new.items)) }
     ensures unread { reads (command_of (texts words.now)) ≡ false → source.new ≡ source.old }
-    ensures room { length (due_text result) ≤ ROOM }
+    ensures room { length (due_text result) ≤ room_for (command_of (texts words.now)) }
 {
     match read_command(words) {
         Some(command) => due_for(alloc, command, source, devices),

@@ -1,4 +1,4 @@
-ghost use Rattle.std.specs.Prelude.{◌≡◌, ◌≢◌, ◌≤◌, Some, Ok, length, map, OnErr, IfOk};
+ghost use Rattle.std.specs.Prelude.{◌≡◌, ◌≢◌, ◌≤◌, false, Some, Ok, length, map, OnErr, IfOk};
 ghost use Rattle.lvdc_port.specs.Devices.{AreDistinct};
 ghost use Rattle.lvdc_deck.specs.Deck.{deck_of};
 ghost use Rattle.lvdc_deck.specs.declared.deck.Deck.{Deck};
@@ -9,14 +9,15 @@ ghost use Rattle.lvdc_run.specs.Trials.{trial_of};
 ghost use Rattle.lvdc_run.specs.Headline.{Headline};
 ghost use Rattle.lvdc_run.specs.Runs.{Judges, Stops};
 ghost use Rattle.lvdc_cli.specs.declared.command.Command.TheVariants.{Run};
-ghost use Rattle.lvdc_cli.specs.Commands.{command_answer, IsReplyTo, IsLeftUnanswered, RunsThat};
+ghost use Rattle.lvdc_cli.specs.Commands.{command_answer, IsReplyTo, IsLeftUnanswered, RunsThat, room_of};
 
+use crate::LIMIT;
 use crate::command::Command;
-use crate::{LIMIT, ROOM};
 use lvdc_assemble::assemble_bytes;
 use lvdc_port::PortDevice;
 use lvdc_reply::Reply;
 use lvdc_run::{Job, headline_told, run_job, statuses_caused};
+use lvdc_session::{debug_bytes, session_statuses};
 use lvdc_word::NoMemory;
 use std::alloc::Global;
 
@@ -32,12 +33,13 @@ fn join(
     ensures reply { IfOk result (λ reply. IsReplyTo device_of faults command bytes.now devices.old.items devices.new.items
         (answer_with reply.status reply.text (map device_of devices.new.items))) }
     ensures unanswered { OnErr result (IsLeftUnanswered device_of faults command bytes.now devices.old.items devices.new.items) }
-    ensures room { IfOk result (λ reply. length reply.text ≤ ROOM) }
+    ensures room { IfOk result (λ reply. length reply.text ≤ room_of command) }
 {
     match command {
         Command::Run(engine) => run_job(alloc, Job::Deck(engine), bytes, devices),
         Command::Soak(number) => run_job(alloc, Job::Soak(number), bytes, devices),
         Command::Assemble(product) => assemble_bytes(alloc, product, bytes),
+        Command::Debug => debug_bytes(alloc, bytes, devices),
     }
 }
 
@@ -61,7 +63,7 @@ pub fn reply(
     // stays admissible ports, registers, recoverable words and devices are those of the fault-free instruction table; the first
     // inadmissible step is named after that same run so far.
     ensures headline { IfOk result (λ reply. reply.status ≢ 10 → (deck : Deck) → command ≡ Run Guarded
-        → deck_of bytes.now (map device_of devices.old.items) ≡ Ok deck
+        → deck_of bytes.now (map device_of devices.old.items) false ≡ Ok deck
         → Headline (trial_of (map device_of devices.old.items) deck) deck.count reply.text (map device_of devices.new.items)) }
 
     // 5: exactly where the command judges the script, and finds a step that isn't admissible.
@@ -85,9 +87,10 @@ pub fn reply(
 
     // Want of memory is free. The devices are as before, or tapes were supplied in part, or they are as after the run.
     ensures unanswered { OnErr result (IsLeftUnanswered device_of faults command bytes.now devices.old.items devices.new.items) }
-    ensures room { IfOk result (λ reply. length reply.text ≤ ROOM) }
+    ensures room { IfOk result (λ reply. length reply.text ≤ room_of command) }
 {
     headline_told();
     statuses_caused();
+    session_statuses();
     join(alloc, command, bytes, devices)
 }

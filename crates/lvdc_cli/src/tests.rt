@@ -2,7 +2,7 @@
 ghost use Rattle.std.specs.Prelude.{map};
 ghost use Rattle.lvdc_port.specs.Devices.{AreDistinct};
 
-use crate::{ROOM, lvdc};
+use crate::{SESSION_ROOM, lvdc};
 use lvdc_port::PortDevice;
 use lvdc_text::{MemorySink, MemorySource};
 use std::alloc::Global;
@@ -10,9 +10,12 @@ use std::process::Abort;
 use std::test::Fail;
 
 mod faults;
+mod listings;
 mod ports;
+mod programs;
 mod refusals;
 mod replies;
+mod sessions;
 mod soaks;
 mod sources;
 mod states;
@@ -66,7 +69,7 @@ fn answer(
 {
     let words = command(alloc, line)?;
     let mut source = MemorySource::new(deck);
-    let mut sink = MemorySink::with_room(alloc, ROOM)?;
+    let mut sink = MemorySink::with_room(alloc, SESSION_ROOM)?;
     let status = lvdc(alloc, words.as_slice(), &mut source, &mut sink, devices);
     let text = Vec::from_slice(alloc, sink.bytes())?;
     match String::from_utf8(text) {

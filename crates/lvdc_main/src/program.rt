@@ -1,5 +1,6 @@
 ghost use Rattle.lvdc_text.specs.Room.{HasRoom};
-ghost use Rattle.lvdc_cli.specs.declared.TheConstants.{ROOM};
+ghost use Rattle.lvdc_cli.specs.Words.{texts, command_of};
+ghost use Rattle.lvdc_cli.specs.Commands.{room_for};
 
 use crate::rack::plug_in;
 use lvdc_cli::lvdc;
@@ -16,7 +17,7 @@ pub fn run<S: Source, K: Sink>(
     source: &mut S,
     sink: &mut K,
 ) -> Result<u8, NoMemory>
-    requires { HasRoom (K.room sink.old) ROOM }
+    requires { HasRoom (K.room sink.old) (room_for (command_of (texts words.now))) }
 {
     let mut devices = Vec::new(alloc);
     plug_in(&mut devices, Box::new(alloc, Tape::new(alloc, 0o0))?)?;

@@ -101,7 +101,7 @@ fn lines_where_run_is_due_are_refused(rt: HostRuntime) -> Result<(), Fail> {
             "REFUSED NoDevice 6\n",
         ),
         ("FAULTS\nLAG 8 1 0 0\nRUN 3\n", "REFUSED BadLine 5\n"),
-        ("RUN 3\nDEBUG\n", "REFUSED NotBuilt 5\n"),
+        ("RUN 3\nDEBUG X\n", "REFUSED BadLine 5\n"),
     ] {
         let mut devices: Vec<Box<dyn PortDevice>> = Vec::new(alloc);
         devices.push(Box::new(alloc, Tape::new(alloc, 0))?)?;

@@ -1,6 +1,6 @@
 //! Sources and sinks that fail, and words that ask for nothing.
 use super::{answer_alone, command, deck};
-use crate::{ROOM, lvdc};
+use crate::{SESSION_ROOM, lvdc};
 use lvdc_text::{FaultySink, FaultySource, MemorySink, MemorySource, read_all};
 use std::test::Fail;
 
@@ -11,7 +11,7 @@ fn other_words_get_the_usage_text_and_read_nothing(rt: HostRuntime) -> Result<()
         let deck = deck(alloc, "", "", "RUN 0")?;
         let length = deck.len();
         let mut source = MemorySource::new(deck);
-        let mut sink = MemorySink::with_room(alloc, ROOM)?;
+        let mut sink = MemorySink::with_room(alloc, SESSION_ROOM)?;
         let words = command(alloc, line)?;
         let mut devices = Vec::new(alloc);
         let status = lvdc(
@@ -43,7 +43,7 @@ fn failed_reads_and_writes_are_told(rt: HostRuntime) -> Result<(), Fail> {
         let deck = deck(alloc, "", "", "RUN 0")?;
         let mut source = FaultySource::new(deck, Vec::from_slice(alloc, &[first_read])?);
         let fails = Vec::from_slice(alloc, &[first_write])?;
-        let mut sink = FaultySink::with_room(alloc, ROOM, fails)?;
+        let mut sink = FaultySink::with_room(alloc, SESSION_ROOM, fails)?;
         let ended = lvdc(
             alloc,
             words.as_slice(),

@@ -18,10 +18,10 @@ returns g c =
       usage_only = λ is. end_usage_only is e;
       unread = c.due_of-due.ensures.unread;
       read = λ reads a b d f. end_read reads a b d f e;
-      inadmissible = λ bytes told is. end_has Judges 5 (inl refl) c.statuses_caused.ensures.inadmissible bytes told is e;
-      inadmissible_always = λ bytes told small free has. end_is Judges 5 c.statuses_caused.ensures.inadmissible_always bytes told small free has e;
-      stopped = λ bytes told is. end_has Stops 6 (inr refl) c.statuses_caused.ensures.stopped bytes told is e;
-      stopped_always = λ bytes told small free has. end_is Stops 6 c.statuses_caused.ensures.stopped_always bytes told small free has e;
+      inadmissible = λ bytes told is. end_has Judges 5 (inl refl) (record { of_job = c.statuses_caused.ensures.inadmissible; of_session = c.session_statuses.ensures.inadmissible }) bytes told is e;
+      inadmissible_always = λ bytes told small free has. end_is Judges 5 (record { of_job = c.statuses_caused.ensures.inadmissible_always; of_session = c.session_statuses.ensures.inadmissible_always }) bytes told small free has e;
+      stopped = λ bytes told is. end_has Stops 6 (inr refl) (record { of_job = c.statuses_caused.ensures.stopped; of_session = c.session_statuses.ensures.stopped }) bytes told is e;
+      stopped_always = λ bytes told small free has. end_is Stops 6 (record { of_job = c.statuses_caused.ensures.stopped_always; of_session = c.session_statuses.ensures.stopped_always }) bytes told small free has e;
       read_fault = λ is. end_read_fault is e;
       read_fault_always = λ grew. end_read_grew grew e;
       write_fault = λ is. end_cut is e;

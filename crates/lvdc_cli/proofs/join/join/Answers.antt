@@ -10,3 +10,9 @@ returns-in-Soak-clause-reply g c = rw c.in-Soak.is c.run_job-in-Soak.ensures.rep
 pub returns-in-Assemble-clause-reply : goal.returns-in-Assemble-clause-reply
 returns-in-Assemble-clause-reply g c =
     source_replied _ _ c.args.command c.in-Assemble.product c.args.bytes.now c.args.devices.now.items c.assemble_bytes.result c.in-Assemble.is c.assemble_bytes.ensures.status c.assemble_bytes.ensures.text
+
+pub returns-in-Debug-clause-reply : goal.returns-in-Debug-clause-reply
+returns-in-Debug-clause-reply g c = rw c.in-Debug.is c.debug_bytes.ensures.reply
+
+pub returns-in-Soak-clause-room : goal.returns-in-Soak-clause-room
+returns-in-Soak-clause-room g c = rw c.in-Soak.is c.run_job-in-Soak.ensures.room
