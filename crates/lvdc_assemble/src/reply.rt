@@ -1,10 +1,12 @@
-ghost use Rattle.std.specs.Prelude.{◌≡◌, ◌≢◌, ◌^◌, ◌≤◌, length, All, Ok, IfOk, OnOk};
+ghost use Rattle.std.specs.Prelude.{◌≡◌, ◌≢◌, ◌-◌, ◌^◌, ◌<◌, ◌≤◌, length, All, Ok, IfOk, OnOk};
 ghost use Rattle.lvdc_text.specs.Lines.{IsWithin, lines_of};
 ghost use Rattle.lvdc_reply.specs.Answer.{refusal_text};
 ghost use Rattle.lvdc_asm.specs.Faults.{name_of, line_of};
 ghost use Rattle.lvdc_asm.specs.declared.fault.AsmFault.TheVariants.{NoMemory as WantsMemory};
 ghost use Rattle.lvdc_assemble.specs.Answers.{assembly_in, product_text, status_of, text_of};
+ghost use Rattle.lvdc_image.specs.declared.TheConstants.{LONGEST_IMAGE};
 ghost use Rattle.lvdc_assemble.specs.declared.TheConstants.{LONGEST_TEXT};
+ghost use Rattle.lvdc_assemble.specs.declared.reply.Product.TheVariants.{Image, Listing};
 
 use lvdc_asm::{AsmFault, Assembly, assemble};
 use lvdc_image::print_image;
@@ -30,23 +32,19 @@ fn print(
     assembly: &Assembly,
     bytes: &[u8],
     lines: &[Line],
-) -> Result<Reply, NoMemory>
-    requires size { length bytes.now ≤ 2 ^ 20 }
+) -> Result<Vec<u8>, NoMemory>
+    requires listed { product ≡ Listing → length bytes.now ≤ 2 ^ 20 }
     requires within { All (IsWithin bytes.now) lines.now }
     requires lines { lines.now ≡ lines_of bytes.now }
     requires assembled { assembly_in bytes.now ≡ Ok assembly.now }
-    ensures status { IfOk result (λ reply. reply.status ≡ 0) }
-    ensures text { IfOk result (λ reply. reply.text ≡ product_text product bytes.now assembly.now) }
-    ensures short { IfOk result (λ reply. length reply.text ≤ LONGEST_TEXT) }
+    ensures text { IfOk result (λ text. text.items ≡ product_text product bytes.now assembly.now) }
+    ensures short { IfOk result (λ text. length text.items ≤ LONGEST_TEXT) }
+    ensures image { product ≡ Image → IfOk result (λ text. length text.items ≤ LONGEST_IMAGE) }
 {
-    let text = match product {
-        Product::Image => print_image(alloc, assembly.image())?,
-        Product::Listing => listing(alloc, assembly, bytes, lines)?,
-    };
-    Ok(Reply {
-        status: 0,
-        text: Seq::from_vec(text),
-    })
+    match product {
+        Product::Image => print_image(alloc, assembly.image()),
+        Product::Listing => listing(alloc, assembly, bytes, lines),
+    }
 }
 
 /// The reply to a refused source.
@@ -54,7 +52,7 @@ fn refuse(alloc: Global, fault: AsmFault) -> Result<Reply, NoMemory>
     ensures refused { OnOk result (fault ≢ WantsMemory) }
     ensures status { IfOk result (λ reply. reply.status ≡ 3) }
     ensures text { IfOk result (λ reply. reply.text ≡ refusal_text (name_of fault) (line_of fault)) }
-    ensures short { IfOk result (λ reply. length reply.text ≤ LONGEST_TEXT) }
+    ensures short { IfOk result (λ reply. length reply.text ≤ LONGEST_IMAGE) }
 {
     match fault {
         AsmFault::NoMemory => Err(NoMemory),
@@ -64,15 +62,23 @@ fn refuse(alloc: Global, fault: AsmFault) -> Result<Reply, NoMemory>
 
 /// The reply to a source. It takes no device.
 pub fn assemble_bytes(alloc: Global, product: Product, bytes: &[u8]) -> Result<Reply, NoMemory>
-    requires { length bytes.now ≤ 2 ^ 20 }
+    requires size { length bytes.now < 2 ^ 32 - 1 }
+    requires listed { product ≡ Listing → length bytes.now ≤ 2 ^ 20 }
     // 0 and the text that was asked for, or 3 and the source's first refusal.
     ensures status { IfOk result (λ reply. reply.status ≡ status_of (assembly_in bytes.now)) }
     ensures text { IfOk result (λ reply. reply.text ≡ text_of product bytes.now (assembly_in bytes.now)) }
     ensures short { IfOk result (λ reply. length reply.text ≤ LONGEST_TEXT) }
+    ensures image { product ≡ Image → IfOk result (λ reply. length reply.text ≤ LONGEST_IMAGE) }
 {
     let found = lines(alloc, bytes)?;
     match assemble(alloc, bytes, found.as_slice()) {
-        Ok(assembly) => print(alloc, product, &assembly, bytes, &found),
+        Ok(assembly) => {
+            let text = print(alloc, product, &assembly, bytes, &found)?;
+            Ok(Reply {
+                status: 0,
+                text: Seq::from_vec(text),
+            })
+        }
         Err(fault) => refuse(alloc, fault),
     }
 }
