@@ -21,6 +21,8 @@ pub use fault::SourceFault;
 pub use item::{Body, Constant, Item, Operand};
 pub use laws::items_are_few;
 pub use names::is_name;
+pub use operation::is_operation;
+pub use parts::{Parts, parts_by};
 pub use program::Program;
 pub use read::parse_source;
 

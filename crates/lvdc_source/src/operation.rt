@@ -1,4 +1,4 @@
-ghost use Rattle.std.specs.Prelude.{◌≡◌};
+ghost use Rattle.std.specs.Prelude.{◌≡◌, is_some};
 ghost use Rattle.lvdc_source.specs.Operations.{operation_of, is_unlabelled, is_modified, is_misplaced};
 
 use crate::Block;
@@ -45,6 +45,13 @@ pub(crate) fn operation_in(text: &[u8]) -> Option<Operation>
     } else {
         mnemonic(text).map(Operation::Machine)
     }
+}
+
+/// Whether a text is an operation of the assembler, EXM among them.
+pub fn is_operation(text: &[u8]) -> bool
+    ensures { result ≡ is_some (operation_of text.now) }
+{
+    operation_in(text).is_some()
 }
 
 impl Operation {

@@ -1,5 +1,5 @@
 ghost use Rattle.std.specs.Prelude.{◌≡◌, ◌≤◌, [], length, map, slice_index_or, All};
-ghost use Rattle.lvdc_text.specs.Lines.{IsWithin, part_of};
+ghost use Rattle.lvdc_text.specs.Lines.{IsWithin, part_of, word_texts_of};
 ghost use Rattle.lvdc_source.specs.Lines.{is_labelled, word_at, parts_of};
 ghost use Rattle.lvdc_text.specs.declared.comment.TheConstants.{LONGEST_LINE};
 
@@ -7,10 +7,13 @@ use lvdc_text::{LONGEST_LINE, Line, few_tokens, is_blank, part};
 
 /// The parts of a line; one that is missing is empty.
 #[derive(Clone, Copy, Debug)]
-pub(crate) struct Parts<'a> {
-    pub(crate) label: &'a [u8],
-    pub(crate) operation: &'a [u8],
-    pub(crate) operand: &'a [u8],
+pub struct Parts<'a> {
+    /// The label, where the line begins with one.
+    pub label: &'a [u8],
+    /// The operation: an instruction's mnemonic, a directive or any other word.
+    pub operation: &'a [u8],
+    /// The word after it, where there is one.
+    pub operand: &'a [u8],
 }
 
 /// Does the line begin with a label?
@@ -34,18 +37,15 @@ fn word_at<'a>(text: &'a [u8], words: &[Line], index: usize) -> &'a [u8]
     }
 }
 
-/// The parts of a line.
+/// The parts of a line whose words these are.
 #[tactic(auto, unfolding(crate::specs::Lines::parts_of))]
-pub(crate) fn parts_of(text: &[u8]) -> Parts<'_>
-    requires { length text.now ≤ LONGEST_LINE }
+pub fn parts_by<'a>(text: &'a [u8], words: &[Line]) -> Parts<'a>
+    requires within { All (IsWithin text.now) words.now }
+    requires words { map (part_of text.now) words.now ≡ word_texts_of text.now }
     ensures label { result.label.now ≡ (parts_of text.now).label }
     ensures operation { result.operation.now ≡ (parts_of text.now).operation }
     ensures operand { result.operand.now ≡ (parts_of text.now).operand }
 {
-    let Some(words) = few_tokens::<LONGEST_LINE>(text) else {
-        unreachable!();
-    };
-    let words = words.as_slice();
     if is_labelled(text) {
         Parts {
             label: word_at(text, words, 0),
@@ -59,4 +59,17 @@ pub(crate) fn parts_of(text: &[u8]) -> Parts<'_>
             operand: word_at(text, words, 1),
         }
     }
+}
+
+/// The parts of a line that isn't too long.
+pub(crate) fn parts_of(text: &[u8]) -> Parts<'_>
+    requires { length text.now ≤ LONGEST_LINE }
+    ensures label { result.label.now ≡ (parts_of text.now).label }
+    ensures operation { result.operation.now ≡ (parts_of text.now).operation }
+    ensures operand { result.operand.now ≡ (parts_of text.now).operand }
+{
+    let Some(words) = few_tokens::<LONGEST_LINE>(text) else {
+        unreachable!();
+    };
+    parts_by(text, words.as_slice())
 }
