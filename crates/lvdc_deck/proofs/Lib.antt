@@ -4,6 +4,13 @@ pub mod Ends
 pub mod Steps
 pub mod Banked
 pub mod Loaded
+pub mod Types
+pub mod MovedSource
+pub mod MovedPlaces
+pub mod MovedLines
+pub mod Moved
+pub mod Numbering
+pub mod Alone
 pub mod SessionDecks
 pub mod Apart
 mod Rows

@@ -2,9 +2,10 @@
 use Rattle.std.specs.Prelude.{◌≡◌, ◌+◌, ℕ, List, [], ◌∷◌, take, option_map, Result, Ok, Err}
 use Rattle.std.specs.declared.option.Option.{Option}
 use Rattle.std.specs.declared.option.Option.TheVariants.{None}
-use Rattle.lvdc_text.specs.Lines.{lines_of, part_of, NumberedLine, numbered}
+use Rattle.lvdc_text.specs.Lines.{lines_of, texts_of, part_of, NumberedLine, numbered}
 use Rattle.lvdc_text.specs.declared.cutting.Line.{Line}
 use Rattle.lvdc_image.specs.Image.{Contents}
+use Rattle.lvdc_image.specs.Reading.{texts}
 use Rattle.lvdc_asm.specs.Assembly.{Assembled, assembly_of}
 use Rattle.lvdc_asm.specs.declared.fault.AsmFault.{AsmFault}
 use Rattle.lvdc_deck.specs.declared.section.Opening.{Opening}
@@ -26,6 +27,10 @@ source_from bytes (line ∷ lines) = source_by bytes lines (opening_of (part_of 
 -- the lines of the source of a deck, with their numbers in the whole
 abbrev pub source_in : List ℕ → Option (List NumberedLine)
 source_in bytes = option_map (numbered bytes) (source_from bytes (lines_of bytes))
+
+-- a text of its own has the lines of this source, whatever their numbers are here
+abbrev pub HasLines : List ℕ → List NumberedLine → Type 0
+HasLines own source = texts_of own ≡ texts source
 
 -- the image has the words of this assembly, and nothing but words
 abbrev pub IsImageBy : Contents → Result Assembled AsmFault → Type 0

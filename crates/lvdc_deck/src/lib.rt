@@ -17,7 +17,7 @@ mod section;
 
 pub use deck::Deck;
 pub use fault::DeckFault;
-pub use laws::{commands_are_apart, session_is_run, source_is_assembled};
+pub use laws::{commands_are_apart, session_is_run, source_is_assembled, source_is_moved};
 pub use read::read_deck;
 
 /// The greatest count of instruction times, and the latest time of an UNPLUG line (this project's profile).
