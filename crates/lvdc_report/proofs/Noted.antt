@@ -15,12 +15,12 @@ use Rattle.lvdc_model.specs.declared.outcome.Outcome.{Outcome}
 use Rattle.lvdc_model.specs.declared.outcome.Outcome.TheVariants as outcomes
 use Rattle.lvdc_model.specs.declared.repair.Repair.{Repair}
 use Rattle.lvdc_model.specs.Exchanges.{prepared, ended, latches, repair_by, reading, exchanges, wished}
-use Rattle.lvdc_model.specs.Runs.{through, through_by, alone, alone_by, judged_by, found}
+use Rattle.lvdc_model.specs.Runs.{after_steps, through_step, through_by, alone_step, alone_by, judged_by, found}
 use Rattle.lvdc_model.specs.Trial.{Trial}
 use Rattle.lvdc_model.specs.Twins.{read_answer}
-use Rattle.lvdc_model.specs.Voted.{Voted}
-use Rattle.lvdc_machine.specs.Stands.{state_by}
-use Rattle.lvdc_machine.specs.Steps.{run_of}
+use Rattle.lvdc_model.specs.Voted.{Voted, voted_start}
+use Rattle.lvdc_machine.specs.Resumed.{steps_since, run_to, state_from}
+use Rattle.lvdc_machine.specs.Steps.{run_from}
 use Rattle.lvdc_machine.specs.declared.mode.Mode.{Mode}
 use Rattle.lvdc_machine.specs.declared.mode.Mode.TheVariants.{Guarded, Through}
 
@@ -28,9 +28,10 @@ use Rattle.lvdc_machine.specs.declared.mode.Mode.TheVariants.{Guarded, Through}
 abbrev pub AreBelow : ℕ → List Repair → Type 0
 AreBelow steps repairs = All (λ (r : Repair). r.step < steps) repairs
 
--- log and repairs have together no more lines than steps were made, and each repair was noted in one of them
-pub record IsNoted (v : Voted) : Type 0 where
-  pub few : length v.log + length v.repairs ≤ v.steps
+-- since a first state log and repairs have together grown by no more lines than steps were made, and each repair was noted in a
+-- step before the next one
+pub record IsNoted (first v : Voted) : Type 0 where
+  pub few : first.steps + (length v.log + length v.repairs) ≤ length first.log + length first.repairs + v.steps
   pub dated : AreBelow v.steps v.repairs
 
 -- steps below a number are below every greater one
@@ -49,68 +50,80 @@ repair_by_dated (Some twin) step at switched =
     (All-nil (λ (r : Repair). r.step < suc step))
 
 -- the step that is latched is counted
-latches_noted : (o : Trial) (v : Voted) (memory port : ℕ) → length v.log + length v.repairs ≤ suc v.steps → AreBelow (suc v.steps) v.repairs
-    → IsNoted (latches o v memory port)
-latches_noted o v memory port few dated = record { few = few; dated = dated }
+latches_noted : (f : Voted) (o : Trial) (v : Voted) (memory port : ℕ)
+    → f.steps + (length v.log + length v.repairs) ≤ length f.log + length f.repairs + suc v.steps → AreBelow (suc v.steps) v.repairs
+    → IsNoted f (latches o v memory port)
+latches_noted f o v memory port few dated = record { few = few; dated = dated }
 
-reading_noted : (answer : Result ReadOut BothBad) (o : Trial) (v : Voted) (at : Spot) → IsNoted v → IsNoted (reading answer o v at)
-reading_noted (Err bad) o v at n = record { few = n.few; dated = n.dated }
-reading_noted (Ok r) o v at n = record {
+reading_noted : (f : Voted) (answer : Result ReadOut BothBad) (o : Trial) (v : Voted) (at : Spot) → IsNoted f v → IsNoted f (reading answer o v at)
+reading_noted f (Err bad) o v at n = record { few = n.few; dated = n.dated }
+reading_noted f (Ok r) o v at n = record {
   few = omega (arith, n.few, length-append v.repairs (repair_by r.repaired v.steps at r.switched), repair_by_few r.repaired v.steps at r.switched);
   dated = All-append (λ (p : Repair). p.step < suc v.steps) v.repairs (repair_by r.repaired v.steps at r.switched)
       (below_more v.steps (suc v.steps) v.repairs (omega arith) n.dated) (repair_by_dated r.repaired v.steps at r.switched);
 }
 
-exchanges_noted : (o : Trial) (v : Voted) (wanted : Wanted) → IsNoted v → IsNoted (exchanges o v wanted)
-exchanges_noted o v Nothing n = record { few = omega (arith, n.few); dated = below_more v.steps (suc v.steps) v.repairs (omega arith) n.dated }
-exchanges_noted o v (Fetch at) n = reading_noted (read_answer o v.steps v.twins at) o v at n
-exchanges_noted o v (Operand at) n = reading_noted (read_answer o v.steps v.twins at) o v at n
-exchanges_noted o v (Store at word) n = record { few = omega (arith, n.few); dated = below_more v.steps (suc v.steps) v.repairs (omega arith) n.dated }
-exchanges_noted o v (PortRead port) n = record {
+exchanges_noted : (f : Voted) (o : Trial) (v : Voted) (wanted : Wanted) → IsNoted f v → IsNoted f (exchanges o v wanted)
+exchanges_noted f o v Nothing n = record { few = omega (arith, n.few); dated = below_more v.steps (suc v.steps) v.repairs (omega arith) n.dated }
+exchanges_noted f o v (Fetch at) n = reading_noted f (read_answer o v.steps v.twins at) o v at n
+exchanges_noted f o v (Operand at) n = reading_noted f (read_answer o v.steps v.twins at) o v at n
+exchanges_noted f o v (Store at word) n = record { few = omega (arith, n.few); dated = below_more v.steps (suc v.steps) v.repairs (omega arith) n.dated }
+exchanges_noted f o v (PortRead port) n = record {
   few = simp length-append (omega (arith, n.few));
   dated = below_more v.steps (suc v.steps) v.repairs (omega arith) n.dated;
 }
-exchanges_noted o v (PortWrite port word) n = record {
+exchanges_noted f o v (PortWrite port word) n = record {
   few = simp length-append (omega (arith, n.few));
   dated = below_more v.steps (suc v.steps) v.repairs (omega arith) n.dated;
 }
 
-prepared_noted : (o : Trial) (v : Voted) → IsNoted v → IsNoted (prepared o v)
-prepared_noted o v n = record { few = n.few; dated = n.dated }
+prepared_noted : (f : Voted) (o : Trial) (v : Voted) → IsNoted f v → IsNoted f (prepared o v)
+prepared_noted f o v n = record { few = n.few; dated = n.dated }
 
-ended_noted : (v : Voted) (e : Outcome) → IsNoted v → IsNoted (ended v e)
-ended_noted v e n = record { few = n.few; dated = n.dated }
+ended_noted : (f : Voted) (v : Voted) (e : Outcome) → IsNoted f v → IsNoted f (ended v e)
+ended_noted f v e n = record { few = n.few; dated = n.dated }
 
-through_by_noted : (end : Option Outcome) (o : Trial) (v : Voted) → IsNoted v → IsNoted (through_by end o v)
-through_by_noted (Some e) o v n = n
-through_by_noted None o v n = exchanges_noted o (prepared o v) (wished o (prepared o v)) (prepared_noted o v n)
+through_by_noted : (f : Voted) (end : Option Outcome) (o : Trial) (v : Voted) → IsNoted f v → IsNoted f (through_by end o v)
+through_by_noted f (Some e) o v n = n
+through_by_noted f None o v n = exchanges_noted f o (prepared o v) (wished o (prepared o v)) (prepared_noted f o v n)
 
-through_noted : (o : Trial) (t : ℕ) → IsNoted (through o t)
-through_noted o zero = record { few = omega arith; dated = All-nil (λ (r : Repair). r.step < 0) }
-through_noted o (suc t) = through_by_noted (through o t).end o (through o t) (through_noted o t)
+-- the run of either kind from a state
+through_noted : (f : Voted) → AreBelow f.steps f.repairs → (o : Trial) (t : ℕ) → IsNoted f (after_steps (through_step o) f t)
+through_noted f below o zero = record { few = omega arith; dated = below }
+through_noted f below o (suc t) =
+    let v = after_steps (through_step o) f t in
+    through_by_noted f v.end o v (through_noted f below o t)
 
-judged_by_noted : (verdict : Verdict) (o : Trial) (v : Voted) → IsNoted v → IsNoted (judged_by verdict o v)
-judged_by_noted verdicts.Admissible o v n = exchanges_noted o v (wished o v) n
-judged_by_noted (verdicts.Logic step m) o v n = ended_noted v (outcomes.Inadmissible (verdicts.Logic step m)) n
-judged_by_noted (verdicts.Memory step at) o v n = ended_noted v (outcomes.Inadmissible (verdicts.Memory step at)) n
+judged_by_noted : (f : Voted) (verdict : Verdict) (o : Trial) (v : Voted) → IsNoted f v → IsNoted f (judged_by verdict o v)
+judged_by_noted f verdicts.Admissible o v n = exchanges_noted f o v (wished o v) n
+judged_by_noted f (verdicts.Logic step m) o v n = ended_noted f v (outcomes.Inadmissible (verdicts.Logic step m)) n
+judged_by_noted f (verdicts.Memory step at) o v n = ended_noted f v (outcomes.Inadmissible (verdicts.Memory step at)) n
 
-alone_by_noted : (end : Option Outcome) (o : Trial) (v : Voted) → IsNoted v → IsNoted (alone_by end o v)
-alone_by_noted (Some e) o v n = n
-alone_by_noted None o v n = judged_by_noted (found o (prepared o v)) o (prepared o v) (prepared_noted o v n)
+alone_by_noted : (f : Voted) (end : Option Outcome) (o : Trial) (v : Voted) → IsNoted f v → IsNoted f (alone_by end o v)
+alone_by_noted f (Some e) o v n = n
+alone_by_noted f None o v n = judged_by_noted f (found o (prepared o v)) o (prepared o v) (prepared_noted f o v n)
 
-alone_noted : (o : Trial) (t : ℕ) → IsNoted (alone o t)
-alone_noted o zero = record { few = omega arith; dated = All-nil (λ (r : Repair). r.step < 0) }
-alone_noted o (suc t) = alone_by_noted (alone o t).end o (alone o t) (alone_noted o t)
+alone_noted : (f : Voted) → AreBelow f.steps f.repairs → (o : Trial) (t : ℕ) → IsNoted f (after_steps (alone_step o) f t)
+alone_noted f below o zero = record { few = omega arith; dated = below }
+alone_noted f below o (suc t) =
+    let v = after_steps (alone_step o) f t in
+    alone_by_noted f v.end o v (alone_noted f below o t)
 
-run_of_noted : (mode : Mode) (o : Trial) (t : ℕ) → IsNoted (run_of mode o t)
-run_of_noted Guarded o t = alone_noted o t
-run_of_noted Through o t = through_noted o t
+run_from_noted : (f : Voted) → AreBelow f.steps f.repairs → (mode : Mode) (o : Trial) (t : ℕ) → IsNoted f (run_from mode o f t)
+run_from_noted f below Guarded o t = alone_noted f below o t
+run_from_noted f below Through o t = through_noted f below o t
 
 -- whatever end a machine has come to
-pub state_by_noted : (end : Option Outcome) (mode : Mode) (o : Trial) (t : ℕ) → IsNoted (state_by end mode o t)
-state_by_noted None mode o t = run_of_noted mode o t
-state_by_noted (Some outcomes.Done) mode o t = run_of_noted mode o t
-state_by_noted (Some (outcomes.Stopped step stop)) mode o t = run_of_noted mode o t
-state_by_noted (Some (outcomes.Inadmissible verdict)) mode o t = run_of_noted mode o t
-state_by_noted (Some (outcomes.Device step port)) mode o t =
-    ended_noted (prepared o (run_of mode o step)) (outcomes.Device step port) (prepared_noted o (run_of mode o step) (run_of_noted mode o step))
+pub state_from_noted : (f : Voted) → AreBelow f.steps f.repairs → (end : Option Outcome) (mode : Mode) (o : Trial) (n : ℕ)
+    → IsNoted f (state_from end mode o f n)
+state_from_noted f below None mode o n = run_from_noted f below mode o n
+state_from_noted f below (Some outcomes.Done) mode o n = run_from_noted f below mode o n
+state_from_noted f below (Some (outcomes.Stopped step stop)) mode o n = run_from_noted f below mode o n
+state_from_noted f below (Some (outcomes.Inadmissible verdict)) mode o n = run_from_noted f below mode o n
+state_from_noted f below (Some (outcomes.Device step port)) mode o n =
+    let v = run_to mode o f step in
+    ended_noted f (prepared o v) (outcomes.Device step port) (prepared_noted f o v (run_from_noted f below mode o (steps_since f.steps step)))
+
+-- at the start nothing is noted
+pub start_below : (o : Trial) → AreBelow (voted_start o).steps (voted_start o).repairs
+start_below o = All-nil (λ (r : Repair). r.step < 0)

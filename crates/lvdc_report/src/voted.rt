@@ -1,6 +1,8 @@
-ghost use Rattle.std.specs.Prelude.{◌≡◌, ◌≤◌, ℕ, List, length, IfOk};
+ghost use Rattle.std.specs.Prelude.{◌≡◌, ◌+◌, ◌*◌, ◌<◌, ◌≤◌, ℕ, List, All, length, IfOk};
 ghost use Rattle.lvdc_port.specs.Device.{Device};
 ghost use Rattle.lvdc_model.specs.Trial.{Trial};
+ghost use Rattle.lvdc_model.specs.Voted.{Voted};
+ghost use Rattle.lvdc_machine.specs.Resumed.{state_from, StandsFrom};
 ghost use Rattle.lvdc_machine.specs.Stands.{Stands, state_by};
 ghost use Rattle.lvdc_machine.specs.View.{answer_of_end};
 ghost use Rattle.lvdc_report.specs.Voted.{title_of, voted_text};
@@ -39,9 +41,18 @@ pub fn report_run(
     ensures text { IfOk result (λ text. (o : Trial) (t : ℕ) (ds : List Device) → Stands o t machine.now ds
         → text.items ≡ voted_text (title_of mode) o (state_by machine.now.end machine.now.mode o t)) }
 
+    // The same of a run from a given state.
+    ensures resumed { IfOk result (λ text. (o : Trial) (first : Voted) (n : ℕ) (ds : List Device) → StandsFrom o first n machine.now ds
+        → text.items ≡ voted_text (title_of mode) o (state_from machine.now.end machine.now.mode o first n)) }
+
     // Where it stands for a trial, each step made has brought one exchange or one repair at most.
     ensures size { IfOk result (λ text. (o : Trial) (t : ℕ) (ds : List Device) → Stands o t machine.now ds
         → length text.items ≤ LONGEST_REPORT) }
+
+    // In a run from a given state they stand behind those that the state has.
+    ensures size_resumed { IfOk result (λ text. (o : Trial) (first : Voted) (n : ℕ) (ds : List Device) → StandsFrom o first n machine.now ds
+        → All (λ repair. repair.step < first.steps) first.repairs
+        → length text.items ≤ LONGEST_REPORT + 39 * (length first.log + length first.repairs)) }
 {
     let mut out = Vec::new(alloc);
     out.extend_from_slice(title_line(title_of(mode)))?;

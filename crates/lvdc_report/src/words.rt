@@ -3,7 +3,8 @@ ghost use Rattle.lvdc_map.specs.Memory.{Memory, IsMemory};
 ghost use Rattle.lvdc_port.specs.Device.{Device};
 ghost use Rattle.lvdc_model.specs.Known.{is_known};
 ghost use Rattle.lvdc_model.specs.Trial.{Trial};
-ghost use Rattle.lvdc_machine.specs.Stands.{Stands, state_by};
+ghost use Rattle.lvdc_model.specs.Voted.{Voted};
+ghost use Rattle.lvdc_machine.specs.Resumed.{state_from, StandsFrom};
 ghost use Rattle.lvdc_report.specs.Report.{memory_line, unknown_line, told_line, line_at, memory_text, all_known};
 
 use crate::end::put_address;
@@ -77,9 +78,9 @@ pub(crate) fn put_memory(out: &mut Vec<u8>, plain: &Plain) -> Result<(), NoMemor
 /// Adds the line of an address of the voted machine, where its bank is there: its word, unless it is 0, or that it can't be
 /// told.
 fn put_shown_line(out: &mut Vec<u8>, machine: &Machine, at: Address) -> Result<(), NoMemory>
-    ensures line { OnOk result ((o : Trial) (t : ℕ) (ds : List Device) → Stands o t machine.now ds → out.new.items ≡ out.old.items
-        ++ line_at machine.now.banks (state_by machine.now.end machine.now.mode o t).intended
-        (λ spot. is_known o (state_by machine.now.end machine.now.mode o t) spot) at) }
+    ensures line { OnOk result ((o : Trial) (first : Voted) (n : ℕ) (ds : List Device) → StandsFrom o first n machine.now ds → out.new.items ≡ out.old.items
+        ++ line_at machine.now.banks (state_from machine.now.end machine.now.mode o first n).intended
+        (λ spot. is_known o (state_from machine.now.end machine.now.mode o first n) spot) at) }
     ensures short { OnOk result (length out.new.items ≤ length out.old.items + 23) }
 {
     if !machine.banks().has(at) {
@@ -94,9 +95,9 @@ fn put_shown_line(out: &mut Vec<u8>, machine: &Machine, at: Address) -> Result<(
 
 /// Adds the lines of the words of the voted machine's memory, by rising address.
 pub(crate) fn put_shown_memory(out: &mut Vec<u8>, machine: &Machine) -> Result<(), NoMemory>
-    ensures lines { OnOk result ((o : Trial) (t : ℕ) (ds : List Device) → Stands o t machine.now ds → out.new.items ≡ out.old.items
-        ++ memory_text machine.now.banks (state_by machine.now.end machine.now.mode o t).intended
-        (λ spot. is_known o (state_by machine.now.end machine.now.mode o t) spot)) }
+    ensures lines { OnOk result ((o : Trial) (first : Voted) (n : ℕ) (ds : List Device) → StandsFrom o first n machine.now ds → out.new.items ≡ out.old.items
+        ++ memory_text machine.now.banks (state_from machine.now.end machine.now.mode o first n).intended
+        (λ spot. is_known o (state_from machine.now.end machine.now.mode o first n) spot)) }
     ensures short { OnOk result (length out.new.items ≤ length out.old.items + 23 * 32768) }
 {
     for number in 0..Address::COUNT {

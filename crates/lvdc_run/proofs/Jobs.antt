@@ -8,7 +8,6 @@ use Rattle.lvdc_soak.specs.Soak.{soak_of}
 use Rattle.lvdc_deck.specs.declared.deck.Deck.{Deck}
 use Rattle.lvdc_deck.specs.declared.fault.DeckFault.{DeckFault}
 use Rattle.lvdc_deck.specs.declared.fault.DeckFault.TheVariants.{NoMemory, BadSection, BadLine, NoProgram, NoDevice, TooManyEvents, CountTooLarge, Image, Asm}
-use Rattle.lvdc_report.specs.Voted.{wrong_text, repairs_text}
 use Rattle.lvdc_reply.specs.Answer.{Answer, answer_with, refusal_text}
 use Rattle.lvdc_reply.specs.Replies as reply
 use Rattle.lvdc_reply.specs.Replies.{Quiet, IsRefused, IsUnfailed, IsReply}
@@ -146,16 +145,17 @@ pub job_is : (P : Job → Trial → ℕ → Type 0) (n : ℕ)
 job_is P n law j bytes devices h =
     ap (λ (a : Answer). a.status) (sym (job_answer-ran j bytes devices h.deck h.means)) ∙ law j (trial_of devices h.deck) h.deck.count h.comes
 
-account-headline : (o : Trial) (n : ℕ) → Headline o n (run_answer (job.Deck Guarded) o n).text (run_answer (job.Deck Guarded) o n).devices
+account-headline : (o : Trial) (n : ℕ) → Headline o n (run_answer (job.Deck Guarded) o n)
 account-headline o n =
     record {
-      report = record { wrong = wrong_text (guarded o (3 * n)).counts; repairs = repairs_text (guarded o (3 * n)).repairs; is = refl };
+      status = refl;
+      report = record { counts = (guarded o (3 * n)).counts; repairs = (guarded o (3 * n)).repairs; is = refl };
       left = refl;
     }
 
 -- the headline of a deck
 pub job-headline : (bytes : List ℕ) (devices : List Device) (deck : Deck) → deck_of bytes devices false ≡ Ok deck
-    → Headline (trial_of devices deck) deck.count (job_answer (job.Deck Guarded) bytes devices).text (job_answer (job.Deck Guarded) bytes devices).devices
+    → Headline (trial_of devices deck) deck.count (job_answer (job.Deck Guarded) bytes devices)
 job-headline bytes devices deck means =
-    subst (λ (a : Answer). Headline (trial_of devices deck) deck.count a.text a.devices) (job_answer-ran (job.Deck Guarded) bytes devices deck means)
+    subst (λ (a : Answer). Headline (trial_of devices deck) deck.count a) (job_answer-ran (job.Deck Guarded) bytes devices deck means)
     (account-headline (trial_of devices deck) deck.count)

@@ -7,3 +7,4 @@ pub mod VotedRuns
 pub mod Making
 pub mod Loading
 pub mod Jobs
+pub mod Rows

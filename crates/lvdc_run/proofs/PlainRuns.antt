@@ -14,10 +14,10 @@ use Rattle.lvdc_report.specs.Report.{report_text, outcome_of}
 use Rattle.lvdc_report.specs.declared.title.Title.TheVariants as title
 use Rattle.lvdc_run.specs.declared.job.Job.TheVariants as job
 use Rattle.lvdc_run.specs.declared.job.Engine.TheVariants as engine
-use Rattle.lvdc_run.specs.Accounts.{end_by}
+use Rattle.lvdc_run.specs.Accounts.{end_by, end_status}
 use Rattle.lvdc_deck.specs.declared.deck.Deck.{Deck}
 use Rattle.lvdc_reply.specs.Answer.{Answer, answer_with}
-use Rattle.lvdc_run.specs.Answers.{begun_world, end_status, run_answer, failed_answer}
+use Rattle.lvdc_run.specs.Answers.{begun_world, run_answer, failed_answer}
 use Rattle.lvdc_run.specs.Trials.{trial_of}
 use Rattle.lvdc_run.specs.Finished.{HasPlainCause, HasRunPlainly}
 use Rattle.lvdc_run.specs.Runs.{ExchangesPlainly}

@@ -23,8 +23,8 @@ use Rattle.lvdc_report.specs.Report.{outcome_of}
 use Rattle.lvdc_run.specs.declared.job.Job.{Job}
 use Rattle.lvdc_run.specs.declared.job.Job.TheVariants as job
 use Rattle.lvdc_run.specs.declared.job.Engine.TheVariants.{Guarded, Through, Plain}
-use Rattle.lvdc_run.specs.Accounts.{end_by, account_by}
-use Rattle.lvdc_run.specs.Answers.{end_status, run_answer, failed_answer}
+use Rattle.lvdc_run.specs.Accounts.{end_by, account_by, end_status}
+use Rattle.lvdc_run.specs.Answers.{run_answer, failed_answer}
 use Rattle.lvdc_run.specs.Runs.{Judges, IsStop, StopsAdmitted, Stops}
 
 -- the status of a run in which no device failed

@@ -17,11 +17,12 @@ use Rattle.lvdc_deck.specs.declared.deck.Deck.{Deck}
 use Rattle.lvdc_run.specs.declared.job.Job.{Job}
 use Rattle.lvdc_run.specs.declared.job.Job.TheVariants as job
 use Rattle.lvdc_run.specs.declared.job.Engine.TheVariants as engine
-use Rattle.lvdc_run.specs.Accounts.{Account, account, begun_account}
+use Rattle.lvdc_run.specs.Accounts.{Account, account, begun_account, end_status}
 use Rattle.lvdc_reply.specs.Answer.{Answer, answer_with}
 use Rattle.lvdc_run.specs.Trials.{trial_of}
-use Rattle.lvdc_run.specs.Answers.{account_answer, soak_answer, end_status, run_answer, failed_answer}
-use Rattle.lvdc_run.specs.Finished.{HasCause, HasRun, Tells, TellsBy, HasJudged}
+use Rattle.lvdc_run.specs.Answers.{account_answer, soak_answer, run_answer, failed_answer}
+use Rattle.lvdc_machine.specs.Causes.{HasCause}
+use Rattle.lvdc_run.specs.Finished.{HasRun, Tells, TellsBy, HasJudged}
 use Rattle.lvdc_run.specs.Runs.{Exchanges}
 use Rattle.lvdc_run.specs.Replies.{IsRun, made, failed, IsRunOf, IsUnreported, reporting}
 use Rattle.lvdc_run.proofs.Told.{told, soak-told}

@@ -12,11 +12,10 @@ use Rattle.lvdc_plain.specs.declared.records.Stop.{Stop}
 use Rattle.lvdc_fault.specs.declared.verdict.Verdict.{Verdict}
 use Rattle.lvdc_fault.specs.declared.verdict.Verdict.TheVariants.{Admissible, Logic, Memory}
 use Rattle.lvdc_model.specs.declared.outcome.Outcome.{Outcome}
-use Rattle.lvdc_model.specs.declared.outcome.Outcome.TheVariants.{Inadmissible}
+use Rattle.lvdc_model.specs.declared.outcome.Outcome.TheVariants.{Done, Stopped, Inadmissible, Device}
 use Rattle.lvdc_model.specs.Judging.{first_bad, is_recoverable, is_recoverable_after}
-use Rattle.lvdc_model.specs.Trial.{Trial, plain_at, plain_in}
+use Rattle.lvdc_model.specs.Trial.{Trial, plain_at, plain_in, plugged_in}
 use Rattle.lvdc_report.specs.Report.{outcome_of}
-use Rattle.lvdc_run.specs.Trials.{devices_in}
 
 -- the end of a run, the plain state that its report shows, the devices that it leaves, and which words can be recovered
 pub record Account : Type 0 where
@@ -47,7 +46,7 @@ begun_account o step end =
     record {
       end = end;
       plain = plain_in o step;
-      devices = devices_in o step;
+      devices = plugged_in o step;
       recoverable = is_recoverable o step;
     }
 
@@ -60,3 +59,10 @@ account_by (Memory step at) o n = begun_account o step (Inadmissible (Memory ste
 -- what `run` tells of a trial of so many times
 abbrev pub account : Trial → ℕ → Account
 account o n = account_by (first_bad o n) o n
+
+-- 0 where all times were made, 6 at a stop, 5 at an inadmissible step, 10 where a device failed
+abbrev pub end_status : Outcome → ℕ
+end_status Done = 0
+end_status (Stopped step stop) = 6
+end_status (Inadmissible verdict) = 5
+end_status (Device step port) = 10

@@ -5,11 +5,10 @@ use Rattle.lvdc_plain.specs.Plain.{World}
 use Rattle.lvdc_plain.specs.Run.{run}
 use Rattle.lvdc_plain.specs.declared.records.PlainEnd.{PlainEnd}
 use Rattle.lvdc_plain.specs.declared.records.PlainEnd.TheVariants as plain
-use Rattle.lvdc_model.specs.declared.outcome.Outcome.{Outcome}
-use Rattle.lvdc_model.specs.declared.outcome.Outcome.TheVariants.{Done, Stopped, Inadmissible, Device}
+use Rattle.lvdc_model.specs.declared.outcome.Outcome.TheVariants.{Device}
 use Rattle.lvdc_model.specs.Exchanges.{prepared, ended}
 use Rattle.lvdc_model.specs.Runs.{guarded, through}
-use Rattle.lvdc_model.specs.Trial.{Trial, plain_in}
+use Rattle.lvdc_model.specs.Trial.{Trial, plain_in, plugged_in}
 use Rattle.lvdc_model.specs.Voted.{Voted}
 use Rattle.lvdc_machine.specs.View.{answer_of_end}
 use Rattle.lvdc_deck.specs.Deck.{deck_of}
@@ -24,19 +23,12 @@ use Rattle.lvdc_run.specs.declared.job.Engine.{Engine}
 use Rattle.lvdc_run.specs.declared.job.Engine.TheVariants.{Guarded, Through, Plain}
 use Rattle.lvdc_run.specs.declared.job.Job.{Job}
 use Rattle.lvdc_run.specs.declared.job.Job.TheVariants as job
-use Rattle.lvdc_run.specs.Trials.{trial_of, devices_in}
-use Rattle.lvdc_run.specs.Accounts.{Account, end_by, begun_account, account}
+use Rattle.lvdc_run.specs.Trials.{trial_of}
+use Rattle.lvdc_run.specs.Accounts.{Account, end_by, begun_account, account, end_status}
 use Rattle.lvdc_run.specs.Headline.{account_front}
 use Rattle.lvdc_run.specs.Refusals.{refused_answer}
 
 -- ---- answers of runs
-
--- 0 where all times were made, 6 at a stop, 5 at an inadmissible step, 10 where a device failed
-abbrev pub end_status : Outcome → ℕ
-end_status Done = 0
-end_status (Stopped step stop) = 6
-end_status (Inadmissible verdict) = 5
-end_status (Device step port) = 10
 
 -- the report of `run`: the account, and last what the voted machine did for it, copy by copy and repair by repair
 abbrev pub account_text : Trial → Account → Voted → List ℕ
@@ -71,7 +63,7 @@ run_answer (job.Soak number) o n = soak_answer number (account o n) (guarded o (
 
 -- the plain run in a step that was begun: its state after the whole times before, and the devices that are left
 abbrev pub begun_world : Trial → ℕ → World
-begun_world o step = record { plain = plain_in o step; devices = devices_in o step }
+begun_world o step = record { plain = plain_in o step; devices = plugged_in o step }
 
 -- the answer of a run in which the device at this port fails in this step: it is of the run so far
 abbrev pub failed_answer : Job → Trial → ℕ → ℕ → Answer

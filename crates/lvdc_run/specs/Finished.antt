@@ -16,7 +16,7 @@ use Rattle.lvdc_model.specs.Runs.{guarded}
 use Rattle.lvdc_model.specs.Trial.{Trial}
 use Rattle.lvdc_model.specs.Voted.{Voted}
 use Rattle.lvdc_laws.specs.Ends.{IsOpening}
-use Rattle.lvdc_machine.specs.Causes.{Caused}
+use Rattle.lvdc_machine.specs.Causes.{HasCause}
 use Rattle.lvdc_machine.specs.Stands.{Stands, state_by}
 use Rattle.lvdc_machine.specs.View.{View, answer_of_end}
 use Rattle.lvdc_machine.specs.declared.mode.Mode.{Mode}
@@ -26,13 +26,8 @@ use Rattle.lvdc_report.specs.Voted.{visible_of}
 use Rattle.lvdc_run.specs.Accounts.{Account, account, begun_account}
 use Rattle.lvdc_run.specs.Runs.{ExchangesAdmitted}
 
--- an end has its cause in the devices' counts of faults, before and after: a failure in the device that it names, and in it alone;
--- with every other end no count has grown of a device that is left
-abbrev pub HasCause : {B : Type 0} → (B → device.Device) → (B → ℕ) → Outcome → List B → List B → Type 0
-HasCause device_of faults end old new =
-    Caused end (λ port. count_at device_of faults port old) (λ port. count_at device_of faults port new) (λ port. has_port device_of port new)
-
--- the same of an end of the plain machine
+-- an end of the plain machine has its cause in the devices' counts of faults, before and after: a failure in the device that it
+-- names, and in it alone; with every other end no count has grown of a device that is left
 abbrev pub HasPlainCause : {B : Type 0} → (B → device.Device) → (B → ℕ) → PlainEnd → List B → List B → Type 0
 HasPlainCause device_of faults end old new =
     plain.Caused end (λ port. count_at device_of faults port old) (λ port. count_at device_of faults port new) (λ port. has_port device_of port new)

@@ -3,11 +3,13 @@
 -- fault-free instruction table on the deck's image; the first inadmissible step ends the run, and the report names that step and
 -- its cause after that same run so far.
 use Rattle.std.specs.Prelude.{◌≡◌, ℕ, List, ◌++◌}
-use Rattle.lvdc_port.specs.Device.{Device}
 use Rattle.lvdc_model.specs.Trial.{Trial}
+use Rattle.lvdc_model.specs.declared.repair.Repair.{Repair}
 use Rattle.lvdc_report.specs.Report.{title_line, end_text, registers_text, visible_in, log_text, memory_text}
+use Rattle.lvdc_report.specs.Voted.{wrong_text, repairs_text}
 use Rattle.lvdc_report.specs.declared.title.Title.TheVariants.{Run}
-use Rattle.lvdc_run.specs.Accounts.{Account, account}
+use Rattle.lvdc_reply.specs.Answer.{Answer}
+use Rattle.lvdc_run.specs.Accounts.{Account, account, end_status}
 
 -- the report of an account, up to what the redundancy did: its end, its registers, its port exchanges, and of each address the
 -- word where it can be recovered
@@ -16,15 +18,16 @@ account_front o told =
     title_line Run ++ end_text told.end ++ registers_text (visible_in told.plain) ++ log_text told.plain.log
     ++ memory_text o.opening.banks told.plain.memory told.recoverable
 
--- the text reports an account; its last two parts, which tell what the redundancy did copy by copy and repair by repair, are left
--- open here
+-- the text reports an account, and behind it stand the lines of some counts and of some repairs and no others: how often each copy
+-- differed and which cells were repaired is left open here
 pub record Reports (o : Trial) (told : Account) (text : List ℕ) : Type 0 where
-  pub wrong : List ℕ
-  pub repairs : List ℕ
-  pub is : text ≡ account_front o told ++ wrong ++ repairs
+  pub counts : List (List ℕ)
+  pub repairs : List Repair
+  pub is : text ≡ account_front o told ++ wrong_text counts ++ repairs_text repairs
 
--- the headline of a trial of so many times: the text reports the account of the plain run and the script, and the devices that are
--- left are those of that account
-pub record Headline (o : Trial) (n : ℕ) (text : List ℕ) (devices : List Device) : Type 0 where
-  pub report : Reports o (account o n) text
-  pub left : devices ≡ (account o n).devices
+-- the headline of a trial of so many times: the status is that of the end of the account of the plain run and the script, the text
+-- reports this account, and the devices that are left are those of it
+pub record Headline (o : Trial) (n : ℕ) (answer : Answer) : Type 0 where
+  pub status : answer.status ≡ end_status (account o n).end
+  pub report : Reports o (account o n) answer.text
+  pub left : answer.devices ≡ (account o n).devices

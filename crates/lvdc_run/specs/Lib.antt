@@ -7,3 +7,4 @@ pub mod Answers
 pub mod Runs
 pub mod Replies
 pub mod Finished
+pub mod Ready

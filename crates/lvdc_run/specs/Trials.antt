@@ -1,9 +1,8 @@
--- The trial of a deck, and the devices in a step of its plain run.
-use Rattle.std.specs.Prelude.{◌≡◌, ℕ, ◌≤◌, ◌/◌, true, All, List, length}
+-- The trial of a deck, and what is true of each deck.
+use Rattle.std.specs.Prelude.{◌≡◌, ◌≤◌, true, All, List, length}
 use Rattle.lvdc_map.specs.Memory.{are_rising, AllThere}
 use Rattle.lvdc_port.specs.Device.{Device}
 use Rattle.lvdc_port.specs.Supplies.{supplied}
-use Rattle.lvdc_plain.specs.Run.{plugged, run}
 use Rattle.lvdc_orders.specs.Events.{IsEvent}
 use Rattle.lvdc_model.specs.Trial.{Trial}
 use Rattle.lvdc_deck.specs.declared.TheConstants.{MOST_TIMES, MOST_EVENTS}
@@ -22,11 +21,6 @@ trial_of devices deck =
       };
       script = deck.script;
     }
-
--- the devices of the plain run in a step that was begun: those after the whole times before it, less those that are taken away at
--- its time
-abbrev pub devices_in : Trial → ℕ → List Device
-devices_in o step = plugged o.opening.unplugs (step / 3) (run o.opening (step / 3)).devices
 
 -- what is true of each deck that is read or drawn
 pub record IsRunnable (deck : Deck) : Type 0 where

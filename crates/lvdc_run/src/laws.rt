@@ -2,10 +2,10 @@
 
 ghost use Rattle.std.specs.Prelude.{◌≡◌, ℕ, false, List, Some, Ok};
 ghost use Rattle.lvdc_port.specs.Device.{Device};
-ghost use Rattle.lvdc_text.specs.Lines.{NumberedLine};
+ghost use Rattle.lvdc_text.specs.Lines.{NumberedLine, numbered, lines_of};
 ghost use Rattle.lvdc_asm.specs.Assembly.{assembly_of};
 ghost use Rattle.lvdc_deck.specs.Deck.{deck_of};
-ghost use Rattle.lvdc_deck.specs.Loading.{source_in};
+ghost use Rattle.lvdc_deck.specs.Loading.{source_in, HasLines};
 ghost use Rattle.lvdc_deck.specs.declared.deck.Deck.{Deck};
 ghost use Rattle.lvdc_run.specs.Trials.{trial_of};
 ghost use Rattle.lvdc_run.specs.Headline.{Headline};
@@ -21,14 +21,17 @@ use lvdc_deck::source_is_assembled;
 /// The answer of `run` to a deck carries the headline.
 pub fn headline_told()
     ensures { (bytes : List ℕ) (devices : List Device) (deck : Deck) → deck_of bytes devices false ≡ Ok deck →
-        Headline (trial_of devices deck) deck.count (job_answer (jobs.Deck engines.Guarded) bytes devices).text
-        (job_answer (jobs.Deck engines.Guarded) bytes devices).devices }
+        Headline (trial_of devices deck) deck.count (job_answer (jobs.Deck engines.Guarded) bytes devices) }
 {}
 
 /// A run of a deck that begins with a source starts with exactly the words that assembling the source's lines gives.
 pub fn source_is_loaded()
-    ensures { (bytes : List ℕ) (devices : List Device) (deck : Deck) (source : List NumberedLine) → deck_of bytes devices false ≡ Ok deck →
+    // With their numbers in the deck.
+    ensures deck { (bytes : List ℕ) (devices : List Device) (deck : Deck) (source : List NumberedLine) → deck_of bytes devices false ≡ Ok deck →
         source_in bytes ≡ Some source → StartsWith (trial_of devices deck) (assembly_of source) }
+    // And as a text of its own that has the same lines.
+    ensures alone { (bytes own : List ℕ) (devices : List Device) (deck : Deck) (source : List NumberedLine) → deck_of bytes devices false ≡ Ok deck →
+        source_in bytes ≡ Some source → HasLines own source → StartsWith (trial_of devices deck) (assembly_of (numbered own (lines_of own))) }
 {
     source_is_assembled();
 }

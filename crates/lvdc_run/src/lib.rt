@@ -4,12 +4,14 @@
 mod job;
 mod laws;
 mod perform;
+mod ready;
 mod refusal;
 mod runs;
 
 pub use job::{Engine, Job};
 pub use laws::{headline_told, source_is_loaded, statuses_caused};
 pub use perform::{refuse, run_job};
+pub use ready::{Ready, make_ready};
 pub use runs::end_status;
 
 #[cfg(test)]

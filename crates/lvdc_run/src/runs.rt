@@ -2,24 +2,24 @@
 
 ghost use Rattle.std.specs.Prelude.{◌≡◌, ◌≤◌, List, ℕ, length, map, OnOk, OnErr, IfOk};
 ghost use Rattle.lvdc_port.specs.Devices.{AreDistinct};
-ghost use Rattle.lvdc_port.specs.Supplies.{ports_of, supplied};
 ghost use Rattle.lvdc_plain.specs.View.{answer_of_end as plain_answer_of_end};
 ghost use Rattle.lvdc_machine.specs.View.{answer_of_end};
 ghost use Rattle.lvdc_machine.specs.declared.mode.Mode.TheVariants as modes;
 ghost use Rattle.lvdc_report.specs.Report.{outcome_of};
 ghost use Rattle.lvdc_reply.specs.Answer.{answer_with};
 ghost use Rattle.lvdc_run.specs.Trials.{trial_of, IsRunnable};
-ghost use Rattle.lvdc_run.specs.Answers.{end_status};
+ghost use Rattle.lvdc_run.specs.Accounts.{end_status};
 ghost use Rattle.lvdc_run.specs.Finished.{HasRun, HasRunPlainly, HasJudged};
 ghost use Rattle.lvdc_run.specs.Replies.{IsRunOf, IsAnswered, IsUnreported, IsUnanswered};
 ghost use Rattle.lvdc_run.specs.declared.job.Job.{Job as Asked};
 ghost use Rattle.lvdc_run.specs.declared.job.Job.TheVariants as jobs;
 ghost use Rattle.lvdc_run.specs.declared.job.Engine.TheVariants as engines;
 
+use crate::ready::{Ready, make_ready, supply_tapes};
 use lvdc_deck::Deck;
 use lvdc_machine::{Machine, Mode, Outcome, failed_exchange, guarded_follows};
 use lvdc_plain::{Plain, PlainEnd};
-use lvdc_port::{PortDevice, supply_all};
+use lvdc_port::PortDevice;
 use lvdc_reply::Reply;
 use lvdc_report::{LONGEST_REPORT, report_plain, report_run, report_soak};
 use lvdc_soak::soak_deck;
@@ -63,18 +63,6 @@ fn plain_status(end: &PlainEnd) -> u8
     }
 }
 
-/// Puts the words of a deck's TAPE lines behind those that the tapes still have.
-fn supply_tapes(devices: &mut Vec<Box<dyn PortDevice>>, deck: &Deck) -> Result<(), NoMemory>
-    requires distinct { AreDistinct (map device_of devices.old.items) }
-    ensures ok { OnOk result (map device_of devices.new.items ≡ supplied deck.now.supplies (map device_of devices.old.items)) }
-    ensures part { OnErr result ((job : Asked) → IsUnreported device_of faults job deck.now devices.old.items devices.new.items) }
-    ensures ports { ports_of (map device_of devices.new.items) ≡ ports_of (map device_of devices.old.items) }
-    ensures faults { map faults devices.new.items ≡ map faults devices.old.items }
-    ensures distinct { AreDistinct (map device_of devices.new.items) }
-{
-    supply_all(devices, deck.supplies.items())
-}
-
 /// Makes the voted machine of a deck, and runs it.
 fn run_machine(
     alloc: Global,
@@ -89,28 +77,12 @@ fn run_machine(
     ensures end { IfOk result (λ f. f.end ≡ answer_of_end f.machine.end) }
     ensures unmade { OnErr result ((job : Asked) → IsUnreported device_of faults job deck devices.old.items devices.new.items) }
 {
-    supply_tapes(devices, &deck)?;
-    let Deck {
-        image,
-        start,
-        banks,
-        unplugs,
-        script,
+    let Ready {
+        mut machine,
         orders,
         count,
         ..
-    } = deck;
-    let mut machine = Machine::new(
-        alloc,
-        image.words(),
-        banks,
-        start,
-        script,
-        unplugs.into_vec(),
-        mode,
-        count,
-        devices,
-    )?;
+    } = make_ready(alloc, mode, deck, devices)?;
     let end = machine.run(&orders, count, devices);
     Ok(Finished { machine, end })
 }

@@ -19,7 +19,7 @@ use Rattle.lvdc_machine.specs.Steps.{NamesPort}
 use Rattle.lvdc_machine.specs.View.{View, answer_of_end}
 use Rattle.lvdc_machine.specs.declared.mode.Mode.{Mode}
 use Rattle.lvdc_machine.specs.declared.mode.Mode.TheVariants.{Guarded}
-use Rattle.lvdc_run.specs.Answers.{end_status}
+use Rattle.lvdc_run.specs.Accounts.{end_status}
 use Rattle.lvdc_run.specs.Runs.{ExchangesAdmitted}
 use Rattle.lvdc_session.specs.Answers.{status_by, status_after}
 

@@ -13,7 +13,7 @@ use Rattle.lvdc_machine.specs.declared.mode.Mode.TheVariants.{Guarded}
 use Rattle.lvdc_deck.specs.declared.deck.Deck.{Deck}
 use Rattle.lvdc_reply.specs.Answer.{Answer, answer_with}
 use Rattle.lvdc_reply.specs.Replies.{Quiet, RoseAt, OthersQuiet}
-use Rattle.lvdc_run.specs.Answers.{end_status}
+use Rattle.lvdc_run.specs.Accounts.{end_status}
 use Rattle.lvdc_run.specs.Trials.{trial_of}
 use Rattle.lvdc_debug.specs.Session.{Failure, Subject, state_after, session_text, times_asked}
 use Rattle.lvdc_debug.specs.Standing as standing

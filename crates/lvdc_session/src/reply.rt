@@ -1,10 +1,9 @@
 ghost use Rattle.std.specs.Prelude.{◌≡◌, ◌-◌, ◌^◌, ◌<◌, ◌≤◌, ℕ, List, length, map, All, true, Ok, OnOk, OnErr, IfOk};
 ghost use Rattle.lvdc_port.specs.Devices.{AreDistinct};
-ghost use Rattle.lvdc_port.specs.Supplies.{ports_of, supplied};
 ghost use Rattle.lvdc_text.specs.Lines.{IsWithin};
 ghost use Rattle.lvdc_machine.specs.View.{answer_of_end};
 ghost use Rattle.lvdc_reply.specs.Answer.{answer_with};
-ghost use Rattle.lvdc_run.specs.Answers.{end_status};
+ghost use Rattle.lvdc_run.specs.Accounts.{end_status};
 ghost use Rattle.lvdc_run.specs.Trials.{IsRunnable};
 ghost use Rattle.lvdc_debug.specs.Standing.{AreApart};
 ghost use Rattle.lvdc_session.specs.Replies.{IsSession, IsAnswered, IsSessionReply, IsUnwritten, IsUnanswered};
@@ -12,9 +11,9 @@ ghost use Rattle.lvdc_session.specs.Replies.{IsSession, IsAnswered, IsSessionRep
 use lvdc_debug::{LONGEST_SESSION, debug};
 use lvdc_deck::{Deck, commands_are_apart, read_deck};
 use lvdc_machine::{Machine, Mode, failed_exchange, guarded_follows};
-use lvdc_port::{PortDevice, supply_all};
+use lvdc_port::PortDevice;
 use lvdc_reply::Reply;
-use lvdc_run::{end_status, refuse};
+use lvdc_run::{Ready, end_status, make_ready, refuse};
 use lvdc_word::{NoMemory, Seq};
 use std::alloc::Global;
 
@@ -26,18 +25,6 @@ fn status_of(machine: &Machine) -> u8
         Some(end) => end_status(&end),
         None => 0,
     }
-}
-
-/// Puts the words of a deck's TAPE lines behind those that the tapes still have.
-fn supply_tapes(devices: &mut Vec<Box<dyn PortDevice>>, deck: &Deck) -> Result<(), NoMemory>
-    requires distinct { AreDistinct (map device_of devices.old.items) }
-    ensures ok { OnOk result (map device_of devices.new.items ≡ supplied deck.now.supplies (map device_of devices.old.items)) }
-    ensures part { OnErr result ((bytes : List ℕ) → IsUnwritten device_of faults bytes deck.now devices.old.items devices.new.items) }
-    ensures ports { ports_of (map device_of devices.new.items) ≡ ports_of (map device_of devices.old.items) }
-    ensures faults { map faults devices.new.items ≡ map faults devices.old.items }
-    ensures distinct { AreDistinct (map device_of devices.new.items) }
-{
-    supply_all(devices, deck.supplies.items())
 }
 
 /// The reply to a deck: its session over the guarded run. The laws of guarded runs are cited here alone.
@@ -61,29 +48,12 @@ fn debug_deck(
     lvdc_laws::judges_alone();
     lvdc_laws::guarded_verdict();
     lvdc_laws::guarded_ends();
-    supply_tapes(devices, &deck)?;
-    let Deck {
-        image,
-        start,
-        banks,
-        unplugs,
-        script,
+    let Ready {
+        mut machine,
         orders,
         count,
         commands,
-        ..
-    } = deck;
-    let mut machine = Machine::new(
-        alloc,
-        image.words(),
-        banks,
-        start,
-        script,
-        unplugs.into_vec(),
-        Mode::Guarded,
-        count,
-        devices,
-    )?;
+    } = make_ready(alloc, Mode::Guarded, deck, devices)?;
     let text = debug(
         alloc,
         &mut machine,

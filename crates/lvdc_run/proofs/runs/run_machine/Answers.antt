@@ -1,21 +1,16 @@
 use Rattle.std.proofs.Common.{refl, ◌∙◌}
-use Rattle.lvdc_run.proofs.Counts.{supplied_all, on_err}
+use Rattle.lvdc_run.proofs.Counts.{unmade, on_err}
 use Rattle.lvdc_run.proofs.Making.{has_run}
 use Rattle.lvdc_run.proofs.runs.run_machine.Goals as goal
 
 pub returns-clause-run : goal.returns-clause-run
 returns-clause-run g c =
-    has_run _ _ c.args.deck c.args.devices.now.items c.supply_tapes.new.devices.items c.new.new.devices.items c.run-end.new.devices.items
-    c.words.result.now c.into_vec.result.items c.words.ensures.words c.into_vec.ensures
-    c.in_ok-supply_tapes.ensures.ok c.in_ok-supply_tapes.ensures.ports c.in_ok-supply_tapes.ensures.faults
-    c.in_ok-machine.ensures.devices c.in_ok-machine.ensures.faults
-    c.args.mode c.run-end.new.self c.run-end.result c.in_ok-machine.ensures.opening
+    has_run _ _ c.args.deck c.args.devices.now.items c.make_ready.new.devices.items c.run-end.new.devices.items c.in_ok-machine.ensures.counts
+    c.args.mode c.run-end.new.self c.run-end.result _ c.in_ok-machine.ensures.count c.in_ok-machine.ensures.opening
     (c.run-end.ensures.keeps.mode ∙ c.in_ok-machine.ensures.mode)
     (c.run-end.ensures.stands _ 0 c.in_ok-machine.ensures.stands) c.run-end.ensures.answer
     (c.run-end.ensures.cause (rw c.in_ok-machine.ensures.end refl))
 
 pub returns-in_err-machine-clause-unmade : goal.returns-in_err-machine-clause-unmade
 returns-in_err-machine-clause-unmade g c =
-    on_err _ (supplied_all _ _ c.args.deck c.args.devices.now.items c.supply_tapes.new.devices.items c.new.new.devices.items
-    c.in_ok-supply_tapes.ensures.ok c.in_ok-supply_tapes.ensures.ports c.in_ok-supply_tapes.ensures.faults
-    c.in_err-machine.ensures.devices c.in_err-machine.ensures.faults)
+    on_err _ (unmade _ _ c.args.deck c.args.devices.now.items c.make_ready.new.devices.items c.in_err-machine.ensures.part c.in_err-machine.ensures.counts)
