@@ -1,0 +1,3 @@
+pub mod Input
+pub mod Faults
+pub mod Answers

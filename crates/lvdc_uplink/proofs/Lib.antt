@@ -1,0 +1,11 @@
+mod Rows
+pub mod Placing
+pub mod Searching
+pub mod Words
+pub mod Applying
+pub mod Repeating
+pub mod Outcomes
+pub mod Histories
+pub mod Ranged
+pub mod Sound
+pub mod Storing

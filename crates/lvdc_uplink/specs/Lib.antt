@@ -1,0 +1,5 @@
+pub mod Frames
+pub mod Patching
+pub mod Messages
+pub mod Link
+pub mod History
