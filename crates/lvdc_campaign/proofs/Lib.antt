@@ -1,0 +1,8 @@
+mod Logs
+mod Equal
+mod Admitted
+mod Devices
+mod Verdicts
+mod Words
+mod Through
+mod Again

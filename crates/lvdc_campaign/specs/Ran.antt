@@ -1,0 +1,47 @@
+-- What machines without devices come to.
+use Rattle.std.specs.Prelude.{◌≡◌, ℕ, ◌*◌, []}
+use Rattle.std.specs.declared.option.Option.{Option}
+use Rattle.std.specs.declared.option.Option.TheVariants.{None, Some}
+use Rattle.lvdc_plain.specs.Run.{Opening, run}
+use Rattle.lvdc_plain.specs.Stands as plain
+use Rattle.lvdc_plain.specs.View as plain_view
+use Rattle.lvdc_fault.specs.declared.verdict.Verdict.{Verdict}
+use Rattle.lvdc_fault.specs.declared.verdict.Verdict.TheVariants.{Admissible}
+use Rattle.lvdc_model.specs.Trial.{Trial}
+use Rattle.lvdc_model.specs.declared.outcome.Outcome.{Outcome}
+use Rattle.lvdc_model.specs.declared.outcome.Outcome.TheVariants.{Done, Stopped, Inadmissible, Device}
+use Rattle.lvdc_laws.specs.Ends.{IsOpening}
+use Rattle.lvdc_machine.specs.declared.mode.Mode.{Mode}
+use Rattle.lvdc_machine.specs.Stands.{Stands}
+use Rattle.lvdc_machine.specs.View.{View}
+use Rattle.lvdc_campaign.specs.Same.{end_in}
+
+-- the plain machine shows the plain run after so many times, with its end
+pub record HasRunPlainly (program : Opening) (times : ℕ) (m : plain_view.View) : Type 0 where
+  pub banks : m.banks ≡ program.banks
+  pub shows : plain.Shows m (run program times).plain
+  pub end : m.end ≡ end_in (run program times).plain
+
+-- no device's failure is the end
+abbrev pub NoneFailed : Option Outcome → Type 0
+NoneFailed None = Unit {0}
+NoneFailed (Some Done) = Unit {0}
+NoneFailed (Some (Stopped step stop)) = Unit {0}
+NoneFailed (Some (Inadmissible verdict)) = Unit {0}
+NoneFailed (Some (Device step port)) = ⊥
+
+-- the verdict that an end tells
+abbrev pub verdict_in : Option Outcome → Verdict
+verdict_in None = Admissible
+verdict_in (Some Done) = Admissible
+verdict_in (Some (Stopped step stop)) = Admissible
+verdict_in (Some (Inadmissible verdict)) = verdict
+verdict_in (Some (Device step port)) = Admissible
+
+-- the voted machine stands in this mode after so many times of a trial, without devices
+pub record HasRun (mode : Mode) (o : Trial) (times : ℕ) (m : View) : Type 0 where
+  pub opening : IsOpening o.opening
+  pub banks : m.banks ≡ o.opening.banks
+  pub mode_is : m.mode ≡ mode
+  pub stands : Stands o (3 * times) m []
+  pub unfailed : NoneFailed m.end

@@ -1,0 +1,25 @@
+//! Fault campaigns: many scripts against one program, each with its verdict and whether its run through every fault comes to
+//! what the fault-free run comes to.
+#![tactic(auto)]
+
+mod laws;
+mod row;
+mod rows;
+mod runs;
+mod same;
+
+pub use laws::admissible_is_same;
+pub use row::Row;
+pub use rows::campaign;
+
+/// The most instruction times of a campaign (this project's profile).
+pub const MOST_TIMES: u64 = 10_000;
+
+/// The most scripts of a campaign (this project's profile).
+pub const MOST_SCRIPTS: usize = 256;
+
+/// The most events of a script (this project's profile).
+pub const MOST_EVENTS: usize = 65_536;
+
+#[cfg(test)]
+mod tests;

@@ -1,0 +1,90 @@
+//! What a run of the voted machine came to beside what the plain run came to.
+
+ghost use Rattle.std.specs.Prelude.{◌≡◌, ◌*◌, ℕ};
+ghost use Rattle.lvdc_model.specs.Runs.{through};
+ghost use Rattle.lvdc_model.specs.Trial.{Trial, plain_at};
+ghost use Rattle.lvdc_machine.specs.declared.mode.Mode.TheVariants.{Through};
+ghost use Rattle.lvdc_campaign.specs.Campaign.{is_same};
+ghost use Rattle.lvdc_campaign.specs.Ran.{HasRun, HasRunPlainly};
+ghost use Rattle.lvdc_campaign.specs.Same.{are_same_registers, is_same_log, is_same_end, is_same_word, are_same_words};
+
+use lvdc_machine::{Machine, Outcome};
+use lvdc_map::Address;
+use lvdc_plain::{Exchange, Plain, PlainEnd, Visible};
+
+/// Is it the same end?
+fn is_same_end(voted: Option<Outcome>, plain: Option<PlainEnd>) -> bool
+    ensures { result ≡ is_same_end voted plain }
+{
+    match (voted, plain) {
+        (None, None) => true,
+        (
+            Some(Outcome::Stopped { step, stop }),
+            Some(
+                PlainEnd::Stopped {
+                    step: at,
+                    stop: why,
+                },
+            ),
+        ) => { step == at && stop == why }
+        _ => false,
+    }
+}
+
+/// Are they the same registers?
+fn are_same_registers(voted: &Visible, plain: &Visible) -> bool
+    ensures { result ≡ are_same_registers voted.now plain.now }
+{
+    voted == plain
+}
+
+/// Is it the same port log?
+fn is_same_log(voted: &[Exchange], plain: &[Exchange]) -> bool
+    ensures { result ≡ is_same_log voted.now plain.now }
+{
+    voted == plain
+}
+
+/// Is the intended word of an address the plain machine's, where its bank is there?
+fn is_same_word(machine: &Machine, plain: &Plain, at: Address) -> bool
+    requires { machine.now.banks ≡ plain.now.banks }
+    ensures { (o : Trial) (times : ℕ) → HasRun Through o times machine.now → HasRunPlainly o.opening times plain.now
+        → result ≡ is_same_word o.opening.banks (through o (3 * times)).intended (plain_at o times).memory at }
+{
+    if !machine.banks().has(at) {
+        return true;
+    }
+    machine.intended(at) == plain.word(at)
+}
+
+/// Are the intended words at all addresses the plain machine's?
+fn are_same_words(machine: &Machine, plain: &Plain) -> bool
+    requires { machine.now.banks ≡ plain.now.banks }
+    ensures { (o : Trial) (times : ℕ) → HasRun Through o times machine.now → HasRunPlainly o.opening times plain.now
+        → result ≡ are_same_words o.opening.banks (through o (3 * times)).intended (plain_at o times).memory }
+{
+    for number in 0..Address::COUNT {
+        if !is_same_word(machine, plain, Address::numbered(number)) {
+            return false;
+        }
+    }
+    true
+}
+
+/// Has a machine that went through every fault come to what the plain machine came to?
+pub(crate) fn is_same(machine: &Machine, plain: &Plain) -> bool
+    requires { machine.now.banks ≡ plain.now.banks }
+    ensures { (o : Trial) (times : ℕ) → HasRun Through o times machine.now → HasRunPlainly o.opening times plain.now
+        → result ≡ is_same o times }
+{
+    if !is_same_end(machine.ended(), plain.end()) {
+        return false;
+    }
+    if !are_same_registers(&machine.visible(), &plain.visible()) {
+        return false;
+    }
+    if !is_same_log(machine.log(), plain.log()) {
+        return false;
+    }
+    are_same_words(machine, plain)
+}

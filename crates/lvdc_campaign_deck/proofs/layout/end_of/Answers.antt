@@ -1,0 +1,15 @@
+use Rattle.std.proofs.Common.{sym, ap, ◌∙◌, arith}
+use Rattle.lvdc_text.specs.Lines.{part_of}
+use Rattle.lvdc_text.specs.declared.cutting.Line.{Line}
+use Rattle.lvdc_deck.specs.Deck.{is_end}
+use Rattle.lvdc_campaign_deck.proofs.Places.{place-here, place-none}
+use Rattle.lvdc_campaign_deck.proofs.layout.end_of.Goals as goal
+
+pub returns-then-is_alone : goal.returns-then-is_alone
+returns-then-is_alone c =
+    sym (place-here (λ (line : Line). is_end (part_of c.args.bytes.now line)) c.args.lines.now c.loop-at.at c.loop-at-test.true c.loop-at.invariant.before
+    (ap is_end (sym c.part.ensures) ∙ sym c.is_alone.ensures ∙ c.if-is_alone.true))
+
+pub returns : goal.returns
+returns c =
+    sym (place-none (λ (line : Line). is_end (part_of c.args.bytes.now line)) c.args.lines.now c.loop-at.at (omega arith) c.loop-at.invariant.before)

@@ -1,0 +1,251 @@
+//! The scripts of a campaign, line by line.
+
+ghost use Rattle.std.specs.Prelude.{◌≡◌, ◌≢◌, ◌<◌, ◌≤◌, ◌-◌, ◌^◌, length, map, IfOk, IfErr, OnOk, All, Ok, Err, None, IsTrue};
+ghost use Rattle.std.specs.Str.{bytes_eq};
+ghost use Rattle.lvdc_text.specs.Lines.{IsWithin, part_of};
+ghost use Rattle.lvdc_script_lines.specs.Lines.{fault_in};
+ghost use Rattle.lvdc_source.specs.Names.{is_name};
+ghost use Rattle.lvdc_campaign_deck.specs.declared.TheConstants.{MOST_SCRIPTS, MOST_EVENTS};
+ghost use Rattle.lvdc_campaign_deck.specs.declared.fault.CampaignFault.TheVariants.{NoMemory as WantsMemory};
+ghost use Rattle.lvdc_campaign_deck.specs.Scripts.{nothing_said, all_scripts, has_name, is_taken, with_script, script_line, fault_line, by_tokens, after_line, scripts_from, Makes, CanRun};
+
+use crate::{CampaignFault, MOST_EVENTS, MOST_SCRIPTS};
+use lvdc_fault::{Named, Script};
+use lvdc_script_lines::event_of;
+use lvdc_source::is_name;
+use lvdc_text::{Line, is_comment, is_long, part, tokens};
+use lvdc_word::{NoMemory, Seq};
+use std::alloc::Global;
+use std::marker::Model;
+
+/// What the lines after CAMPAIGN have said so far.
+#[derive(Debug, Drop)]
+pub(crate) struct Scripts {
+    before: Vec<Named>,
+    last: Option<Named>,
+    events: usize,
+}
+
+impl Model for Scripts {
+    ghost use Rattle.std.specs.Prelude.{◌≤◌, length, IfSome, All};
+    ghost use Rattle.lvdc_campaign_deck.specs.Scripts.{Scripts as Told, with_last, CanRun};
+    ghost use Rattle.lvdc_campaign_deck.specs.declared.TheConstants.{MOST_SCRIPTS, MOST_EVENTS};
+
+    ghost Value = { Told };
+
+    ghost view = { λ s. record {
+      before = s.before.items;
+      last = s.last;
+      events = s.events;
+    } };
+
+    // The last script has no more events than there are in all.
+    ghost invariant = { λ s. All (CanRun MOST_EVENTS) s.before.items × IfSome s.last (CanRun s.events) × (s.events ≤ MOST_EVENTS)
+        × (length (with_last s.before.items s.last) ≤ MOST_SCRIPTS) };
+}
+
+/// Is it a name?
+fn is_short_name(text: &[u8]) -> bool
+    ensures name { result ≡ is_name text.now }
+    ensures short { IsTrue result → length text.now ≤ 8 }
+{
+    is_name(text)
+}
+
+/// Has the script this name?
+fn has_name(name: &[u8], named: &Named) -> bool
+    ensures { result ≡ has_name name.now named.now }
+{
+    named.name.items() == name
+}
+
+impl Scripts {
+    /// Before the first line.
+    fn new(alloc: Global) -> Scripts
+        ensures { result ≡ nothing_said }
+    {
+        Scripts {
+            before: Vec::new(alloc),
+            last: None,
+            events: 0,
+        }
+    }
+
+    /// How many scripts there are.
+    fn count(&self) -> usize
+        ensures { result ≡ length (all_scripts self.now) }
+    {
+        match self.last {
+            Some(_) => self.before.len() + 1,
+            None => self.before.len(),
+        }
+    }
+
+    /// Has one of the scripts before the last one this name?
+    fn is_taken_before(&self, name: &[u8]) -> bool
+        ensures { result ≡ is_taken name.now self.now.before }
+    {
+        for named in self.before.as_slice() {
+            if has_name(name, named) {
+                return true;
+            }
+        }
+        false
+    }
+
+    /// Has one of the scripts this name?
+    fn is_taken(&self, name: &[u8]) -> bool
+        ensures { result ≡ is_taken name.now (all_scripts self.now) }
+    {
+        match &self.last {
+            Some(named) => self.is_taken_before(name) || has_name(name, named),
+            None => self.is_taken_before(name),
+        }
+    }
+
+    /// All scripts, in their order.
+    fn into_all(self) -> Result<Vec<Named>, NoMemory>
+        ensures all { IfOk result (λ all. all.items ≡ all_scripts self) }
+        ensures few { IfOk result (λ all. length all.items ≤ MOST_SCRIPTS) }
+        ensures run { IfOk result (λ all. All (CanRun MOST_EVENTS) all.items) }
+    {
+        let Scripts {
+            mut before,
+            last,
+            ..
+        } = self;
+        if let Some(named) = last {
+            before.push(named)?;
+        }
+        Ok(before)
+    }
+
+    /// Puts the last script behind those before it.
+    fn close(&mut self) -> Result<(), NoMemory>
+        ensures before { OnOk result (self.new.before ≡ all_scripts self.old) }
+        ensures last { OnOk result (self.new.last ≡ None) }
+        ensures events { OnOk result (self.new.events ≡ self.old.events) }
+    {
+        if let Some(named) = self.last.take() {
+            self.before.push(named)?;
+        }
+        Ok(())
+    }
+
+    /// Begins a further script.
+    fn begin(&mut self, alloc: Global, number: u32, name: &[u8]) -> Result<(), CampaignFault>
+        requires { length name.now ≤ 8 }
+        ensures { Makes result self.new (with_script self.old number name.now) }
+    {
+        if self.count() >= MOST_SCRIPTS {
+            return Err(CampaignFault::TooManyScripts(number));
+        }
+        let name = Vec::from_slice(alloc, name)?;
+        self.close()?;
+        self.last = Some(Named {
+            name: Seq::from_vec(name),
+            script: Script::new(alloc),
+        });
+        Ok(())
+    }
+
+    /// Takes what stands after SCRIPT.
+    fn take_script(
+        &mut self,
+        alloc: Global,
+        number: u32,
+        text: &[u8],
+        tokens: &[Line],
+    ) -> Result<(), CampaignFault>
+        requires { All (IsWithin text.now) tokens.now }
+        ensures { Makes result self.new (script_line self.old number (map (part_of text.now) tokens.now)) }
+    {
+        let [token] = tokens else {
+            return Err(CampaignFault::BadLine(number));
+        };
+        let name = part(text, token);
+        if !is_short_name(name) || self.is_taken(name) {
+            return Err(CampaignFault::BadLine(number));
+        }
+        self.begin(alloc, number, name)
+    }
+
+    /// Takes a fault line.
+    fn take_event(&mut self, number: u32, text: &[u8], tokens: &[Line]) -> Result<(), CampaignFault>
+        requires { All (IsWithin text.now) tokens.now }
+        ensures { Makes result self.new (fault_line self.old number (fault_in (map (part_of text.now) tokens.now))) }
+    {
+        let Some(event) = event_of(text, tokens) else {
+            return Err(CampaignFault::BadLine(number));
+        };
+        let Some(mut named) = self.last.take() else {
+            return Err(CampaignFault::BadLine(number));
+        };
+        if self.events >= MOST_EVENTS {
+            return Err(CampaignFault::TooManyEvents(number));
+        }
+        named.script.push(event)?;
+        self.last = Some(named);
+        self.events += 1;
+        Ok(())
+    }
+
+    fn take_tokens(
+        &mut self,
+        alloc: Global,
+        number: u32,
+        text: &[u8],
+        tokens: &[Line],
+    ) -> Result<(), CampaignFault>
+        requires { All (IsWithin text.now) tokens.now }
+        ensures { Makes result self.new (by_tokens self.old number (map (part_of text.now) tokens.now)) }
+    {
+        let [first, rest @ ..] = tokens else {
+            return Ok(());
+        };
+        if part(text, first) == b"SCRIPT".as_slice() {
+            self.take_script(alloc, number, text, rest)
+        } else {
+            self.take_event(number, text, tokens)
+        }
+    }
+
+    /// Takes a line after CAMPAIGN.
+    fn take_line(&mut self, alloc: Global, number: u32, text: &[u8]) -> Result<(), CampaignFault>
+        requires { length text.now < 2 ^ 32 - 1 }
+        ensures { Makes result self.new (after_line self.old number text.now) }
+    {
+        if is_long(text) {
+            return Err(CampaignFault::BadLine(number));
+        }
+        if is_comment(text) {
+            return Ok(());
+        }
+        let tokens = tokens(alloc, text)?;
+        self.take_tokens(alloc, number, text, tokens.as_slice())
+    }
+}
+
+/// Reads the scripts in the lines after CAMPAIGN.
+pub(crate) fn read_scripts(
+    alloc: Global,
+    bytes: &[u8],
+    lines: &[Line],
+) -> Result<Vec<Named>, CampaignFault>
+    requires size { length bytes.now < 2 ^ 32 - 1 }
+    requires within { All (IsWithin bytes.now) lines.now }
+    ensures scripts { IfOk result (λ scripts. scripts_from bytes.now nothing_said lines.now ≡ Ok scripts.items) }
+    ensures refusal { IfErr result (λ fault. fault ≢ WantsMemory → scripts_from bytes.now nothing_said lines.now ≡ Err fault) }
+    ensures few { IfOk result (λ scripts. length scripts.items ≤ MOST_SCRIPTS) }
+    ensures run { IfOk result (λ scripts. All (CanRun MOST_EVENTS) scripts.items) }
+{
+    let mut scripts = Scripts::new(alloc);
+    for line in lines {
+        match scripts.take_line(alloc, line.number, part(bytes, line)) {
+            Ok(()) => {}
+            Err(fault) => return Err(fault),
+        }
+    }
+    let all = scripts.into_all()?;
+    Ok(all)
+}

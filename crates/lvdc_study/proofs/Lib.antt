@@ -1,0 +1,4 @@
+mod Growing
+mod Sizes
+mod Runnable
+pub mod Admitted

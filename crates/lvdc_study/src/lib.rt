@@ -1,0 +1,10 @@
+//! The command `campaign`: many fault scripts are run against one program, and the reply has a line for each and their total.
+#![tactic(auto)]
+
+mod reply;
+mod text;
+
+pub use reply::study_bytes;
+
+#[cfg(test)]
+mod tests;
