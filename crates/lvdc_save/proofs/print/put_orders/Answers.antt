@@ -1,0 +1,24 @@
+use Rattle.std.proofs.Common.{arith, ◌∙◌, ◌<◌, length}
+use Rattle.std.proofs.lemmas.List.{get_or_default}
+use Rattle.lvdc_orders.specs.Orders.{orders_of, plain_order}
+use Rattle.lvdc_save.specs.declared.entry.Entry.TheVariants as says
+use Rattle.lvdc_save.proofs.Texts.{entries_more, entries_done}
+use Rattle.lvdc_save.proofs.print.put_orders.Goals as goal
+
+pub loop-index-preserved : goal.loop-index-preserved
+loop-index-preserved c =
+    let within : c.loop-index.index < length (orders_of c.args.orders.now) = omega (arith, c.loop-index-test.true, c.count-index-end.ensures.value) in
+    record {
+      lines = entries_more says.Order c.loop-index.index (orders_of c.args.orders.now) c.order.result.now c.loop-index.out.items c.put_order.new.out.items _ within
+          (c.order.ensures ∙ get_or_default (orders_of c.args.orders.now) c.loop-index.index plain_order c.order.result.now within)
+          c.in_ok-put_order.ensures.line c.loop-index.invariant.lines;
+      short = omega (arith, c.in_ok-put_order.ensures.short, c.loop-index.invariant.short);
+    }
+
+pub returns-clause-lines : goal.returns-clause-lines
+returns-clause-lines c =
+    entries_done says.Order c.loop-index.index (orders_of c.args.orders.now) c.loop-index.out.items _
+    (omega (arith, c.loop-index-test.false, c.count-index-end.ensures.value)) c.loop-index.invariant.lines
+
+pub returns-clause-short : goal.returns-clause-short
+returns-clause-short c = omega (arith, c.loop-index.invariant.short, c.loop-index.auto.index-end, c.count-index-end.ensures.most)

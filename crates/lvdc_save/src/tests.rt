@@ -1,0 +1,30 @@
+use crate::{CopyState, Entry, SaveFault, put_entry};
+use lvdc_word::{Seq, Word};
+use std::test::Fail;
+
+#[test]
+fn a_copy_is_a_line(rt: HostRuntime) -> Result<(), Fail> {
+    let alloc = rt.alloc();
+    let latches = Seq::from_vec(vec![in alloc; Word::within(0o2004), Word::ZERO]?);
+    let copy = CopyState {
+        number: 2,
+        copy: 1,
+        count: 0,
+        latches,
+    };
+    let mut out = Vec::new(alloc);
+    put_entry(&mut out, &Entry::Copy(copy))?;
+    assert_eq!(rt;
+        out.as_slice(),
+        b"COPY 2 1 0 000002004 000000000\n".as_slice()
+    );
+    Ok(())
+}
+
+#[test]
+fn a_cause_has_a_name_and_a_line(rt: HostRuntime) -> Result<(), Fail> {
+    let fault = SaveFault::NoDevice(5);
+    assert_eq!(rt; fault.name(), b"NoDevice".as_slice());
+    assert_eq!(rt; fault.line(), 5);
+    Ok(())
+}

@@ -1,0 +1,4 @@
+mod ReadingLines
+mod Tokens
+mod Soundness
+mod Rows
