@@ -1,0 +1,6 @@
+mod Writing
+mod Naming
+mod Substituting
+mod Calling
+mod Stepping
+mod PlainSources
