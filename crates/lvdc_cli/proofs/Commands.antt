@@ -1,16 +1,33 @@
 -- The laws of the runs, as facts of commands: each command has its case.
-use Rattle.std.proofs.Common.{◌≡◌, ◌≢◌, ℕ, false, List, map, Result, Ok, Err, IfOk, refl, sym, subst, ap, ◌∙◌, ◌⊎◌, inl, inr, arith}
+use Rattle.std.proofs.Common.{◌≡◌, ◌≢◌, ℕ, false, List, map, Result, Ok, Err, IfOk, OnOk, refl, sym, subst, ap, ◌∙◌, ◌⊎◌, inl, inr, arith}
 use Rattle.lvdc_port.specs.Device.{Device}
 use Rattle.lvdc_model.specs.Trial.{Trial}
 use Rattle.lvdc_deck.specs.Deck.{deck_of}
 use Rattle.lvdc_deck.specs.declared.deck.Deck.{Deck}
 use Rattle.lvdc_reply.specs.Answer.{Answer, answer_with}
 use Rattle.lvdc_reply.specs.declared.reply.Reply.{Reply}
-use Rattle.lvdc_reply.specs.Replies.{IsUnfailed, answered}
+use Rattle.lvdc_reply.specs.Replies.{IsUnfailed, IsReply, answered}
 use Rattle.lvdc_asm.specs.Assembly.{Assembled}
 use Rattle.lvdc_asm.specs.declared.fault.AsmFault.{AsmFault}
-use Rattle.lvdc_assemble.specs.Answers.{assembly_in, status_of, text_of}
-use Rattle.lvdc_assemble.specs.declared.reply.Product.{Product}
+use Rattle.lvdc_assemble.specs.Answers as source
+use Rattle.lvdc_campaign_deck.specs.Campaign.{campaign_of}
+use Rattle.lvdc_campaign_deck.specs.declared.deck.CampaignDeck.{CampaignDeck}
+use Rattle.lvdc_campaign_deck.specs.declared.fault.CampaignFault.{CampaignFault}
+use Rattle.lvdc_campaign_deck.specs.declared.fault.CampaignFault.TheVariants as campaign
+use Rattle.lvdc_deck.specs.declared.fault.DeckFault.{DeckFault}
+use Rattle.lvdc_deck.specs.declared.fault.DeckFault.TheVariants as deck
+use Rattle.lvdc_run.specs.Refusals as refusals
+use Rattle.lvdc_study.specs.Answers as study
+use Rattle.lvdc_macro.specs.Expansion.{Written, bytes_of}
+use Rattle.lvdc_macro.specs.declared.fault.MacroFault.{MacroFault}
+use Rattle.lvdc_expand.specs.Answers as expand
+use Rattle.lvdc_expand.specs.declared.reply.Form.{Form}
+use Rattle.lvdc_expand.specs.declared.reply.Form.TheVariants as form
+use Rattle.lvdc_patch.specs.Answers as patch
+use Rattle.lvdc_patch.specs.Faults.{refusal_status}
+use Rattle.lvdc_patch.specs.Input.{Request, request_of}
+use Rattle.lvdc_patch.specs.declared.fault.PatchFault.{PatchFault}
+use Rattle.lvdc_patch.specs.declared.fault.PatchFault.TheVariants.{NoProgram, BadSection, BadLine, Image as OfImage}
 use Rattle.lvdc_run.specs.declared.job.Engine.TheVariants.{Guarded}
 use Rattle.lvdc_run.specs.declared.job.Job.{Job}
 use Rattle.lvdc_run.specs.declared.job.Job.TheVariants as job
@@ -20,8 +37,8 @@ use Rattle.lvdc_run.specs.Answers.{job_answer}
 use Rattle.lvdc_run.specs.Runs.{HasRunThat}
 use Rattle.lvdc_session.specs.Answers.{session_answer, HasSessionThat}
 use Rattle.lvdc_cli.specs.declared.command.Command.{Command}
-use Rattle.lvdc_cli.specs.declared.command.Command.TheVariants.{Run, Soak, Assemble, Debug}
-use Rattle.lvdc_cli.specs.Commands.{command_answer, RunsThat, IsReplyTo}
+use Rattle.lvdc_cli.specs.declared.command.Command.TheVariants.{Run, Soak, Assemble, Debug, Campaign, Uplink, Expand}
+use Rattle.lvdc_cli.specs.Commands.{command_answer, FailsInCommand, RunsThat, IsReplyTo}
 use Rattle.lvdc_cli.proofs.Answered.{reply_answer}
 
 -- this status of a job or of a session says this of its run, and the other way round
@@ -37,34 +54,101 @@ pub record RunSays (P : Job → Trial → ℕ → Type 0) (n : ℕ) : Type 0 whe
 abbrev pub HeadlineTold : Type 0
 HeadlineTold =
     (bytes : List ℕ) (devices : List Device) (deck : Deck) → deck_of bytes devices false ≡ Ok deck
-    → Headline (trial_of devices deck) deck.count (job_answer (job.Deck Guarded) bytes devices).text (job_answer (job.Deck Guarded) bytes devices).devices
+    → Headline (trial_of devices deck) deck.count (job_answer (job.Deck Guarded) bytes devices)
 
--- ---- sources
+-- ---- commands that take no device
 
-never_run : (r : Result Assembled AsmFault) (n : ℕ) → (n ≡ 5) ⊎ (n ≡ 6) → status_of r ≡ n → ⊥
-never_run (Ok assembled) n of_run e = omega (arith, of_run, e)
-never_run (Err fault) n of_run e = omega (arith, of_run, e)
+-- the status of a command that runs nothing: it has done what was asked, or its input was refused
+abbrev pub IsSettled : ℕ → Type 0
+IsSettled status = (status ≡ 0) ⊎ (status ≡ 2) ⊎ (status ≡ 3) ⊎ (status ≡ 4)
 
-unfailed : (r : Result Assembled AsmFault) → IsUnfailed (status_of r)
-unfailed (Ok assembled) = inl refl
-unfailed (Err fault) = inr (inr (inl refl))
+settled_unfailed : (status : ℕ) → IsSettled status → IsUnfailed status
+settled_unfailed status h = elim h [
+  | inl done ↦ inl done
+  | inr refused ↦ elim refused [
+    | inl deck ↦ inr (inl deck)
+    | inr rest ↦ elim rest [ inl source ↦ inr (inr (inl source)) | inr image ↦ inr (inr (inr (inl image))) ]
+  ]
+]
 
--- a source is answered, and no device is asked
-pub source_answered : {B : Type 0} {device_of : B → Device} {faults : B → ℕ} (product : Product) (bytes : List ℕ) {old : List B} (status : ℕ) (text : List ℕ)
-    → status ≡ status_of (assembly_in bytes) → text ≡ text_of product bytes (assembly_in bytes)
-    → IsReplyTo device_of faults (Assemble product) bytes old old (answer_with status text (map device_of old))
-source_answered {B} {device_of} {faults} product bytes {old} status text is_status is_text =
-    rw (is_status, is_text) (answered (unfailed (assembly_in bytes)) (λ refused. refl) (λ port within. refl))
+-- 5 and 6 are no such status
+never_runs : (status n : ℕ) → (n ≡ 5) ⊎ (n ≡ 6) → IsSettled status → status ≡ n → ⊥
+never_runs status n of_run settled e = omega (arith, of_run, settled, e)
+
+-- such a command is answered with its status and its text
+pub told : {B : Type 0} {device_of : B → Device} {faults : B → ℕ} (command : Command) (bytes : List ℕ) {old : List B} (status : ℕ) (text : List ℕ)
+    → ((devices : List Device) → command_answer command bytes devices ≡ answer_with status text devices) → IsSettled status
+    → IsReplyTo device_of faults command bytes old old (answer_with status text (map device_of old))
+told {B} {device_of} {faults} command bytes {old} status text is settled =
+    subst (λ (due : Answer). IsReply device_of faults due (FailsInCommand command bytes (map device_of old)) old old (answer_with status text (map device_of old))) (sym (is (map device_of old)))
+    (answered (settled_unfailed status settled) (λ refused. refl) (λ port within. refl))
 
 -- the same of what a call answers
-pub source_replied : {B E : Type 0} (device_of : B → Device) (faults : B → ℕ) (command : Command) (product : Product) (bytes : List ℕ) (old : List B) (result : Result Reply E)
-    → command ≡ Assemble product → IfOk result (λ reply. reply.status ≡ status_of (assembly_in bytes))
-    → IfOk result (λ reply. reply.text ≡ text_of product bytes (assembly_in bytes))
+pub replied : {B E : Type 0} (device_of : B → Device) (faults : B → ℕ) (command : Command) (bytes : List ℕ) (old : List B) (result : Result Reply E) (status : ℕ) (text : List ℕ)
+    → ((devices : List Device) → command_answer command bytes devices ≡ answer_with status text devices) → IsSettled status
+    → IfOk result (λ reply. reply.status ≡ status) → IfOk result (λ reply. reply.text ≡ text)
     → IfOk result (λ reply. IsReplyTo device_of faults command bytes old old (answer_with reply.status reply.text (map device_of old)))
-source_replied device_of faults command product bytes old (Ok reply) is status text =
-    subst (λ (c : Command). IsReplyTo device_of faults c bytes old old (answer_with reply.status reply.text (map device_of old))) (sym is)
-    (source_answered product bytes reply.status reply.text status text)
-source_replied device_of faults command product bytes old (Err wanting) is status text = tt
+replied device_of faults command bytes old (Ok reply) status text is settled is_status is_text =
+    rw (is_status, is_text) (told command bytes status text is settled)
+replied device_of faults command bytes old (Err wanting) status text is settled is_status is_text = tt
+
+pub source_settled : (r : Result Assembled AsmFault) → IsSettled (source.status_of r)
+source_settled (Ok assembled) = inl refl
+source_settled (Err fault) = inr (inr (inl refl))
+
+deck_fault_settled : (fault : DeckFault) → IsSettled (refusals.refusal_status fault)
+deck_fault_settled deck.NoMemory = inr (inl refl)
+deck_fault_settled (deck.BadSection line) = inr (inl refl)
+deck_fault_settled (deck.BadLine line) = inr (inl refl)
+deck_fault_settled (deck.NoProgram line) = inr (inl refl)
+deck_fault_settled (deck.NoDevice line) = inr (inl refl)
+deck_fault_settled (deck.TooManyEvents line) = inr (inl refl)
+deck_fault_settled (deck.CountTooLarge line) = inr (inl refl)
+deck_fault_settled (deck.Image fault) = inr (inr (inr refl))
+deck_fault_settled (deck.Asm fault) = inr (inr (inl refl))
+
+campaign_fault_settled : (fault : CampaignFault) → IsSettled (study.fault_status fault)
+campaign_fault_settled campaign.NoMemory = inr (inl refl)
+campaign_fault_settled (campaign.Deck fault) = deck_fault_settled fault
+campaign_fault_settled (campaign.BadSection line) = inr (inl refl)
+campaign_fault_settled (campaign.BadLine line) = inr (inl refl)
+campaign_fault_settled (campaign.CountTooLarge line) = inr (inl refl)
+campaign_fault_settled (campaign.TooManyScripts line) = inr (inl refl)
+campaign_fault_settled (campaign.TooManyEvents line) = inr (inl refl)
+
+pub study_settled : (r : Result CampaignDeck CampaignFault) → IsSettled (study.status_of r)
+study_settled (Ok deck) = inl refl
+study_settled (Err fault) = campaign_fault_settled fault
+
+patch_fault_settled : (fault : PatchFault) → IsSettled (refusal_status fault)
+patch_fault_settled (NoProgram line) = inr (inl refl)
+patch_fault_settled (BadSection line) = inr (inl refl)
+patch_fault_settled (BadLine line) = inr (inl refl)
+patch_fault_settled (OfImage fault) = inr (inr (inr refl))
+
+pub patch_settled : (r : Result Request PatchFault) → IsSettled (patch.status_of r)
+patch_settled (Ok request) = inl refl
+patch_settled (Err fault) = patch_fault_settled fault
+
+pub expand_settled : (f : Form) (r : Result (List Written) MacroFault) → IsSettled (expand.status_by f r)
+expand_settled f (Err fault) = inr (inr (inl refl))
+expand_settled form.Source (Ok lines) = inl refl
+expand_settled form.Image (Ok lines) = source_settled (source.assembly_in (bytes_of lines))
+
+-- what is so is so whatever a call answers
+pub whatever : {P T E : Type 0} (result : Result T E) → P → OnOk result P
+whatever (Ok done) p = p
+whatever (Err fault) p = tt
+
+-- a campaign takes no device, but its deck is judged with those that are there
+pub study_replied : {B E : Type 0} (device_of : B → Device) (faults : B → ℕ) (command : Command) (bytes : List ℕ) (old : List B) (result : Result Reply E)
+    → command ≡ Campaign → IfOk result (λ reply. reply.status ≡ study.status_of (campaign_of bytes (map device_of old)))
+    → IfOk result (λ reply. reply.text ≡ study.text_of (campaign_of bytes (map device_of old)))
+    → IfOk result (λ reply. IsReplyTo device_of faults command bytes old old (answer_with reply.status reply.text (map device_of old)))
+study_replied device_of faults command bytes old (Ok reply) is is_status is_text =
+    let r = campaign_of bytes (map device_of old) in
+    rw (is, is_status, is_text) (answered (settled_unfailed (study.status_of r) (study_settled r)) (λ refused. refl) (λ port within. refl))
+study_replied device_of faults command bytes old (Err wanting) is is_status is_text = tt
 
 -- ---- statuses
 
@@ -73,8 +157,11 @@ command_runs : (P : Job → Trial → ℕ → Type 0) (n : ℕ) → (n ≡ 5) �
     → (command : Command) (bytes : List ℕ) (devices : List Device) → (command_answer command bytes devices).status ≡ n → RunsThat P command bytes devices
 command_runs P n of_run law (Run engine) bytes devices e = law.of_job (job.Deck engine) bytes devices e
 command_runs P n of_run law (Soak number) bytes devices e = law.of_job (job.Soak number) bytes devices e
-command_runs P n of_run law (Assemble product) bytes devices e = absurd (never_run (assembly_in bytes) n of_run e)
+command_runs P n of_run law (Assemble product) bytes devices e = absurd (never_runs _ n of_run (source_settled (source.assembly_in bytes)) e)
 command_runs P n of_run law Debug bytes devices e = law.of_session bytes devices e
+command_runs P n of_run law Campaign bytes devices e = absurd (never_runs _ n of_run (study_settled (campaign_of bytes devices)) e)
+command_runs P n of_run law Uplink bytes devices e = absurd (never_runs _ n of_run (patch_settled (request_of bytes)) e)
+command_runs P n of_run law (Expand f) bytes devices e = absurd (never_runs _ n of_run (expand_settled f (expand.expansion_in bytes)) e)
 
 pub command_is : (P : Job → Trial → ℕ → Type 0) (n : ℕ) → RunSays P n
     → (command : Command) (bytes : List ℕ) (devices : List Device) → RunsThat P command bytes devices → (command_answer command bytes devices).status ≡ n
@@ -82,12 +169,15 @@ command_is P n law (Run engine) bytes devices h = law.of_job (job.Deck engine) b
 command_is P n law (Soak number) bytes devices h = law.of_job (job.Soak number) bytes devices h
 command_is P n law (Assemble product) bytes devices h = absurd h
 command_is P n law Debug bytes devices h = law.of_session bytes devices h
+command_is P n law Campaign bytes devices h = absurd h
+command_is P n law Uplink bytes devices h = absurd h
+command_is P n law (Expand f) bytes devices h = absurd h
 
 command_headline : HeadlineTold → (command : Command) (bytes : List ℕ) (devices : List Device) (deck : Deck) → command ≡ Run Guarded
     → deck_of bytes devices false ≡ Ok deck
-    → Headline (trial_of devices deck) deck.count (command_answer command bytes devices).text (command_answer command bytes devices).devices
+    → Headline (trial_of devices deck) deck.count (command_answer command bytes devices)
 command_headline law command bytes devices deck is means =
-    subst (λ (c : Command). Headline (trial_of devices deck) deck.count (command_answer c bytes devices).text (command_answer c bytes devices).devices) (sym is)
+    subst (λ (c : Command). Headline (trial_of devices deck) deck.count (command_answer c bytes devices)) (sym is)
     (law bytes devices deck means)
 
 -- ---- the same of a reply
@@ -95,9 +185,9 @@ command_headline law command bytes devices deck is means =
 module _ {B : Type 0} {device_of : B → Device} {faults : B → ℕ} (command : Command) (bytes : List ℕ) {old new : List B} where
   pub reply_headline : HeadlineTold → (a : Answer) → a.status ≢ 10 → IsReplyTo device_of faults command bytes old new a
       → (deck : Deck) → command ≡ Run Guarded → deck_of bytes (map device_of old) false ≡ Ok deck
-      → Headline (trial_of (map device_of old) deck) deck.count a.text a.devices
+      → Headline (trial_of (map device_of old) deck) deck.count a
   reply_headline law a free h deck is means =
-      subst (λ (x : Answer). Headline (trial_of (map device_of old) deck) deck.count x.text x.devices) (sym (reply_answer a free h))
+      subst (λ (x : Answer). Headline (trial_of (map device_of old) deck) deck.count x) (sym (reply_answer a free h))
       (command_headline law command bytes (map device_of old) deck is means)
 
   pub reply_runs : (P : Job → Trial → ℕ → Type 0) (n : ℕ) → (n ≡ 5) ⊎ (n ≡ 6) → StatusSays P n → (a : Answer) → a.status ≡ n

@@ -10,7 +10,7 @@ use Rattle.lvdc_reply.specs.Replies.{Quiet, IsRefused}
 use Rattle.lvdc_cli.specs.declared.TheConstants.{LIMIT}
 use Rattle.lvdc_cli.specs.declared.command.Command.{Command}
 use Rattle.lvdc_cli.specs.Words.{command_of, reads, reads_for}
-use Rattle.lvdc_cli.specs.Commands.{command_answer, input_of, usage_answer, read_fault_answer, too_long_answer, memory_answer, IsReplyTo, IsLeftUnanswered, answer_by, answer}
+use Rattle.lvdc_cli.specs.Commands.{command_answer, input_of, usage_answer, read_fault_answer, too_long_answer, memory_answer, IsReplyTo, IsLeftUnanswered, answer_by, answer, HoldsFor}
 use Rattle.lvdc_cli.specs.Outside.{Outside}
 use Rattle.lvdc_cli.specs.Top.{HasRead, IsAbandoned, after_reading, IsDue, usage, read_fault, too_long, replied, wants_memory, IsRefusal}
 use Rattle.lvdc_cli.proofs.Answered.{reply_answer, reply_quiet, reply_kept, reply_not}
@@ -41,6 +41,7 @@ pub record IsOfCommand {B : Type 0} (device_of : B → Device) (faults : B → �
   pub bytes : List ℕ
   pub read : HasRead (reads_for command) before.source after.source bytes
   pub reply : IsReplyTo device_of faults command bytes before.devices after.devices due
+  pub holds : HoldsFor command bytes (map device_of before.devices)
 
 -- memory is wanting
 pub record IsWant {B : Type 0} (device_of : B → Device) (faults : B → ℕ) (words : List (List ℕ)) (before after : Outside B) (due : Answer) : Type 0 where
@@ -54,10 +55,12 @@ module _ {B : Type 0} {device_of : B → Device} {faults : B → ℕ} {words : L
   -- the reply, or the want of memory, of a command over these bytes in memory
   pub replied_over : (command : Command) (bytes slice : List ℕ) (reply : Answer) → command_of words ≡ Some command
       → after.source.faults ≡ before.source.faults → HasRead (reads_for command) before.source after.source bytes → slice ≡ bytes
-      → IsReplyTo device_of faults command slice before.devices after.devices reply → IsDue device_of faults words before after reply
-  replied_over command bytes slice reply asked quiet read same h =
+      → IsReplyTo device_of faults command slice before.devices after.devices reply → HoldsFor command slice (map device_of before.devices)
+      → IsDue device_of faults words before after reply
+  replied_over command bytes slice reply asked quiet read same h holds =
       replied command bytes reply asked quiet read
       (subst (λ (xs : List ℕ). IsReplyTo device_of faults command xs before.devices after.devices reply) same h)
+      (subst (λ (xs : List ℕ). HoldsFor command xs (map device_of before.devices)) same holds)
 
   pub wanting_over : (command : Command) (bytes slice : List ℕ) → command_of words ≡ Some command
       → after.source.faults ≡ before.source.faults → HasRead (reads_for command) before.source after.source bytes → slice ≡ bytes
@@ -73,22 +76,22 @@ module _ {B : Type 0} {device_of : B → Device} {faults : B → ℕ} {words : L
   due_reply due a b c d (usage none source devices) = absurd (a refl)
   due_reply due a b c d (read_fault s r t k) = absurd (b refl)
   due_reply due a b c d (too_long s q t k) = absurd (d refl)
-  due_reply due a b c d (replied command bytes reply asked quiet read is) =
-      record { command = command; asked = asked; bytes = bytes; read = read; reply = is }
+  due_reply due a b c d (replied command bytes reply asked quiet read is holds) =
+      record { command = command; asked = asked; bytes = bytes; read = read; reply = is; holds = holds }
   due_reply due a b c d (wants_memory s q t w) = absurd (c refl)
 
   pub due_1 : (due : Answer) → due.status ≡ 1 → IsDue device_of faults words before after due → command_of words ≡ None
   due_1 due e (usage none source devices) = none
   due_1 due e (read_fault s r t k) = absurd (cc)
   due_1 due e (too_long s q t k) = absurd (cc)
-  due_1 due e (replied command bytes reply asked quiet read is) = absurd (reply_not 1 (inl refl) reply is e)
+  due_1 due e (replied command bytes reply asked quiet read is holds) = absurd (reply_not 1 (inl refl) reply is e)
   due_1 due e (wants_memory s q t w) = absurd (cc)
 
   pub due_none : (due : Answer) → command_of words ≡ None → IsDue device_of faults words before after due → due ≡ usage_answer (map device_of after.devices)
   due_none due n (usage none source devices) = refl
   due_none due n (read_fault s r t k) = clash (command_of words) n (reads_some (command_of words) s)
   due_none due n (too_long s q t k) = clash (command_of words) n (reads_some (command_of words) s)
-  due_none due n (replied command bytes reply asked quiet read is) = clash (command_of words) n (some_command (command_of words) command asked)
+  due_none due n (replied command bytes reply asked quiet read is holds) = clash (command_of words) n (some_command (command_of words) command asked)
   due_none due n (wants_memory s q t w) = clash (command_of words) n s
 
   pub due_7 : (due : Answer) → due.status ≡ 7 → IsDue device_of faults words before after due
@@ -96,14 +99,14 @@ module _ {B : Type 0} {device_of : B → Device} {faults : B → ℕ} {words : L
   due_7 due e (usage none source devices) = absurd (cc)
   due_7 due e (read_fault s r t k) = (r, refl)
   due_7 due e (too_long s q t k) = absurd (cc)
-  due_7 due e (replied command bytes reply asked quiet read is) = absurd (reply_not 7 (inr (inl refl)) reply is e)
+  due_7 due e (replied command bytes reply asked quiet read is holds) = absurd (reply_not 7 (inr (inl refl)) reply is e)
   due_7 due e (wants_memory s q t w) = absurd (cc)
 
   pub due_9 : (due : Answer) → due.status ≡ 9 → IsDue device_of faults words before after due → IsWant device_of faults words before after due
   due_9 due e (usage none source devices) = absurd (cc)
   due_9 due e (read_fault s r t k) = absurd (cc)
   due_9 due e (too_long s q t k) = absurd (cc)
-  due_9 due e (replied command bytes reply asked quiet read is) = absurd (reply_not 9 (inr (inr (inr (inl refl)))) reply is e)
+  due_9 due e (replied command bytes reply asked quiet read is holds) = absurd (reply_not 9 (inr (inr (inr (inl refl)))) reply is e)
   due_9 due e (wants_memory s q t w) = record { asked = s; quiet = q; took = t; abandoned = w; is = refl }
 
   pub due_11 : (due : Answer) → due.status ≡ 11 → IsDue device_of faults words before after due
@@ -111,14 +114,14 @@ module _ {B : Type 0} {device_of : B → Device} {faults : B → ℕ} {words : L
   due_11 due e (usage none source devices) = absurd (cc)
   due_11 due e (read_fault s r t k) = absurd (cc)
   due_11 due e (too_long s q t k) = (t, refl)
-  due_11 due e (replied command bytes reply asked quiet read is) = absurd (reply_not 11 (inr (inr (inr (inr refl)))) reply is e)
+  due_11 due e (replied command bytes reply asked quiet read is holds) = absurd (reply_not 11 (inr (inr (inr (inr refl)))) reply is e)
   due_11 due e (wants_memory s q t w) = absurd (cc)
 
   pub not_8 : (due : Answer) → IsDue device_of faults words before after due → due.status ≢ 8
   not_8 due (usage none source devices) = λ e. cc
   not_8 due (read_fault s r t k) = λ e. cc
   not_8 due (too_long s q t k) = λ e. cc
-  not_8 due (replied command bytes reply asked quiet read is) = reply_not 8 (inr (inr (inl refl))) reply is
+  not_8 due (replied command bytes reply asked quiet read is holds) = reply_not 8 (inr (inr (inl refl))) reply is
   not_8 due (wants_memory s q t w) = λ e. cc
 
   -- the source's count grew
@@ -126,7 +129,7 @@ module _ {B : Type 0} {device_of : B → Device} {faults : B → ℕ} {words : L
   due_grew due g (usage none source devices) = absurd (omega (arith, g, ap (λ s. s.faults) source))
   due_grew due g (read_fault s r t k) = refl
   due_grew due g (too_long s q t k) = absurd (omega arith)
-  due_grew due g (replied command bytes reply asked quiet read is) = absurd (omega arith)
+  due_grew due g (replied command bytes reply asked quiet read is holds) = absurd (omega arith)
   due_grew due g (wants_memory s q t w) = absurd (omega arith)
 
   -- one byte too many was taken
@@ -135,7 +138,7 @@ module _ {B : Type 0} {device_of : B → Device} {faults : B → ℕ} {words : L
   due_large due i s t (usage none source devices) = clash (command_of words) none (reads_some (command_of words) s)
   due_large due i s t (read_fault s' r m k) = took_both before.source.left after.source.left i t m
   due_large due i s t (too_long s' q m k) = refl
-  due_large due i s t (replied command bytes reply asked quiet read is) =
+  due_large due i s t (replied command bytes reply asked quiet read is holds) =
       took_both before.source.left after.source.left i t (took_within command before.source after.source bytes read)
   due_large due i s t (wants_memory s' q m w) = took_both before.source.left after.source.left i t m
 
@@ -144,7 +147,7 @@ module _ {B : Type 0} {device_of : B → Device} {faults : B → ℕ} {words : L
   due_end due a b c d (usage none source devices) = clash (command_of words) none (reads_some (command_of words) a)
   due_end due a b c d (read_fault s r t k) = absurd (b refl)
   due_end due a b c d (too_long s q t k) = absurd (d refl)
-  due_end due a b c d (replied command bytes reply asked quiet read is) =
+  due_end due a b c d (replied command bytes reply asked quiet read is holds) =
       to_end command before.source after.source bytes read (sym (ap reads asked) ∙ a)
   due_end due a b c d (wants_memory s q t w) = absurd (c refl)
 
@@ -153,14 +156,14 @@ module _ {B : Type 0} {device_of : B → Device} {faults : B → ℕ} {words : L
   due_quiet due a b (usage none source devices) = kept_quiet device_of faults before.devices after.devices devices
   due_quiet due a b (read_fault s r t k) = kept_quiet device_of faults before.devices after.devices k
   due_quiet due a b (too_long s q t k) = kept_quiet device_of faults before.devices after.devices k
-  due_quiet due a b (replied command bytes reply asked quiet read is) = reply_quiet reply b is
+  due_quiet due a b (replied command bytes reply asked quiet read is holds) = reply_quiet reply b is
   due_quiet due a b (wants_memory s q t w) = absurd (a refl)
 
   pub due_kept : (due : Answer) → IsRefusal due.status → IsDue device_of faults words before after due → after.devices ≡ before.devices
   due_kept due r (usage none source devices) = devices
   due_kept due r (read_fault s r' t k) = k
   due_kept due r (too_long s q t k) = k
-  due_kept due r (replied command bytes reply asked quiet read is) = reply_kept reply (refused_left reply.status r (reply_not 1 (inl refl) reply is)
+  due_kept due r (replied command bytes reply asked quiet read is holds) = reply_kept reply (refused_left reply.status r (reply_not 1 (inl refl) reply is)
       (reply_not 7 (inr (inl refl)) reply is) (reply_not 11 (inr (inr (inr (inr refl)))) reply is)) is
     where
       refused_left : (n : ℕ) → IsRefusal n → n ≢ 1 → n ≢ 7 → n ≢ 11 → IsRefused n
@@ -182,7 +185,7 @@ module _ {B : Type 0} {device_of : B → Device} {faults : B → ℕ} {words : L
   due_answer due bytes told a b c (too_long s q t k) =
       ap (λ (ds : List B). too_long_answer (map device_of ds)) k
       ∙ sym (answer_large (command_of words) bytes (map device_of before.devices) s (took_over before.source.left after.source.left bytes told t))
-  due_answer due bytes told a b c (replied command taken reply asked quiet read is) =
+  due_answer due bytes told a b c (replied command taken reply asked quiet read is holds) =
       let same : taken ≡ input_of command bytes = is_input command before.source after.source taken read bytes told in
       reply_answer reply c is ∙ ap (λ (xs : List ℕ). command_answer command xs (map device_of before.devices)) same
       ∙ sym (answer_small command bytes (map device_of before.devices) (omega (arith, ap length same, within_limit command before.source after.source taken read)))

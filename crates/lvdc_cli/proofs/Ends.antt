@@ -176,10 +176,11 @@ module _ {B : Type 0} {device_of : B → Device} {faults : B → ℕ} {words : L
         text = e.due.text;
         written = w.written;
         reply = subst (λ (a : Answer). IsReplyTo device_of faults r.command r.bytes before.devices after.devices a) same r.reply;
+        holds = r.holds;
       }
 
   pub end_headline : HeadlineTold → command_of words ≡ Some (Run Guarded) → IsUnhindered result → result ≢ 11
-      → IsEnd device_of faults words before after result → CarriesHeadline device_of before after
+      → IsEnd device_of faults words before after result → CarriesHeadline device_of before after result
   end_headline law asked u n e =
       let r =
       end_replied (record {

@@ -4,3 +4,5 @@ pub mod Commands
 pub mod Inputs
 pub mod Dues
 pub mod Ends
+pub mod Rows
+pub mod Printed

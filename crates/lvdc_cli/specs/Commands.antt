@@ -13,11 +13,14 @@ use Rattle.lvdc_run.specs.Answers.{job_answer}
 use Rattle.lvdc_run.specs.Runs.{HasRunThat}
 use Rattle.lvdc_run.specs.Replies.{FailsInRun, IsUnanswered}
 use Rattle.lvdc_assemble.specs.Answers.{source_answer}
+use Rattle.lvdc_study.specs.Answers.{study_answer, AdmissibleAreSame}
+use Rattle.lvdc_patch.specs.Answers.{uplink_answer}
+use Rattle.lvdc_expand.specs.Answers.{macro_answer}
 use Rattle.lvdc_session.specs.Answers.{session_answer, HasSessionThat}
 use Rattle.lvdc_session.specs.Replies.{FailsInSession, IsUnanswered as IsSessionUnanswered}
 use Rattle.lvdc_cli.specs.declared.TheConstants.{LIMIT, ROOM, SESSION_ROOM}
 use Rattle.lvdc_cli.specs.declared.command.Command.{Command}
-use Rattle.lvdc_cli.specs.declared.command.Command.TheVariants.{Run, Soak, Assemble, Debug}
+use Rattle.lvdc_cli.specs.declared.command.Command.TheVariants.{Run, Soak, Assemble, Debug, Campaign, Uplink, Expand}
 use Rattle.lvdc_cli.specs.Words.{command_of, reads_for}
 use Rattle.lvdc_cli.specs.Texts.{usage_text, read_fault_text, too_long_text}
 
@@ -27,6 +30,9 @@ command_answer (Run engine) bytes devices = job_answer (job.Deck engine) bytes d
 command_answer (Soak number) bytes devices = job_answer (job.Soak number) bytes devices
 command_answer (Assemble product) bytes devices = source_answer product bytes devices
 command_answer Debug bytes devices = session_answer bytes devices
+command_answer Campaign bytes devices = study_answer bytes devices
+command_answer Uplink bytes devices = uplink_answer bytes devices
+command_answer (Expand form) bytes devices = macro_answer form bytes devices
 
 -- this is the answer where the device at this port fails in this step; a command that asks no device has none
 abbrev pub FailsInCommand : Command → List ℕ → List Device → ℕ → ℕ → Answer → Type 0
@@ -34,6 +40,9 @@ FailsInCommand (Run engine) bytes devices = FailsInRun (job.Deck engine) bytes d
 FailsInCommand (Soak number) bytes devices = FailsInRun (job.Soak number) bytes devices
 FailsInCommand (Assemble product) bytes devices = λ step port reply. ⊥
 FailsInCommand Debug bytes devices = FailsInSession bytes devices
+FailsInCommand Campaign bytes devices = λ step port reply. ⊥
+FailsInCommand Uplink bytes devices = λ step port reply. ⊥
+FailsInCommand (Expand form) bytes devices = λ step port reply. ⊥
 
 -- what a want of memory leaves of the devices
 abbrev pub IsLeftUnanswered : {B : Type 0} → (B → Device) → (B → ℕ) → Command → List ℕ → List B → List B → Type 0
@@ -41,6 +50,9 @@ IsLeftUnanswered device_of faults (Run engine) bytes old new = IsUnanswered devi
 IsLeftUnanswered device_of faults (Soak number) bytes old new = IsUnanswered device_of faults (job.Soak number) bytes old new
 IsLeftUnanswered device_of faults (Assemble product) bytes old new = new ≡ old
 IsLeftUnanswered device_of faults Debug bytes old new = IsSessionUnanswered device_of faults bytes old new
+IsLeftUnanswered device_of faults Campaign bytes old new = new ≡ old
+IsLeftUnanswered device_of faults Uplink bytes old new = new ≡ old
+IsLeftUnanswered device_of faults (Expand form) bytes old new = new ≡ old
 
 -- the command runs a deck, and this is so of its run; a session runs it as `run` does, as far as its commands ask
 abbrev pub RunsThat : (Job → Trial → ℕ → Type 0) → Command → List ℕ → List Device → Type 0
@@ -48,6 +60,9 @@ RunsThat P (Run engine) bytes devices = HasRunThat P (job.Deck engine) bytes dev
 RunsThat P (Soak number) bytes devices = HasRunThat P (job.Soak number) bytes devices
 RunsThat P (Assemble product) bytes devices = ⊥
 RunsThat P Debug bytes devices = HasSessionThat (P (job.Deck Guarded)) bytes devices
+RunsThat P Campaign bytes devices = ⊥
+RunsThat P Uplink bytes devices = ⊥
+RunsThat P (Expand form) bytes devices = ⊥
 
 -- the room that the text of a command may take
 abbrev pub room_of : Command → ℕ
@@ -55,6 +70,19 @@ room_of (Run engine) = ROOM
 room_of (Soak number) = ROOM
 room_of (Assemble product) = ROOM
 room_of Debug = SESSION_ROOM
+room_of Campaign = ROOM
+room_of Uplink = ROOM
+room_of (Expand form) = ROOM
+
+-- what is true of the input beside the answer: each admissible row of a campaign comes to the same
+abbrev pub HoldsFor : Command → List ℕ → List Device → Type 0
+HoldsFor (Run engine) bytes devices = Unit {0}
+HoldsFor (Soak number) bytes devices = Unit {0}
+HoldsFor (Assemble product) bytes devices = Unit {0}
+HoldsFor Debug bytes devices = Unit {0}
+HoldsFor Campaign bytes devices = AdmissibleAreSame bytes devices
+HoldsFor Uplink bytes devices = Unit {0}
+HoldsFor (Expand form) bytes devices = Unit {0}
 
 -- ---- of all commands
 

@@ -16,7 +16,7 @@ use Rattle.lvdc_run.specs.Headline.{Headline}
 use Rattle.lvdc_cli.specs.declared.TheConstants.{LIMIT}
 use Rattle.lvdc_cli.specs.declared.command.Command.{Command}
 use Rattle.lvdc_cli.specs.Words.{command_of, reads, reads_for}
-use Rattle.lvdc_cli.specs.Commands.{usage_answer, read_fault_answer, too_long_answer, memory_answer, input_of, IsReplyTo, FailsInCommand, IsLeftUnanswered}
+use Rattle.lvdc_cli.specs.Commands.{usage_answer, read_fault_answer, too_long_answer, memory_answer, input_of, IsReplyTo, FailsInCommand, IsLeftUnanswered, HoldsFor}
 use Rattle.lvdc_cli.specs.Outside.{SourceState, SinkState, Outside}
 
 -- ---- what was read
@@ -53,7 +53,7 @@ pub data IsDue {B : Type 0} (device_of : B → Device) (faults : B → ℕ) (wor
   -- all bytes that the command asks for were taken, and this is the reply to them
   replied : (command : Command) (bytes : List ℕ) (reply : Answer) → command_of words ≡ Some command
       → after.source.faults ≡ before.source.faults → HasRead (reads_for command) before.source after.source bytes
-      → IsReplyTo device_of faults command bytes before.devices after.devices reply
+      → IsReplyTo device_of faults command bytes before.devices after.devices reply → HoldsFor command bytes (map device_of before.devices)
       → IsDue device_of faults words before after reply
   -- memory is wanting
   wants_memory : IsSome (command_of words) → after.source.faults ≡ before.source.faults
@@ -90,16 +90,17 @@ pub record IsReplied {B : Type 0} (device_of : B → Device) (faults : B → ℕ
   pub text : List ℕ
   pub written : Appends before.sink.written after.sink.written text
   pub reply : IsReplyTo device_of faults command bytes before.devices after.devices (answer_with result text (map device_of after.devices))
+  pub holds : HoldsFor command bytes (map device_of before.devices)
 
 -- The headline holds of the bytes that were read and of the text that was written: where those bytes are a deck, of its trial, of
--- that text and of the devices that are left.
-pub record CarriesHeadline {B : Type 0} (device_of : B → Device) (before after : Outside B) : Type 0 where
+-- the status, of that text and of the devices that are left.
+pub record CarriesHeadline {B : Type 0} (device_of : B → Device) (before after : Outside B) (result : ℕ) : Type 0 where
   pub bytes : List ℕ
   pub read : HasRead true before.source after.source bytes
   pub text : List ℕ
   pub written : Appends before.sink.written after.sink.written text
   pub headline : (deck : Deck) → deck_of bytes (map device_of before.devices) false ≡ Ok deck
-      → Headline (trial_of (map device_of before.devices) deck) deck.count text (map device_of after.devices)
+      → Headline (trial_of (map device_of before.devices) deck) deck.count (answer_with result text (map device_of after.devices))
 
 -- a write failed, and what was written is a front of the text that was due
 pub record IsCut {B : Type 0} (device_of : B → Device) (faults : B → ℕ) (words : List (List ℕ)) (before after : Outside B) : Type 0 where

@@ -7,8 +7,9 @@ use Rattle.std.specs.declared.option.Option.TheVariants.{None, Some}
 use Rattle.lvdc_text.specs.Numbers.{number_of, below}
 use Rattle.lvdc_run.specs.declared.job.Engine.TheVariants.{Guarded, Through, Plain}
 use Rattle.lvdc_assemble.specs.declared.reply.Product.TheVariants.{Image, Listing}
+use Rattle.lvdc_expand.specs.declared.reply.Form.TheVariants as form
 use Rattle.lvdc_cli.specs.declared.command.Command.{Command}
-use Rattle.lvdc_cli.specs.declared.command.Command.TheVariants.{Run, Soak, Assemble, Debug}
+use Rattle.lvdc_cli.specs.declared.command.Command.TheVariants.{Run, Soak, Assemble, Debug, Campaign, Uplink, Expand}
 
 -- the bytes of the words
 abbrev pub texts : List (String Global) → List (List ℕ)
@@ -28,6 +29,10 @@ flagged flag =
 abbrev pub product_of : List ℕ → Option Command
 product_of flag = if is (codes "--image") flag then Some (Assemble Image) else None
 
+-- what a flag of `macro` asks for
+abbrev pub form_of : List ℕ → Option Command
+form_of flag = if is (codes "--image") flag then Some (Expand form.Image) else None
+
 -- the number of a soak run, where it is one
 abbrev pub soaked_by : Option ℕ → Option Command
 soaked_by None = None
@@ -42,16 +47,21 @@ abbrev pub of_two : List ℕ → List ℕ → Option Command
 of_two first second =
     if is (codes "run") first then flagged second
     else (if is (codes "asm") first then product_of second
-    else (if is (codes "soak") first then soaked_by (soak_number second) else None))
+    else (if is (codes "macro") first then form_of second
+    else (if is (codes "soak") first then soaked_by (soak_number second) else None)))
 
 -- what one word asks for
 abbrev pub of_one : List ℕ → Option Command
 of_one word =
     if is (codes "run") word then Some (Run Guarded)
     else (if is (codes "asm") word then Some (Assemble Listing)
-    else (if is (codes "debug") word then Some Debug else None))
+    else (if is (codes "debug") word then Some Debug
+    else (if is (codes "campaign") word then Some Campaign
+    else (if is (codes "uplink") word then Some Uplink
+    else (if is (codes "macro") word then Some (Expand form.Source) else None)))))
 
--- `run`, `run --plain`, `run --through`, `asm`, `asm --image`, `debug`, and `soak` with a number
+-- `run`, `run --plain`, `run --through`, `asm`, `asm --image`, `debug`, `campaign`, `uplink`, `macro`, `macro --image`, and `soak`
+-- with a number
 abbrev pub command_of : List (List ℕ) → Option Command
 command_of (first ∷ []) = of_one first
 command_of (first ∷ second ∷ []) = of_two first second
@@ -63,6 +73,9 @@ reads_for (Run engine) = true
 reads_for (Soak number) = false
 reads_for (Assemble product) = true
 reads_for Debug = true
+reads_for Campaign = true
+reads_for Uplink = true
+reads_for (Expand form) = true
 
 -- where the words are a command that reads an input
 abbrev pub reads : Option Command → Bool

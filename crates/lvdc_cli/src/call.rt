@@ -54,10 +54,10 @@ pub fn lvdc<S: Source, K: Sink>(
 
     // The headline: for a deck that `run` accepts, whatever the order of its copies, where nothing fails. As long as the script
     // stays admissible ports, registers, recoverable words and devices are those of the fault-free instruction table; the first
-    // inadmissible step is named after that same run so far.
+    // inadmissible step is named after that same run so far. The status says which it was.
     ensures headline { command_of (texts words.now) ≡ Some (Run Guarded) → IsUnhindered result → result ≢ 11 →
         let outside = outside_of S.left S.read_faults K.written K.write_faults K.room in
-        CarriesHeadline device_of (outside source.old sink.old devices.old.items) (outside source.new sink.new devices.new.items) }
+        CarriesHeadline device_of (outside source.old sink.old devices.old.items) (outside source.new sink.new devices.new.items) result }
 
     // Where the bytes of the source are told, and nothing fails: status, text and devices are those of the definition.
     ensures answer { (bytes : List ℕ) → S.left source.old ≡ Some bytes → IsUnhindered result →

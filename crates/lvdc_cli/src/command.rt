@@ -1,7 +1,8 @@
 ghost use Rattle.std.specs.Prelude.{◌≡◌, string_bytes};
-ghost use Rattle.lvdc_cli.specs.Words.{texts, flagged, product_of, soak_number, of_one, of_two, command_of, reads_for};
+ghost use Rattle.lvdc_cli.specs.Words.{texts, flagged, product_of, form_of, soak_number, of_one, of_two, command_of, reads_for};
 
 use lvdc_assemble::Product;
+use lvdc_expand::Form;
 use lvdc_run::Engine;
 use lvdc_text::decimal;
 
@@ -16,6 +17,12 @@ pub enum Command {
     Assemble(Product),
     /// `debug`: reads a deck and answers the commands of its debug session.
     Debug,
+    /// `campaign`: reads a deck and scripts, and runs the deck under each of them.
+    Campaign,
+    /// `uplink`: reads an image and messages, and answers them and patches it.
+    Uplink,
+    /// `macro` and `macro --image`: reads a source with macros and writes it out, or assembles what is written out.
+    Expand(Form),
 }
 
 impl Command {
@@ -28,6 +35,9 @@ impl Command {
             Command::Soak(_) => false,
             Command::Assemble(_) => true,
             Command::Debug => true,
+            Command::Campaign => true,
+            Command::Uplink => true,
+            Command::Expand(_) => true,
         }
     }
 }
@@ -53,6 +63,16 @@ fn product_of(flag: &String) -> Option<Command>
     }
 }
 
+/// The command that a flag after `macro` asks for.
+fn form_of(flag: &String) -> Option<Command>
+    ensures { result ≡ form_of (string_bytes flag.now) }
+{
+    match flag.as_str() {
+        "--image" => Some(Command::Expand(Form::Image)),
+        _ => None,
+    }
+}
+
 /// The number after `soak`: one to ten decimal digits below 2^32.
 #[tactic(auto, unfolding(crate::specs::Words::soak_number))]
 fn soak_number(word: &String) -> Option<u32>
@@ -72,6 +92,9 @@ fn of_one(word: &String) -> Option<Command>
         "run" => Some(Command::Run(Engine::Guarded)),
         "asm" => Some(Command::Assemble(Product::Listing)),
         "debug" => Some(Command::Debug),
+        "campaign" => Some(Command::Campaign),
+        "uplink" => Some(Command::Uplink),
+        "macro" => Some(Command::Expand(Form::Source)),
         _ => None,
     }
 }
@@ -83,6 +106,7 @@ fn of_two(first: &String, second: &String) -> Option<Command>
     match first.as_str() {
         "run" => flagged(second),
         "asm" => product_of(second),
+        "macro" => form_of(second),
         "soak" => match soak_number(second) {
             Some(number) => Some(Command::Soak(number)),
             None => None,

@@ -1,4 +1,4 @@
-ghost use Rattle.std.specs.Prelude.{◌≡◌, ◌≢◌, ◌≤◌, false, Some, Ok, length, map, OnErr, IfOk};
+ghost use Rattle.std.specs.Prelude.{◌≡◌, ◌≢◌, ◌≤◌, false, Some, Ok, length, map, OnErr, OnOk, IfOk};
 ghost use Rattle.lvdc_port.specs.Devices.{AreDistinct};
 ghost use Rattle.lvdc_deck.specs.Deck.{deck_of};
 ghost use Rattle.lvdc_deck.specs.declared.deck.Deck.{Deck};
@@ -9,15 +9,18 @@ ghost use Rattle.lvdc_run.specs.Trials.{trial_of};
 ghost use Rattle.lvdc_run.specs.Headline.{Headline};
 ghost use Rattle.lvdc_run.specs.Runs.{Judges, Stops};
 ghost use Rattle.lvdc_cli.specs.declared.command.Command.TheVariants.{Run};
-ghost use Rattle.lvdc_cli.specs.Commands.{command_answer, IsReplyTo, IsLeftUnanswered, RunsThat, room_of};
+ghost use Rattle.lvdc_cli.specs.Commands.{command_answer, IsReplyTo, IsLeftUnanswered, RunsThat, room_of, HoldsFor};
 
 use crate::LIMIT;
 use crate::command::Command;
 use lvdc_assemble::assemble_bytes;
+use lvdc_expand::expand_bytes;
+use lvdc_patch::patch_bytes;
 use lvdc_port::PortDevice;
 use lvdc_reply::Reply;
 use lvdc_run::{Job, headline_told, run_job, statuses_caused};
 use lvdc_session::{debug_bytes, session_statuses};
+use lvdc_study::study_bytes;
 use lvdc_word::NoMemory;
 use std::alloc::Global;
 
@@ -34,12 +37,16 @@ fn join(
         (answer_with reply.status reply.text (map device_of devices.new.items))) }
     ensures unanswered { OnErr result (IsLeftUnanswered device_of faults command bytes.now devices.old.items devices.new.items) }
     ensures room { IfOk result (λ reply. length reply.text ≤ room_of command) }
+    ensures holds { OnOk result (HoldsFor command bytes.now (map device_of devices.old.items)) }
 {
     match command {
         Command::Run(engine) => run_job(alloc, Job::Deck(engine), bytes, devices),
         Command::Soak(number) => run_job(alloc, Job::Soak(number), bytes, devices),
         Command::Assemble(product) => assemble_bytes(alloc, product, bytes),
         Command::Debug => debug_bytes(alloc, bytes, devices),
+        Command::Campaign => study_bytes(alloc, bytes, devices),
+        Command::Uplink => patch_bytes(alloc, bytes),
+        Command::Expand(form) => expand_bytes(alloc, form, bytes),
     }
 }
 
@@ -61,10 +68,11 @@ pub fn reply(
 
     // The headline: for a deck that `run` accepts, whatever the order of its copies, where no device fails. As long as the script
     // stays admissible ports, registers, recoverable words and devices are those of the fault-free instruction table; the first
-    // inadmissible step is named after that same run so far.
+    // inadmissible step is named after that same run so far. The status says which it was.
     ensures headline { IfOk result (λ reply. reply.status ≢ 10 → (deck : Deck) → command ≡ Run Guarded
         → deck_of bytes.now (map device_of devices.old.items) false ≡ Ok deck
-        → Headline (trial_of (map device_of devices.old.items) deck) deck.count reply.text (map device_of devices.new.items)) }
+        → Headline (trial_of (map device_of devices.old.items) deck) deck.count
+        (answer_with reply.status reply.text (map device_of devices.new.items))) }
 
     // 5: exactly where the command judges the script, and finds a step that isn't admissible.
     ensures inadmissible { IfOk result (λ reply. reply.status ≡ 5 → RunsThat Judges command bytes.now (map device_of devices.old.items)) }
@@ -88,6 +96,9 @@ pub fn reply(
     // Want of memory is free. The devices are as before, or tapes were supplied in part, or they are as after the run.
     ensures unanswered { OnErr result (IsLeftUnanswered device_of faults command bytes.now devices.old.items devices.new.items) }
     ensures room { IfOk result (λ reply. length reply.text ≤ room_of command) }
+
+    // Of a campaign each row whose script is admissible comes to the same.
+    ensures holds { OnOk result (HoldsFor command bytes.now (map device_of devices.old.items)) }
 {
     headline_told();
     statuses_caused();

@@ -5,10 +5,12 @@ mod call;
 mod command;
 mod due;
 mod join;
+mod laws;
 
 pub use call::lvdc;
 pub use command::{Command, read_command};
 pub use join::reply;
+pub use laws::source_is_printed;
 use lvdc_debug::LONGEST_SESSION;
 use lvdc_report::LONGEST_REPORT;
 

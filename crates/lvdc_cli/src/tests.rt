@@ -9,8 +9,10 @@ use std::alloc::Global;
 use std::process::Abort;
 use std::test::Fail;
 
+mod campaigns;
 mod faults;
 mod listings;
+mod macros;
 mod ports;
 mod programs;
 mod refusals;
@@ -20,6 +22,7 @@ mod soaks;
 mod sources;
 mod states;
 mod streams;
+mod uplinks;
 
 /// The words of a command line.
 fn command(alloc: Global, line: &str) -> Result<Vec<String>, Fail> {

@@ -7,7 +7,7 @@ use Rattle.lvdc_cli.proofs.due.due_for.Goals as goal
 pub returns-in-Ok-reply-clause-due : goal.returns-in-Ok-reply-clause-due
 returns-in-Ok-reply-clause-due g c = λ words before after asked.
     replied_over c.args.command c.in-Ok.bytes.items c.as_slice.result.now _ asked (c.in-Ok.ensures.quiet (λ e. cc)) c.in-Ok.ensures.read
-    c.as_slice.ensures.value c.in-Ok-reply.ensures.reply
+    c.as_slice.ensures.value c.in-Ok-reply.ensures.reply c.in-Ok-reply.ensures.holds
 
 pub returns-in-Ok-clause-due : goal.returns-in-Ok-clause-due
 returns-in-Ok-clause-due g c = λ words before after asked.

@@ -1,0 +1,64 @@
+-- Worked command lines.
+use Rattle.std.proofs.Common.{◌≡◌, List, [], ◌∷◌, refl}
+use Rattle.std.specs.Prelude.{codes}
+use Rattle.std.specs.declared.option.Option.TheVariants.{None, Some}
+use Rattle.lvdc_run.specs.declared.job.Engine.TheVariants.{Guarded, Through, Plain}
+use Rattle.lvdc_assemble.specs.declared.reply.Product.TheVariants.{Image, Listing}
+use Rattle.lvdc_expand.specs.declared.reply.Form.TheVariants as form
+use Rattle.lvdc_cli.specs.declared.command.Command.TheVariants.{Run, Soak, Assemble, Debug, Campaign, Uplink, Expand}
+use Rattle.lvdc_cli.specs.Words.{soak_number, command_of}
+
+run_alone : command_of (codes "run" ∷ []) ≡ Some (Run Guarded)
+run_alone = refl
+
+run_through : command_of (codes "run" ∷ codes "--through" ∷ []) ≡ Some (Run Through)
+run_through = refl
+
+run_plain : command_of (codes "run" ∷ codes "--plain" ∷ []) ≡ Some (Run Plain)
+run_plain = refl
+
+run_fast : command_of (codes "run" ∷ codes "fast" ∷ []) ≡ None
+run_fast = refl
+
+no_word : command_of [] ≡ None
+no_word = refl
+
+three_words : command_of (codes "run" ∷ codes "--plain" ∷ codes "--plain" ∷ []) ≡ None
+three_words = refl
+
+listing : command_of (codes "asm" ∷ []) ≡ Some (Assemble Listing)
+listing = refl
+
+image : command_of (codes "asm" ∷ codes "--image" ∷ []) ≡ Some (Assemble Image)
+image = refl
+
+debug_alone : command_of (codes "debug" ∷ []) ≡ Some Debug
+debug_alone = refl
+
+campaign_alone : command_of (codes "campaign" ∷ []) ≡ Some Campaign
+campaign_alone = refl
+
+macro_alone : command_of (codes "macro" ∷ []) ≡ Some (Expand form.Source)
+macro_alone = refl
+
+macro_image : command_of (codes "macro" ∷ codes "--image" ∷ []) ≡ Some (Expand form.Image)
+macro_image = refl
+
+uplink_alone : command_of (codes "uplink" ∷ []) ≡ Some Uplink
+uplink_alone = refl
+
+-- leading zeros stay out of the number
+soak_one : command_of (codes "soak" ∷ codes "0001" ∷ []) ≡ Some (Soak 1)
+unfolding soak_number
+soak_one = refl
+
+soak_greatest : command_of (codes "soak" ∷ codes "4294967295" ∷ []) ≡ Some (Soak 4294967295)
+unfolding soak_number
+soak_greatest = refl
+
+soak_past_it : command_of (codes "soak" ∷ codes "4294967296" ∷ []) ≡ None
+unfolding soak_number
+soak_past_it = refl
+
+soak_without_number : command_of (codes "soak" ∷ []) ≡ None
+soak_without_number = refl
