@@ -17,6 +17,3 @@ mod target;
 pub use assembly::{Assembly, assemble};
 pub use fault::AsmFault;
 pub use laws::assembly_is_small;
-
-#[cfg(test)]
-mod tests;

@@ -8,6 +8,3 @@ pub use reply::{Product, assemble_bytes};
 
 /// The text of a reply has at most so many bytes: a listing is the longest.
 pub const LONGEST_TEXT: usize = LONGEST_LISTING;
-
-#[cfg(test)]
-mod tests;

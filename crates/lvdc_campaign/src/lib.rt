@@ -20,6 +20,3 @@ pub const MOST_SCRIPTS: usize = 256;
 
 /// The most events of a script (this project's profile).
 pub const MOST_EVENTS: usize = 65_536;
-
-#[cfg(test)]
-mod tests;

@@ -15,6 +15,3 @@ pub use breaks::{Breaks, BreaksFull};
 pub use command::{Command, Spot2};
 pub use parse::{BadCommand, parse_command};
 pub use session::{LONGEST_SESSION, debug};
-
-#[cfg(test)]
-mod tests;

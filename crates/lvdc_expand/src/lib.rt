@@ -8,6 +8,3 @@ pub use reply::{Form, expand_bytes};
 
 /// The text of a reply has at most so many bytes: an expansion is the longest.
 pub const LONGEST_TEXT: usize = LONGEST_EXPANSION;
-
-#[cfg(test)]
-mod tests;

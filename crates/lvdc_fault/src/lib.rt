@@ -20,6 +20,3 @@ pub use named::Named;
 pub use script::Script;
 pub use verdict::Verdict;
 pub use wrong::{wrong_module, wrong_now};
-
-#[cfg(test)]
-mod tests;

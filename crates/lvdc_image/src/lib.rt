@@ -16,6 +16,3 @@ pub use read::read_image;
 
 /// The text of an image has at most so many bytes: a line for each address, and four more.
 pub const LONGEST_IMAGE: usize = 622_635;
-
-#[cfg(test)]
-mod tests;

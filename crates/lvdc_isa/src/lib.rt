@@ -12,6 +12,3 @@ pub use instr::Instr;
 pub use op::Op;
 pub use shift::shifted;
 pub use text::{mnemonic, print};
-
-#[cfg(test)]
-mod tests;

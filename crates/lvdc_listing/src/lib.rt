@@ -12,6 +12,3 @@ pub use print::listing;
 /// The listing of 1,048,576 bytes has at most so many: 30 for a line beside its text, 24 for a pooled word and 25 for a name,
 /// and a source has no more of each than bytes.
 pub const LONGEST_LISTING: usize = 82_837_534;
-
-#[cfg(test)]
-mod tests;

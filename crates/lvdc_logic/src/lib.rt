@@ -9,6 +9,3 @@ mod logic;
 mod triples;
 
 pub use logic::Logic;
-
-#[cfg(test)]
-mod tests;

@@ -22,6 +22,3 @@ pub use mode::{Mode, Pace};
 pub use resumed::resumed_goes_on;
 pub use shown::Shown;
 pub use snapshot::Snapshot;
-
-#[cfg(test)]
-mod tests;

@@ -14,6 +14,3 @@ pub use expansion::{Expansion, LONGEST_EXPANSION};
 pub use fault::MacroFault;
 pub use laws::plain_source_is_its_own;
 pub use source::expand;
-
-#[cfg(test)]
-mod tests;

@@ -16,6 +16,3 @@ pub use operand::{OperandKind, is_a9, low_bits, operand_place};
 pub use place::Place;
 pub use placed::Placed;
 pub use words::Words;
-
-#[cfg(test)]
-mod tests;

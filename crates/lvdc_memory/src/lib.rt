@@ -5,6 +5,3 @@ mod memory;
 mod resume;
 
 pub use memory::VotedMemory;
-
-#[cfg(test)]
-mod tests;

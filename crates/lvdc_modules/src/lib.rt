@@ -28,6 +28,3 @@ pub use seen::{Doing, Phase};
 pub use selector::{Selector, SelectorState, data_word};
 pub use timer::{Timer, TimerState};
 pub use wanted::{Wanted, wish};
-
-#[cfg(test)]
-mod tests;

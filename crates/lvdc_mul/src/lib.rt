@@ -10,6 +10,3 @@ mod unit;
 pub use control::Kind;
 pub use landing::{divide_lands, multiply_lands};
 pub use unit::Unit;
-
-#[cfg(test)]
-mod tests;

@@ -9,6 +9,3 @@ mod orders;
 pub use full::OrdersFull;
 pub use order::Order;
 pub use orders::Orders;
-
-#[cfg(test)]
-mod tests;

@@ -12,6 +12,3 @@ pub use reply::patch_bytes;
 
 /// The text of a reply has at most so many bytes: 32 for the answer to each of 1,048,576 lines, and those of an image.
 pub const LONGEST_TEXT: usize = 34_177_067;
-
-#[cfg(test)]
-mod tests;

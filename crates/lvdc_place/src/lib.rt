@@ -14,6 +14,3 @@ pub use fault::PlaceFault;
 pub use layout::Layout;
 pub use placing::place;
 pub use spot::Spot;
-
-#[cfg(test)]
-mod tests;

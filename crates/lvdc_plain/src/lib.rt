@@ -11,6 +11,3 @@ pub use laws::stopped_run_stays;
 pub use plain::Plain;
 pub use records::{Exchange, Pending, PlainEnd, Stop, Unplug, Visible};
 pub use unplugs::unplug_all;
-
-#[cfg(test)]
-mod tests;

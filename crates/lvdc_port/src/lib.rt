@@ -19,6 +19,3 @@ pub use requests::{DeviceFault, PortRequest, Supply, exchange, prepare_all, unpl
 pub use supplies::{kind_at, supply_all};
 pub use tape::Tape;
 pub use ticker::Ticker;
-
-#[cfg(test)]
-mod tests;

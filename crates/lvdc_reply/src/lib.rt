@@ -4,6 +4,3 @@
 mod reply;
 
 pub use reply::{Reply, refusal};
-
-#[cfg(test)]
-mod tests;

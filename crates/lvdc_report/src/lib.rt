@@ -19,6 +19,3 @@ pub use soak::report_soak;
 pub use title::Title;
 pub use voted::report_run;
 pub use words::{put_memory_line, put_unknown_line};
-
-#[cfg(test)]
-mod tests;

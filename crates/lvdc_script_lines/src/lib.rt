@@ -9,6 +9,3 @@ mod lines;
 
 pub use fields::{decimal_in, octal_in, place_in};
 pub use lines::{event_of, order_of, read_fault, read_order};
-
-#[cfg(test)]
-mod tests;

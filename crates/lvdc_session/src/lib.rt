@@ -6,6 +6,3 @@ mod reply;
 
 pub use laws::session_statuses;
 pub use reply::debug_bytes;
-
-#[cfg(test)]
-mod tests;

@@ -4,6 +4,3 @@
 mod soak;
 
 pub use soak::soak_deck;
-
-#[cfg(test)]
-mod tests;

@@ -25,6 +25,3 @@ pub use operation::is_operation;
 pub use parts::{Parts, parts_by};
 pub use program::Program;
 pub use read::parse_source;
-
-#[cfg(test)]
-mod tests;

@@ -5,6 +5,3 @@ mod reply;
 mod text;
 
 pub use reply::study_bytes;
-
-#[cfg(test)]
-mod tests;

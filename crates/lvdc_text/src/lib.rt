@@ -19,6 +19,3 @@ pub use numbers::{decimal, octal, octal_word, plain_decimal, put_decimal, put_oc
 pub use standard::{StdSink, StdSource};
 pub use streams::{Failed, Sink, Source};
 pub use transfer::{ReadEnd, WriteFault, read_all, write_all};
-
-#[cfg(test)]
-mod tests;

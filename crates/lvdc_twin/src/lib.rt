@@ -13,6 +13,3 @@ pub use held::Held;
 pub use read_out::ReadOut;
 pub use stuck::Stuck;
 pub use twins::{Twins, changes_are_local, home, survivor_is_read};
-
-#[cfg(test)]
-mod tests;

@@ -17,6 +17,3 @@ pub use laws::{
     committed_once, image_is_patched, refused_changes_nothing, repeated_changes_nothing,
 };
 pub use uplink::Uplink;
-
-#[cfg(test)]
-mod tests;

@@ -19,6 +19,3 @@ pub use order::{Feed, latch_in_order, step_in_order};
 pub use triple::Triple;
 pub use vote::{Vote, two_are_the_vote};
 pub use whole::WholeTriple;
-
-#[cfg(test)]
-mod tests;

@@ -15,6 +15,3 @@ pub use results::{product, quotient, saturated};
 pub use seq::Seq;
 pub use syllable::Syllable;
 pub use word::Word;
-
-#[cfg(test)]
-mod tests;

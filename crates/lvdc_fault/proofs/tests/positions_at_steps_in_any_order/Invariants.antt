@@ -1,5 +1,0 @@
-use Rattle.lvdc_fault.specs.Activity.{Fits}
-use Rattle.lvdc_fault.proofs.tests.positions_at_steps_in_any_order.Given as goal
-
-abbrev pub invariant-loop-step : goal.invariant-loop-step
-invariant-loop-step g l = Fits l.script-inside.events.items l.active

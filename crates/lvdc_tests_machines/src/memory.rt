@@ -1,0 +1,199 @@
+ghost use Rattle.std.specs.Prelude.{◌≡◌, ◌<◌, true, All, IfOk, length};
+ghost use Rattle.lvdc_map.specs.Banks.{is_there};
+ghost use Rattle.lvdc_fault.specs.Activity.{Fits};
+ghost use Rattle.lvdc_memory.specs.Faults.{NamesMemory};
+
+use lvdc_fault::{Active, Event, Script};
+use lvdc_map::{Address, Banks, Placed};
+use lvdc_memory::VotedMemory;
+use lvdc_twin::{BothBad, ReadOut};
+use lvdc_word::{Cell, Word};
+use std::test::Fail;
+
+const HERE: Address = Address {
+    pair: 1,
+    sector: 1,
+    loc: 0,
+};
+
+/// A memory with the word 5 at one address.
+fn five(rt: &HostRuntime, at: Address, banks: Banks) -> Result<VotedMemory, Fail>
+    requires { is_there banks at ≡ true }
+    ensures { IfOk result (λ m. m.twins.banks ≡ banks) }
+{
+    let image = [Placed {
+        at,
+        word: Word::within(5),
+    }];
+    Ok(VotedMemory::new(rt.alloc(), &image, banks)?)
+}
+
+/// A script of two events.
+fn two(rt: &HostRuntime, first: Event, second: Event) -> Result<Script, Fail>
+    requires first { NamesMemory first }
+    requires second { NamesMemory second }
+    ensures { IfOk result (λ s. All NamesMemory s) }
+{
+    let mut script = Script::new(rt.alloc());
+    script.push(first)?;
+    script.push(second)?;
+    Ok(script)
+}
+
+/// One step after another, as a machine makes them.
+fn go_to(memory: &mut VotedMemory, script: &Script, active: &mut Active, step: u64)
+    requires names { All NamesMemory script.now }
+    requires fits { Fits script.now active.old }
+    requires within { All (λ position. position < length script.now) active.old.held }
+    ensures fits { Fits script.now active.new }
+    ensures within { All (λ position. position < length script.now) active.new.held }
+    ensures banks { memory.new.twins.banks ≡ memory.old.twins.banks }
+{
+    memory.release(script, active);
+    script.active(step, active);
+    memory.begin(script, active, step);
+}
+
+fn found(repaired: Option<u8>, switched: bool) -> Result<ReadOut, BothBad> {
+    let word = Word::within(5);
+    Ok(ReadOut {
+        word,
+        repaired,
+        switched,
+    })
+}
+
+fn damage(twin: u8, at: Address, step: u64) -> Event
+    requires twin { twin < 2 }
+    requires pair { at.pair < 4 }
+    ensures { NamesMemory result }
+{
+    Event::Damage {
+        twin,
+        at,
+        step,
+        mask: Cell::within(1),
+    }
+}
+
+/// Bits that are stuck in twin 0 at step 2.
+fn stuck(mask: u32, value: u32) -> Event
+    requires mask { mask < 8 }
+    requires value { value < 8 }
+    ensures { NamesMemory result }
+{
+    Event::Stick {
+        twin: 0,
+        at: HERE,
+        first: 2,
+        last: 2,
+        mask: Cell::within(mask),
+        value: Cell::within(value),
+    }
+}
+
+#[test]
+fn each_twin_is_damaged_and_mended_from_the_other(rt: HostRuntime) -> Result<(), Fail> {
+    let script = two(&rt, damage(0, HERE, 0), damage(1, HERE, 4))?;
+    let mut active = Active::for_script(rt.alloc(), &script)?;
+    let mut memory = five(&rt, HERE, Banks::DUPLEX)?;
+    go_to(&mut memory, &script, &mut active, 0);
+    assert!(rt; memory.recoverable(HERE));
+    assert_eq!(rt; memory.read(HERE), found(Some(0), true));
+    go_to(&mut memory, &script, &mut active, 4);
+    assert!(rt; memory.recoverable(HERE));
+    assert_eq!(rt; memory.read(HERE), found(Some(1), true));
+    assert_eq!(rt; memory.read(HERE), found(None, false));
+    Ok(())
+}
+
+#[test]
+fn a_dead_twin_misses_a_store(rt: HostRuntime) -> Result<(), Fail> {
+    let dead = Event::Dead {
+        twin: 0,
+        pair: 1,
+        first: 5,
+        last: 5,
+    };
+    let script = two(&rt, dead, damage(1, HERE, 9))?;
+    let mut active = Active::for_script(rt.alloc(), &script)?;
+    let mut memory = five(&rt, HERE, Banks::DUPLEX)?;
+    go_to(&mut memory, &script, &mut active, 5);
+    memory.store(HERE, Word::within(7));
+    assert_eq!(rt; memory.intended(HERE), Word::within(7));
+    assert!(rt; memory.recoverable(HERE));
+    go_to(&mut memory, &script, &mut active, 6);
+    assert!(rt; !memory.recoverable(HERE));
+    assert_eq!(rt; memory.read(HERE), found(None, false));
+    Ok(())
+}
+
+#[test]
+fn where_stuck_bits_meet_the_later_ones_count(rt: HostRuntime) -> Result<(), Fail> {
+    let right_last = two(&rt, stuck(3, 0), stuck(1, 1))?;
+    let mut active = Active::for_script(rt.alloc(), &right_last)?;
+    let mut memory = five(&rt, HERE, Banks::DUPLEX)?;
+    go_to(&mut memory, &right_last, &mut active, 2);
+    assert_eq!(rt; memory.read(HERE), found(None, false));
+    let wrong_last = two(&rt, stuck(1, 1), stuck(3, 0))?;
+    let mut active = Active::for_script(rt.alloc(), &wrong_last)?;
+    let mut memory = five(&rt, HERE, Banks::DUPLEX)?;
+    go_to(&mut memory, &wrong_last, &mut active, 2);
+    assert_eq!(rt; memory.read(HERE), found(Some(0), true));
+    assert_eq!(rt; memory.read(HERE), found(Some(0), false));
+    go_to(&mut memory, &wrong_last, &mut active, 3);
+    assert_eq!(rt; memory.read(HERE), found(None, false));
+    Ok(())
+}
+
+#[test]
+fn a_bank_of_a_simplex_pair_stands_alone(rt: HostRuntime) -> Result<(), Fail> {
+    let script = two(&rt, damage(0, HERE, 0), damage(1, HERE, 1))?;
+    let mut active = Active::for_script(rt.alloc(), &script)?;
+    let other = Address { pair: 5, ..HERE };
+    let banks = Banks::new(2).ok_or("pair 1")?;
+    let mut memory = five(&rt, other, banks)?;
+    go_to(&mut memory, &script, &mut active, 0);
+    assert!(rt; !memory.recoverable(HERE));
+    assert!(rt; memory.recoverable(other));
+    assert_eq!(rt; memory.read(HERE), Err(BothBad));
+    assert_eq!(rt; memory.read(other), found(None, false));
+    go_to(&mut memory, &script, &mut active, 1);
+    assert_eq!(rt; memory.read(other), Err(BothBad));
+    memory.store(other, Word::within(7));
+    assert!(rt; memory.recoverable(other));
+    Ok(())
+}
+
+#[test]
+fn a_memory_goes_on_from_its_cells_and_words(rt: HostRuntime) -> Result<(), Fail> {
+    let mut memory = five(&rt, HERE, Banks::DUPLEX)?;
+    let dead = Event::Dead {
+        twin: 0,
+        pair: 1,
+        first: 3,
+        last: 4,
+    };
+    let damage = Event::Damage {
+        twin: 1,
+        at: HERE,
+        step: 3,
+        mask: Cell::within(1),
+    };
+    let script = two(&rt, dead, damage)?;
+    let mut active = Active::for_script(rt.alloc(), &script)?;
+    let held = memory.held(rt.alloc())?;
+    let words = memory.placed(rt.alloc())?;
+    let mut again = VotedMemory::from_cells(rt.alloc(), &held, &[0; 4], &words, Banks::DUPLEX)?;
+    script.active(3, &mut active);
+    again.put_in_force(&script, &active, 3);
+    assert_eq!(rt; again.read(HERE), found(Some(0), true));
+    assert_eq!(rt;
+        again.selected(rt.alloc())?.as_slice(),
+        [0, 1, 0, 0].as_slice()
+    );
+    assert_eq!(rt; again.intended(HERE).value(), 5);
+    memory.begin(&script, &active, 3);
+    assert_eq!(rt; memory.read(HERE), Err(BothBad));
+    Ok(())
+}

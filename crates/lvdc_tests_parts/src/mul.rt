@@ -1,0 +1,64 @@
+ghost use Rattle.std.specs.Prelude.{◌<◌, ◌^◌};
+
+use lvdc_mul::{Kind, Unit};
+use lvdc_word::Word;
+use std::test::Fail;
+
+const HALF: u32 = 0o100000000;
+
+const MINUS_ONE: u32 = 0o200000000;
+
+const GREATEST: u32 = 0o177777774;
+
+#[test]
+fn the_only_product_that_wraps(rt: HostRuntime) -> Result<(), Fail> {
+    let minus_one = Word::within(MINUS_ONE);
+    let unit = Unit::issue_multiply(minus_one, minus_one, true);
+    assert_eq!(rt; unit.kind(), Kind::MultiplyHigh);
+    assert_eq!(rt; unit.after(10).lands(), None);
+    assert_eq!(rt; unit.after(11).lands(), Some(minus_one));
+    assert_eq!(rt; unit.after(12).lands(), None);
+    assert_eq!(rt; unit.after(12).kind(), Kind::MultiplyHigh);
+    Ok(())
+}
+
+/// What a divide lands in its last phase.
+fn quotient(a: u32, m: u32) -> Option<Word>
+    requires a { a < 2 ^ 26 }
+    requires m { m < 2 ^ 26 }
+{
+    let unit = Unit::issue_divide(Word::within(a), Word::within(m));
+    unit.after(23).lands()
+}
+
+#[test]
+fn quotients_at_the_extremes(rt: HostRuntime) -> Result<(), Fail> {
+    assert_eq!(rt; quotient(HALF / 2, HALF), Some(Word::within(HALF)));
+    assert_eq!(rt; quotient(MINUS_ONE, 4), Some(Word::within(MINUS_ONE)));
+    assert_eq!(rt; quotient(HALF, HALF), Some(Word::within(GREATEST)));
+    assert_eq!(rt; quotient(0, 0), Some(Word::within(GREATEST)));
+    Ok(())
+}
+
+#[test]
+fn a_multiply_cancelled_half_way_lands_nothing(rt: HostRuntime) -> Result<(), Fail> {
+    let half = Word::within(HALF);
+    let unit = Unit::issue_multiply(half, half, false).after(6).cancel();
+    assert_eq!(rt; unit.kind(), Kind::Idle);
+    assert_eq!(rt; unit.after(5).lands(), None);
+    Ok(())
+}
+
+#[test]
+fn a_multiply_of_31_phases_shifts_the_sign_in(rt: HostRuntime) -> Result<(), Fail> {
+    let unit = Unit {
+        control: Word::within(0o377777175),
+        m: Word::ZERO,
+        h: Word::within(0o377777777),
+        q: Word::ZERO,
+    };
+    assert_eq!(rt; unit.after(29).lands(), None);
+    assert_eq!(rt; unit.after(30).lands(), Some(Word::within(0o377777777)));
+    assert_eq!(rt; unit.after(31).control.value(), 0o377777001);
+    Ok(())
+}

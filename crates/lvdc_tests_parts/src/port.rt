@@ -1,0 +1,108 @@
+ghost use Rattle.std.specs.Prelude.{◌<◌, ◌^◌};
+
+use lvdc_port::{
+    DeviceFault, Failing, Kind, Latch, PortDevice, PortRequest, Recorder, Supply, Tape, Ticker,
+    exchange, kind_at, prepare_all, supply_all, unplug,
+};
+use lvdc_word::Word;
+use std::test::Fail;
+
+fn write(devices: &mut Vec<Box<dyn PortDevice>>, port: u8, word: u32) -> Result<Word, Fail>
+    requires port { port < 2 ^ 8 }
+    requires word { word < 2 ^ 26 }
+{
+    prepare_all(devices, 1)?;
+    let word = Word::within(word);
+    Ok(exchange(devices, Word::ZERO, PortRequest::Write { port, word })?)
+}
+
+#[test]
+fn sixteen_devices_answer_by_their_kinds(rt: HostRuntime) -> Result<(), Fail> {
+    let alloc = rt.alloc();
+    let mut devices: Vec<Box<dyn PortDevice>> = Vec::new(alloc);
+    for port in 0..0o14u8 {
+        let mut tape = Tape::new(alloc, port);
+        tape.supply(Word::within(u32::from(port) + 0o100))?;
+        devices.push(Box::new(alloc, tape)?)?;
+    }
+    devices.push(Box::new(alloc, Latch::new(0o14))?)?;
+    devices.push(Box::new(alloc, Latch::new(0o15))?)?;
+    devices.push(Box::new(alloc, Ticker::new(0o16))?)?;
+    devices.push(Box::new(alloc, Recorder::new(alloc, 0o17))?)?;
+    for device in devices.iter_mut() {
+        device.supply(Word::within(0o6))?;
+    }
+    write(&mut devices, 0o15, 0o7)?;
+    write(&mut devices, 0o17, 0o5)?;
+    for (port, answer) in [
+        (0o13, 0o113),
+        (0o13, 0o6),
+        (0o13, 0),
+        (0o14, 0),
+        (0o15, 0o7),
+        (0o16, 9),
+        (0o17, 0),
+        (0o20, 0),
+    ] {
+        let word = exchange(&mut devices, Word::within(9), PortRequest::Read { port })?;
+        assert_eq!(rt; word.value(), answer, "at port {port:o}");
+    }
+    assert!(rt; unplug(&mut devices, 0o16));
+    assert!(rt; !unplug(&mut devices, 0o16));
+    assert_eq!(rt; devices.len(), 15);
+    let recorder = devices.last().ok_or("no device")?;
+    assert_eq!(rt; recorder.kind(), Kind::Recorder);
+    assert_eq!(rt; recorder.held(0), Some(Word::within(0o5)));
+    assert_eq!(rt; recorder.held(1), None);
+    Ok(())
+}
+
+#[test]
+fn a_failing_tape_keeps_its_words(rt: HostRuntime) -> Result<(), Fail> {
+    let alloc = rt.alloc();
+    let mut tape = Failing::new(Tape::new(alloc, 3), Vec::from_slice(alloc, &[2, 3])?);
+    tape.supply(Word::within(0o5))?;
+    tape.supply(Word::within(0o7))?;
+    assert_eq!(rt; tape.read(Word::ZERO)?.value(), 0o5);
+    assert!(rt; tape.write(Word::ZERO, Word::ZERO).is_err());
+    let mut devices: Vec<Box<dyn PortDevice>> = Vec::new(alloc);
+    devices.push(Box::new(alloc, tape)?)?;
+    prepare_all(&mut devices, 1)?;
+    let request = PortRequest::Read { port: 3 };
+    let fault = DeviceFault { port: 3, faults: 2 };
+    let message = "the device at port 003 failed; it has counted 2 faults";
+    assert_eq!(rt; format!(in alloc; "{fault}")?.as_str(), message);
+    assert_eq!(rt; exchange(&mut devices, Word::ZERO, request), Err(fault));
+    assert_eq!(rt; exchange(&mut devices, Word::ZERO, request)?.value(), 0o7);
+    Ok(())
+}
+
+#[test]
+fn a_tape_and_a_recorder_show_their_words(rt: HostRuntime) -> Result<(), Fail> {
+    let alloc = rt.alloc();
+    let word = Word::within(0o5);
+    let mut tape = Tape::new(alloc, 0);
+    tape.supply(word)?;
+    assert_eq!(rt; tape.left(), [word].as_slice());
+    let mut recorder = Recorder::new(alloc, 0o17);
+    recorder.prepare(1)?;
+    recorder.write(Word::ZERO, word)?;
+    assert_eq!(rt; recorder.words(), [word].as_slice());
+    Ok(())
+}
+
+#[test]
+fn words_are_supplied_to_tapes_alone(rt: HostRuntime) -> Result<(), Fail> {
+    let alloc = rt.alloc();
+    let mut devices: Vec<Box<dyn PortDevice>> = Vec::new(alloc);
+    devices.push(Box::new(alloc, Tape::new(alloc, 0))?)?;
+    devices.push(Box::new(alloc, Latch::new(0o14))?)?;
+    assert_eq!(rt; kind_at(&devices, 0o14), Some(Kind::Latch));
+    assert_eq!(rt; kind_at(&devices, 0o15), None);
+    let word = Word::within(0o5);
+    let supplies = [0, 0o14, 0o15].map(|port| Supply { port, word });
+    supply_all(&mut devices, &supplies)?;
+    assert_eq!(rt; devices[0].held(0), Some(word));
+    assert_eq!(rt; devices[1].held(0), Some(Word::ZERO));
+    Ok(())
+}

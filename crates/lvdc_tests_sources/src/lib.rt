@@ -1,0 +1,17 @@
+//! Tests of images, sources, macros, listings and the uplink, over the public calls of their crates.
+#![tactic(auto)]
+
+#[cfg(test)]
+mod asm;
+#[cfg(test)]
+mod image;
+#[cfg(test)]
+mod listing;
+#[cfg(test)]
+mod macros;
+#[cfg(test)]
+mod place;
+#[cfg(test)]
+mod source;
+#[cfg(test)]
+mod uplink;
