@@ -1,23 +1,26 @@
--- Lines one after the other: the line CAMPAIGN, the first line with a word, and the scripts that lines tell.
-use Rattle.std.proofs.Common.{◌≡◌, ℕ, ◌+◌, ◌<◌, ◌≤◌, Bool, true, false, nat_le, ◌&&◌, Option, None, Some, List, [], ◌∷◌, length, get_or, drop, Result, Ok, Err, sym, ap, ◌∙◌, arith}
+-- Lines one after the other: the line CAMPAIGN, and the scripts that lines tell.
+use Rattle.std.proofs.Common.{◌≡◌, ℕ, ◌+◌, ◌<◌, ◌≤◌, Bool, true, false, nat_le, ◌&&◌, List, [], ◌∷◌, length, get_or, drop, Result, Ok, Err, sym, ap, ◌∙◌, arith}
 use Rattle.std.specs.Bool.{if◌then◌else◌}
 use Rattle.std.proofs.lemmas.List.{drop_more, drop_all}
 use Rattle.lvdc_text.specs.declared.cutting.Line.{Line}
-use Rattle.lvdc_text.specs.Lines.{lines_of, part_of, word_texts_of}
+use Rattle.lvdc_text.specs.Lines.{lines_of, part_of}
 use Rattle.std.specs.List.{list_all}
 use Rattle.std.proofs.lemmas.Bool.{and_parts}
 use Rattle.std.proofs.lemmas.Bool.Decides.{nat_tests}
 use Rattle.lvdc_port.specs.Device.{Device}
 use Rattle.lvdc_source.specs.Names.{is_capital, is_of_name, is_name}
 use Rattle.lvdc_deck.specs.Deck.{deck_of}
+use Rattle.lvdc_deck.specs.Sought.{after_program}
 use Rattle.lvdc_deck.specs.declared.deck.Deck.{Deck}
 use Rattle.lvdc_deck.specs.declared.fault.DeckFault.{DeckFault}
 use Rattle.lvdc_fault.specs.declared.named.Named.{Named}
 use Rattle.lvdc_campaign_deck.specs.declared.fault.CampaignFault.{CampaignFault}
-use Rattle.lvdc_campaign_deck.specs.declared.layout.Sought.{Sought}
-use Rattle.lvdc_campaign_deck.specs.Campaign.{after_program, is_campaign, from_campaign, begins_with, first_line, by_deck, checked, program_of}
+use Rattle.lvdc_campaign_deck.specs.Campaign.{is_campaign, from_campaign, by_deck, checked, program_of}
 use Rattle.lvdc_campaign_deck.specs.Scripts.{and_then, Scripts, all_scripts, after_line, scripts_from}
-use Rattle.lvdc_campaign_deck.proofs.Places.{no_line}
+
+-- what an index past the end reads
+abbrev pub no_line : Line
+no_line = record { number = 0; start = 0; end = 0 }
 
 -- ---- the line CAMPAIGN
 
@@ -38,26 +41,6 @@ module _ (bytes : List ℕ) (lines : List Line) (i : ℕ) (total : List Line) (s
   pub campaign-none : length lines ≤ i → [] ≡ total
   unfolding from_campaign
   campaign-none all = sym (ap (from_campaign bytes) (drop_all i lines all)) ∙ so_far
-
--- ---- the first line with a word
-
-module _ (sought : Sought) (bytes : List ℕ) (lines : List Line) (i : ℕ) (total : Option ℕ) (so_far : first_line sought bytes (drop i lines) ≡ total) where
-  by_word : i < length lines → (is : Bool) → begins_with sought (word_texts_of (part_of bytes (get_or lines i no_line))) ≡ is
-      → (if is then Some (get_or lines i no_line).number else first_line sought bytes (drop (i + 1) lines)) ≡ total
-  unfolding first_line
-  by_word within is e =
-      ap (λ (b : Bool). if b then Some (get_or lines i no_line).number else first_line sought bytes (drop (i + 1) lines)) (sym e)
-      ∙ ap (first_line sought bytes) (sym (drop_more lines i no_line within)) ∙ so_far
-
-  pub word-here : i < length lines → begins_with sought (word_texts_of (part_of bytes (get_or lines i no_line))) ≡ true → Some (get_or lines i no_line).number ≡ total
-  word-here within is = by_word within true is
-
-  pub word-more : i < length lines → begins_with sought (word_texts_of (part_of bytes (get_or lines i no_line))) ≡ false → first_line sought bytes (drop (i + 1) lines) ≡ total
-  word-more within is = by_word within false is
-
-  pub word-none : length lines ≤ i → None ≡ total
-  unfolding first_line
-  word-none all = sym (ap (first_line sought bytes) (drop_all i lines all)) ∙ so_far
 
 -- ---- the scripts
 

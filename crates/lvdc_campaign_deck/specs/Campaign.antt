@@ -1,34 +1,24 @@
 -- The campaign that bytes mean, or its first refusal.
-use Rattle.std.specs.Prelude.{ℕ, ◌+◌, nat_lt, Bool, false, not, ◌&&◌, ◌||◌, List, [], ◌∷◌, take, drop, length, codes, if◌then◌else◌, unwrap_or, Result, Ok, Err}
-use Rattle.std.specs.Str.{bytes_eq}
+use Rattle.std.specs.Prelude.{ℕ, ◌+◌, nat_lt, Bool, false, not, ◌&&◌, List, [], ◌∷◌, take, length, codes, if◌then◌else◌, unwrap_or, Result, Ok, Err}
 use Rattle.std.specs.declared.option.Option.{Option}
 use Rattle.std.specs.declared.option.Option.TheVariants.{None, Some}
 use Rattle.lvdc_text.specs.Lines.{lines_of, part_of, word_texts_of, is_long}
 use Rattle.lvdc_text.specs.declared.cutting.Line.{Line}
 use Rattle.lvdc_port.specs.Device.{Device}
 use Rattle.lvdc_fault.specs.declared.named.Named.{Named}
-use Rattle.lvdc_deck.specs.Deck.{end_of, deck_of}
+use Rattle.lvdc_deck.specs.Deck.{deck_of}
 use Rattle.lvdc_deck.specs.Sections.{is_word}
+use Rattle.lvdc_deck.specs.Sought.{after_program, first_line}
 use Rattle.lvdc_deck.specs.declared.deck.Deck.{Deck}
 use Rattle.lvdc_deck.specs.declared.fault.DeckFault.{DeckFault}
+use Rattle.lvdc_deck.specs.declared.sought.Sought.TheVariants.{Other, Run}
 use Rattle.lvdc_campaign_deck.specs.declared.TheConstants.{MOST_TIMES}
 use Rattle.lvdc_campaign_deck.specs.declared.deck.CampaignDeck.{CampaignDeck}
 use Rattle.lvdc_campaign_deck.specs.declared.fault.CampaignFault.{CampaignFault}
 use Rattle.lvdc_campaign_deck.specs.declared.fault.CampaignFault.TheVariants.{BadSection, CountTooLarge, Deck as InDeck}
-use Rattle.lvdc_campaign_deck.specs.declared.layout.Sought.{Sought}
-use Rattle.lvdc_campaign_deck.specs.declared.layout.Sought.TheVariants.{Other, Run}
 use Rattle.lvdc_campaign_deck.specs.Scripts.{and_then, nothing_said, scripts_from}
 
 -- ---- lines
-
--- the lines after the one at this place
-abbrev pub lines_after : List Line → Option ℕ → List Line
-lines_after lines None = []
-lines_after lines (Some at) = drop (at + 1) lines
-
--- the lines after the program, which ends with the first line END
-abbrev pub after_program : List ℕ → List Line → List Line
-after_program bytes lines = lines_after lines (end_of bytes lines)
 
 -- CAMPAIGN, on a line that isn't too long
 abbrev pub is_campaign : List ℕ → Bool
@@ -39,22 +29,6 @@ unfoldable pub from_campaign : List ℕ → List Line → List Line
 from_campaign bytes [] = []
 from_campaign bytes (line ∷ lines) = if is_campaign (part_of bytes line) then line ∷ lines else from_campaign bytes lines
 
--- is this the word that is sought? A campaign's deck has no sections PORTS, FAULTS and DEBUG
-abbrev pub is_sought : Sought → List ℕ → Bool
-is_sought Other word = bytes_eq word (codes "PORTS") || bytes_eq word (codes "FAULTS") || bytes_eq word (codes "DEBUG")
-is_sought Run word = bytes_eq word (codes "RUN")
-
--- do the words of a line begin with it?
-abbrev pub begins_with : Sought → List (List ℕ) → Bool
-begins_with sought [] = false
-begins_with sought (first ∷ tokens) = is_sought sought first
-
--- the number of the first line that begins with it
-unfoldable pub first_line : Sought → List ℕ → List Line → Option ℕ
-first_line sought bytes [] = None
-first_line sought bytes (line ∷ lines) =
-    if begins_with sought (word_texts_of (part_of bytes line)) then Some line.number else first_line sought bytes lines
-
 -- ---- the deck before CAMPAIGN
 
 -- the deck that was read
@@ -62,7 +36,7 @@ abbrev pub by_deck : Result Deck DeckFault → Result Deck CampaignFault
 by_deck (Ok deck) = Ok deck
 by_deck (Err fault) = Err (InDeck fault)
 
--- no line opens such a section
+-- no line opens PORTS, FAULTS or DEBUG, which a campaign's deck doesn't have
 abbrev pub by_others : Deck → Option ℕ → Result Deck CampaignFault
 by_others deck None = Ok deck
 by_others deck (Some number) = Err (BadSection number)

@@ -20,6 +20,3 @@ pub const MOST_SCRIPTS: usize = 256;
 
 /// The most events of all scripts of a campaign (this project's profile).
 pub const MOST_EVENTS: usize = 65_536;
-
-#[cfg(test)]
-mod tests;

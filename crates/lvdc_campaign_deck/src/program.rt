@@ -6,9 +6,8 @@ ghost use Rattle.lvdc_campaign_deck.specs.declared.TheConstants.{MOST_TIMES};
 ghost use Rattle.lvdc_campaign_deck.specs.declared.fault.CampaignFault.TheVariants.{NoMemory as WantsMemory, Deck as InDeck};
 ghost use Rattle.lvdc_campaign_deck.specs.Campaign.{checked, program_of};
 
-use crate::layout::{Sought, after_program, first_line};
 use crate::{CampaignFault, MOST_TIMES};
-use lvdc_deck::{Deck, DeckFault, read_deck};
+use lvdc_deck::{Deck, DeckFault, Sought, after_program, first_line, read_deck};
 use lvdc_port::PortDevice;
 use lvdc_text::{Line, lines};
 use std::alloc::Global;

@@ -5,11 +5,11 @@ ghost use Rattle.lvdc_campaign_deck.specs.declared.fault.CampaignFault.TheVarian
 ghost use Rattle.lvdc_campaign_deck.specs.Campaign.{campaign_of, campaign_with};
 ghost use Rattle.lvdc_campaign_deck.specs.Scripts.{CanRun};
 
-use crate::layout::{after_program, from_campaign};
+use crate::layout::from_campaign;
 use crate::program::read_program;
 use crate::scripts::read_scripts;
 use crate::{CampaignDeck, CampaignFault};
-use lvdc_deck::Deck;
+use lvdc_deck::{Deck, after_program};
 use lvdc_fault::Named;
 use lvdc_port::PortDevice;
 use lvdc_text::lines;

@@ -1,6 +1,7 @@
 pub mod Tokens
 pub mod Left
 pub mod Ends
+pub mod FirstLines
 pub mod Steps
 pub mod Banked
 pub mod Loaded
@@ -13,4 +14,6 @@ pub mod Numbering
 pub mod Alone
 pub mod SessionDecks
 pub mod Apart
+pub mod SaidLines
+pub mod Spans
 mod Rows

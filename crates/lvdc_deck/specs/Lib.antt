@@ -1,5 +1,7 @@
 pub mod Sections
 pub mod Deck
+pub mod Sought
 pub mod Loading
 pub mod Moving
 pub mod Faults
+pub mod Named

@@ -1,5 +1,5 @@
 ghost use Rattle.std.specs.Prelude.{◌≡◌, ◌<◌, ◌-◌, ◌^◌, length, map, All};
-ghost use Rattle.lvdc_text.specs.Lines.{IsWithin, part_of};
+ghost use Rattle.lvdc_text.specs.Lines.{IsWithin, part_of, word_texts_of};
 ghost use Rattle.lvdc_deck.specs.Sections.{is_word, section_of};
 ghost use Rattle.lvdc_deck.specs.Deck.{opened_by, opening_of, is_end, end_of};
 
@@ -14,6 +14,17 @@ fn is_word(word: &[u8], text: &[u8], tokens: &[Line]) -> bool
     match tokens {
         [token] => part(text, token) == word,
         _ => false,
+    }
+}
+
+/// Is the text this word alone, but for outer blanks?
+pub fn is_alone(word: &[u8], text: &[u8]) -> bool
+    requires { length text.now < 2 ^ 32 - 1 }
+    ensures { result ≡ is_word word.now (word_texts_of text.now) }
+{
+    match few_tokens::<1>(text) {
+        Some(tokens) => is_word(word, text, tokens.as_slice()),
+        None => false,
     }
 }
 
@@ -76,10 +87,7 @@ fn is_end(text: &[u8]) -> bool
     requires { length text.now < 2 ^ 32 - 1 }
     ensures { result ≡ is_end text.now }
 {
-    match few_tokens::<1>(text) {
-        Some(tokens) => is_word(b"END", text, tokens.as_slice()),
-        None => false,
-    }
+    is_alone(b"END", text)
 }
 
 /// The place of the program's last line among these.

@@ -14,11 +14,17 @@ mod program;
 mod read;
 mod said;
 mod section;
+mod sought;
 
 pub use deck::Deck;
 pub use fault::DeckFault;
-pub use laws::{commands_are_apart, session_is_run, source_is_assembled, source_is_moved};
+pub use laws::{
+    commands_are_apart, deck_is_within_its_text, session_is_run, source_is_assembled,
+    source_is_moved, unplugs_are_apart,
+};
+pub use layout::is_alone;
 pub use read::read_deck;
+pub use sought::{Sought, after_program, first_line, run_line};
 
 /// The greatest count of instruction times, and the latest time of an UNPLUG line (this project's profile).
 pub const MOST_TIMES: u64 = 1_000_000;
@@ -28,6 +34,3 @@ pub const MOST_EVENTS: usize = 65_536;
 
 /// The most lines of ORDER (this project's profile).
 pub const MOST_ORDERS: usize = 16;
-
-#[cfg(test)]
-mod tests;

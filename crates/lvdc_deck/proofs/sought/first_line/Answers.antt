@@ -1,8 +1,8 @@
 use Rattle.std.proofs.Common.{ℕ, List, sym, ap, ◌∙◌}
 use Rattle.lvdc_text.specs.Lines.{word_texts_of}
-use Rattle.lvdc_campaign_deck.specs.Campaign.{begins_with}
-use Rattle.lvdc_campaign_deck.proofs.Steps.{word-here, word-more, word-none}
-use Rattle.lvdc_campaign_deck.proofs.layout.first_line.Goals as goal
+use Rattle.lvdc_deck.specs.Sought.{begins_with}
+use Rattle.lvdc_deck.proofs.FirstLines.{word-here, word-more, word-none}
+use Rattle.lvdc_deck.proofs.sought.first_line.Goals as goal
 
 pub returns-then-branch : goal.returns-then-branch
 returns-then-branch c =
