@@ -1,4 +1,14 @@
 mod Texts
 mod Printing
 mod Sizes
+mod Words
+mod Ended
+mod Fields
+mod FaultFields
+mod FaultLines
+mod PairsAndOrders
+mod EntryLines
+mod EntriesBack
+mod LinesBack
+mod AllPrinted
 mod Rows

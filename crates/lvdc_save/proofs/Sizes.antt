@@ -1,10 +1,10 @@
 -- How long the lines of a saved text are, and how many there are.
-use Rattle.std.proofs.Common.{◌≡◌, ℕ, zero, suc, ◌+◌, ◌*◌, ◌/◌, ◌%◌, ◌^◌, ◌<◌, ◌≤◌, Bool, true, false, ◌==◌, List, [], ◌∷◌, ◌++◌, All, length, map, take, drop, get_or, ap, sym, refl, ◌∙◌, subst, ltb, arith, length-append, length-take, length-drop, codes, decimal, if◌then◌else◌, add-one}
+use Rattle.std.proofs.Common.{◌≡◌, ℕ, zero, suc, ◌+◌, ◌*◌, ◌^◌, ◌<◌, ◌≤◌, Bool, true, false, ◌==◌, List, [], ◌∷◌, ◌++◌, All, length, map, take, drop, get_or, ap, sym, refl, ◌∙◌, subst, ltb, arith, length-append, length-take, length-drop, codes, decimal, add-one}
 use Rattle.std.specs.Prelude.{slice_index, nat_le}
 use Rattle.std.specs.List.{range_with_len}
 use Rattle.std.proofs.Math.Nat.{mul-suc}
 use Rattle.std.proofs.lemmas.Fmt.{length-decimal-le}
-use Rattle.std.proofs.lemmas.List.Elements.{All-tail, All-get_or}
+use Rattle.std.proofs.lemmas.List.Elements.{All-tail}
 use Rattle.std.proofs.lemmas.List.FromFn.{map-range_with_len_more}
 use Rattle.std.proofs.lemmas.Bool.{leb-true, ltb-true}
 use Rattle.lvdc_map.specs.Address.{Spot, IsAddress, number_of}
@@ -14,7 +14,6 @@ use Rattle.lvdc_map.specs.declared.placed.Placed.{Placed}
 use Rattle.lvdc_twin.specs.Cells.{NamesPlace, are_rising}
 use Rattle.lvdc_twin.specs.Store.{slot_of}
 use Rattle.lvdc_twin.specs.declared.held.Held.{Held}
-use Rattle.lvdc_text.specs.Numbers.{octal_text}
 use Rattle.lvdc_text.proofs.ReadBack.{length-octal_text}
 use Rattle.lvdc_modules.specs.States.{latches_of}
 use Rattle.lvdc_fault.specs.declared.event.Event.{Event}
@@ -36,7 +35,7 @@ use Rattle.lvdc_image.specs.Image.{pair_name}
 use Rattle.lvdc_save.specs.Saved.{module_at, copy_at, latches_before, copy_state, simplex_entries, copy_entries}
 use Rattle.lvdc_save.proofs.Texts.{lines_of-append, last_line}
 use Rattle.lvdc_save.proofs.Printing.{all_below, from_all_below, both, no_copies}
-use Rattle.lvdc_save.specs.Lines.{number_after, word_after, entry_line, fault_line}
+use Rattle.lvdc_save.specs.Lines.{number_after, word_after, entry_line}
 
 -- ---- numbers
 
@@ -97,7 +96,8 @@ all_low : all_below latches_low 8 ≡ true
 unfolding all_below latches_low
 all_low = refl
 
-few_latches : (number : ℕ) → number < 8 → latches_of number ≤ 5
+-- a module has five latches at most
+pub few_latches : (number : ℕ) → number < 8 → latches_of number ≤ 5
 unfolding latches_low
 few_latches number l = leb-true (latches_of number) 5 (from_all_below latches_low 8 number all_low l)
 

@@ -5,6 +5,7 @@
 mod entry;
 mod events;
 mod fault;
+mod laws;
 mod lines;
 mod mark;
 mod parts;
@@ -14,6 +15,7 @@ mod section;
 
 pub use entry::{CopyState, Entry};
 pub use fault::SaveFault;
+pub use laws::lines_are_read_back;
 pub use lines::put_entry;
 pub use mark::Mark;
 pub use print::print_saved;
@@ -37,6 +39,3 @@ pub const LONGEST_SAVED: usize = 134_217_728;
 
 /// The most words that the devices of a bounded run hold together.
 pub const MOST_WORDS: usize = 1_048_576;
-
-#[cfg(test)]
-mod tests;

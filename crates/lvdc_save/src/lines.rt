@@ -1,12 +1,15 @@
 //! The lines of a saved text, one by one.
 
-ghost use Rattle.std.specs.Prelude.{◌≡◌, ◌<◌, ◌++◌, ◌+◌, map, length, codes, OnOk, All};
+ghost use Rattle.std.specs.Prelude.{◌≡◌, ◌<◌, ◌≤◌, ◌^◌, ◌++◌, ◌+◌, map, length, codes, OnOk, All};
 ghost use Rattle.lvdc_map.specs.Address.{IsAddress};
-ghost use Rattle.lvdc_image.specs.Image.{pair_name, simplex_line};
+ghost use Rattle.lvdc_image.specs.Image.{IsPlaced, pair_name, simplex_line};
+ghost use Rattle.lvdc_vote.specs.Copies.{IsFullOrder};
 ghost use Rattle.lvdc_report.specs.Report.{lines_of, direction, spot_text, exchange_line};
 ghost use Rattle.lvdc_report.specs.Voted.{switch_text, repair_line};
+ghost use Rattle.lvdc_save.specs.declared.TheConstants.{MOST_TIMES};
 ghost use Rattle.lvdc_save.specs.declared.entry.Entry.TheVariants as says;
 ghost use Rattle.lvdc_save.specs.Lines.{number_after, word_after, copy_line, select_line, cell_line, word_line, state_line, unplug_line, order_line, entry_line};
+ghost use Rattle.lvdc_save.specs.Printed.{IsExchange, IsSupply, IsUnplug};
 
 use crate::entry::Entry;
 use crate::events::put_fault;
@@ -72,8 +75,9 @@ pub(crate) fn put_copy(
     count: u64,
     latches: &[Word],
 ) -> Result<(), NoMemory>
-    ensures { OnOk result (out.new.items ≡ out.old.items
+    ensures line { OnOk result (out.new.items ≡ out.old.items
         ++ copy_line (record { number = number; copy = copy; count = count; latches = latches.now })) }
+    ensures latches { OnOk result (All (λ latch. latch < 2 ^ 26) latches.now) }
 {
     out.extend_from_slice(b"COPY")?;
     put_number(out, u64::from(number))?;
@@ -96,7 +100,8 @@ pub(crate) fn put_select(out: &mut Vec<u8>, twins: &[u8]) -> Result<(), NoMemory
 
 /// Adds a CELL line.
 pub(crate) fn put_held(out: &mut Vec<u8>, held: &Held) -> Result<(), NoMemory>
-    ensures { OnOk result (out.new.items ≡ out.old.items ++ cell_line held.now) }
+    ensures line { OnOk result (out.new.items ≡ out.old.items ++ cell_line held.now) }
+    ensures cell { OnOk result (held.now.cell < 2 ^ 28) }
 {
     out.extend_from_slice(b"CELL")?;
     put_number(out, u64::from(held.twin))?;
@@ -109,7 +114,7 @@ pub(crate) fn put_held(out: &mut Vec<u8>, held: &Held) -> Result<(), NoMemory>
 /// Adds a WORD line.
 pub(crate) fn put_placed(out: &mut Vec<u8>, placed: &Placed) -> Result<(), NoMemory>
     ensures line { OnOk result (out.new.items ≡ out.old.items ++ word_line placed.now) }
-    ensures at { OnOk result (IsAddress placed.now.at) }
+    ensures placed { OnOk result (IsPlaced placed.now) }
 {
     out.extend_from_slice(b"WORD")?;
     put_spot(out, placed.at)?;
@@ -126,7 +131,8 @@ fn direction(reading: bool) -> &'static [u8]
 
 /// Adds the line of a port exchange.
 pub(crate) fn put_exchange(out: &mut Vec<u8>, exchange: &Exchange) -> Result<(), NoMemory>
-    ensures { OnOk result (out.new.items ≡ out.old.items ++ exchange_line exchange.now) }
+    ensures line { OnOk result (out.new.items ≡ out.old.items ++ exchange_line exchange.now) }
+    ensures printed { OnOk result (exchange.now.time ≤ MOST_TIMES → IsExchange exchange.now) }
 {
     out.extend_from_slice(direction(exchange.reading))?;
     put_decimal(out, exchange.time)?;
@@ -146,7 +152,8 @@ fn switch_text(switched: bool) -> &'static [u8]
 
 /// Adds the line of a repair.
 pub(crate) fn put_repair(out: &mut Vec<u8>, repair: &Repair) -> Result<(), NoMemory>
-    ensures { OnOk result (out.new.items ≡ out.old.items ++ repair_line repair.now) }
+    ensures line { OnOk result (out.new.items ≡ out.old.items ++ repair_line repair.now) }
+    ensures at { OnOk result (IsAddress repair.now.at) }
 {
     out.extend_from_slice(b"REPAIR")?;
     put_number(out, repair.step)?;
@@ -159,7 +166,8 @@ pub(crate) fn put_repair(out: &mut Vec<u8>, repair: &Repair) -> Result<(), NoMem
 
 /// Adds a STATE line.
 pub(crate) fn put_state(out: &mut Vec<u8>, state: &Supply) -> Result<(), NoMemory>
-    ensures { OnOk result (out.new.items ≡ out.old.items ++ state_line state.now) }
+    ensures line { OnOk result (out.new.items ≡ out.old.items ++ state_line state.now) }
+    ensures printed { OnOk result (IsSupply state.now) }
 {
     out.extend_from_slice(b"STATE ")?;
     put_octal(out, u64::from(state.port), 3)?;
@@ -170,7 +178,8 @@ pub(crate) fn put_state(out: &mut Vec<u8>, state: &Supply) -> Result<(), NoMemor
 
 /// Adds an UNPLUG line.
 pub(crate) fn put_unplug(out: &mut Vec<u8>, unplug: &Unplug) -> Result<(), NoMemory>
-    ensures { OnOk result (out.new.items ≡ out.old.items ++ unplug_line unplug.now) }
+    ensures line { OnOk result (out.new.items ≡ out.old.items ++ unplug_line unplug.now) }
+    ensures printed { OnOk result (unplug.now.time ≤ MOST_TIMES → IsUnplug unplug.now) }
 {
     out.extend_from_slice(b"UNPLUG ")?;
     put_octal(out, u64::from(unplug.port), 3)?;
@@ -194,6 +203,7 @@ fn put_letters(out: &mut Vec<u8>, copies: &[u8]) -> Result<(), NoMemory>
 pub(crate) fn put_order(out: &mut Vec<u8>, order: &Order) -> Result<(), NoMemory>
     ensures line { OnOk result (out.new.items ≡ out.old.items ++ order_line order.now) }
     ensures short { OnOk result (length out.new.items ≡ length out.old.items + 22) }
+    ensures full { OnOk result (IsFullOrder 21 order.now) }
 {
     put_letters(out, order.copies())?;
     out.extend_from_slice(b"\n")?;

@@ -1,6 +1,6 @@
 //! The parts of lines.
 
-ghost use Rattle.std.specs.Prelude.{◌≡◌, ◌++◌, map, OnOk};
+ghost use Rattle.std.specs.Prelude.{◌≡◌, ◌<◌, ◌^◌, ◌++◌, map, All, OnOk};
 ghost use Rattle.lvdc_map.specs.Address.{IsAddress};
 ghost use Rattle.lvdc_report.specs.Report.{lines_of, spot_text};
 ghost use Rattle.lvdc_save.specs.Lines.{number_after, word_after, cell_after, spot_after, acts_on};
@@ -20,7 +20,8 @@ pub(crate) fn put_number(out: &mut Vec<u8>, number: u64) -> Result<(), NoMemory>
 
 /// Adds a word after a blank.
 pub(crate) fn put_word(out: &mut Vec<u8>, word: Word) -> Result<(), NoMemory>
-    ensures { OnOk result (out.new.items ≡ out.old.items ++ word_after word) }
+    ensures line { OnOk result (out.new.items ≡ out.old.items ++ word_after word) }
+    ensures word { OnOk result (word < 2 ^ 26) }
 {
     out.extend_from_slice(b" ")?;
     put_octal(out, u64::from(word.value()), 9)?;
@@ -29,7 +30,8 @@ pub(crate) fn put_word(out: &mut Vec<u8>, word: Word) -> Result<(), NoMemory>
 
 /// Adds the bits of a cell after a blank.
 pub(crate) fn put_cell(out: &mut Vec<u8>, cell: Cell) -> Result<(), NoMemory>
-    ensures { OnOk result (out.new.items ≡ out.old.items ++ cell_after cell) }
+    ensures line { OnOk result (out.new.items ≡ out.old.items ++ cell_after cell) }
+    ensures cell { OnOk result (cell < 2 ^ 28) }
 {
     out.extend_from_slice(b" ")?;
     put_octal(out, u64::from(cell.bits()), 10)?;
@@ -52,7 +54,8 @@ pub(crate) fn put_spot(out: &mut Vec<u8>, at: Address) -> Result<(), NoMemory>
 
 /// Adds the words, each after a blank.
 pub(crate) fn put_words(out: &mut Vec<u8>, words: &[Word]) -> Result<(), NoMemory>
-    ensures { OnOk result (out.new.items ≡ out.old.items ++ lines_of word_after words.now) }
+    ensures line { OnOk result (out.new.items ≡ out.old.items ++ lines_of word_after words.now) }
+    ensures words { OnOk result (All (λ word. word < 2 ^ 26) words.now) }
 {
     for word in words {
         put_word(out, *word)?;

@@ -1,14 +1,17 @@
-ghost use Rattle.std.specs.Prelude.{◌≡◌, ℕ, ◌+◌, ◌<◌, ◌≤◌, ◌++◌, ◌∷◌, [], length, map, take, drop, OnOk, IfOk, List, All};
+ghost use Rattle.std.specs.Prelude.{◌≡◌, ℕ, ◌+◌, ◌^◌, ◌<◌, ◌≤◌, ◌++◌, ◌∷◌, [], length, map, take, drop, OnOk, IfOk, List, All};
 ghost use Rattle.lvdc_map.specs.Address.{IsAddress};
 ghost use Rattle.lvdc_save.specs.Bounded.{IsBounded};
-ghost use Rattle.lvdc_save.specs.declared.TheConstants.{MOST_WORDS, LONGEST_SAVED};
+ghost use Rattle.lvdc_save.specs.declared.TheConstants.{MOST_TIMES, MOST_WORDS, LONGEST_SAVED};
+ghost use Rattle.lvdc_image.specs.Image.{IsPlaced};
+ghost use Rattle.lvdc_vote.specs.Copies.{IsFullOrder};
+ghost use Rattle.lvdc_save.specs.Printed.{IsExchange, IsSupply, IsUnplug, IsOfADeck, IsPrinted};
 ghost use Rattle.lvdc_modules.specs.States.{latches_of};
 ghost use Rattle.lvdc_orders.specs.Orders.{orders_of};
 ghost use Rattle.lvdc_machine.specs.Snapshot.{IsWhole};
 ghost use Rattle.lvdc_report.specs.Report.{lines_of};
 ghost use Rattle.lvdc_save.specs.declared.entry.Entry.TheVariants as says;
 ghost use Rattle.lvdc_save.specs.Lines.{copy_line, entry_line};
-ghost use Rattle.lvdc_save.specs.Saved.{module_at, latches_before, copy_state, copy_entries, simplex_entries, saved_text};
+ghost use Rattle.lvdc_save.specs.Saved.{module_at, latches_before, copy_state, copy_entries, simplex_entries, entries_of, saved_text};
 
 use crate::events::put_fault;
 use crate::lines::{
@@ -31,7 +34,8 @@ use std::alloc::Global;
 /// Adds the SIMPLEX line, where a pair is simplex.
 #[tactic(auto, unfolding(lvdc_report::specs::Report::lines_of))]
 fn put_banks(out: &mut Vec<u8>, banks: Banks) -> Result<(), NoMemory>
-    ensures { OnOk result (out.new.items ≡ out.old.items ++ lines_of entry_line (simplex_entries banks)) }
+    ensures lines { OnOk result (out.new.items ≡ out.old.items ++ lines_of entry_line (simplex_entries banks)) }
+    ensures banks { banks < 16 }
 {
     if banks == Banks::DUPLEX {
         return Ok(());
@@ -63,6 +67,7 @@ fn put_copy_at(
     requires index { index < 21 }
     requires from { from ≡ latches_before index }
     ensures line { OnOk result (out.new.items ≡ out.old.items ++ copy_line (copy_state snapshot.now index)) }
+    ensures latches { OnOk result (All (λ latch. latch < 2 ^ 26) (copy_state snapshot.now index).latches) }
     ensures next { IfOk result (λ next. next ≡ latches_before (index + 1)) }
 {
     let to = from + latches_at(index);
@@ -83,7 +88,8 @@ fn put_copy_at(
 fn put_copies(out: &mut Vec<u8>, snapshot: &Snapshot) -> Result<(), NoMemory>
     requires latches { length snapshot.now.latches ≡ 45 }
     requires counts { length snapshot.now.differed ≡ 21 }
-    ensures { OnOk result (out.new.items ≡ out.old.items ++ lines_of entry_line (copy_entries snapshot.now)) }
+    ensures lines { OnOk result (out.new.items ≡ out.old.items ++ lines_of entry_line (copy_entries snapshot.now)) }
+    ensures latches { OnOk result ((index : ℕ) → index < 21 → All (λ latch. latch < 2 ^ 26) (copy_state snapshot.now index).latches) }
 {
     let mut from = 0;
     for index in 0..COPIES {
@@ -94,7 +100,8 @@ fn put_copies(out: &mut Vec<u8>, snapshot: &Snapshot) -> Result<(), NoMemory>
 
 /// Adds the CELL lines.
 fn put_cells(out: &mut Vec<u8>, cells: &[Held]) -> Result<(), NoMemory>
-    ensures { OnOk result (out.new.items ≡ out.old.items ++ lines_of entry_line (map says.Cell cells.now)) }
+    ensures lines { OnOk result (out.new.items ≡ out.old.items ++ lines_of entry_line (map says.Cell cells.now)) }
+    ensures cells { OnOk result (All (λ held. held.cell < 2 ^ 28) cells.now) }
 {
     for held in cells {
         put_held(out, held)?;
@@ -105,7 +112,7 @@ fn put_cells(out: &mut Vec<u8>, cells: &[Held]) -> Result<(), NoMemory>
 /// Adds the WORD lines.
 fn put_words(out: &mut Vec<u8>, words: &[Placed]) -> Result<(), NoMemory>
     ensures lines { OnOk result (out.new.items ≡ out.old.items ++ lines_of entry_line (map says.Word words.now)) }
-    ensures placed { OnOk result (All (λ placed. IsAddress placed.at) words.now) }
+    ensures placed { OnOk result (All IsPlaced words.now) }
 {
     for placed in words {
         put_placed(out, placed)?;
@@ -115,7 +122,8 @@ fn put_words(out: &mut Vec<u8>, words: &[Placed]) -> Result<(), NoMemory>
 
 /// Adds the lines of the port log.
 fn put_log(out: &mut Vec<u8>, log: &[Exchange]) -> Result<(), NoMemory>
-    ensures { OnOk result (out.new.items ≡ out.old.items ++ lines_of entry_line (map says.Exchange log.now)) }
+    ensures lines { OnOk result (out.new.items ≡ out.old.items ++ lines_of entry_line (map says.Exchange log.now)) }
+    ensures printed { OnOk result (All (λ exchange. exchange.time ≤ MOST_TIMES → IsExchange exchange) log.now) }
 {
     for exchange in log {
         put_exchange(out, exchange)?;
@@ -125,7 +133,8 @@ fn put_log(out: &mut Vec<u8>, log: &[Exchange]) -> Result<(), NoMemory>
 
 /// Adds the lines of the repairs.
 fn put_repairs(out: &mut Vec<u8>, repairs: &[Repair]) -> Result<(), NoMemory>
-    ensures { OnOk result (out.new.items ≡ out.old.items ++ lines_of entry_line (map says.Repair repairs.now)) }
+    ensures lines { OnOk result (out.new.items ≡ out.old.items ++ lines_of entry_line (map says.Repair repairs.now)) }
+    ensures at { OnOk result (All (λ repair. IsAddress repair.at) repairs.now) }
 {
     for repair in repairs {
         put_repair(out, repair)?;
@@ -135,7 +144,8 @@ fn put_repairs(out: &mut Vec<u8>, repairs: &[Repair]) -> Result<(), NoMemory>
 
 /// Adds the STATE lines.
 fn put_states(out: &mut Vec<u8>, states: &[Supply]) -> Result<(), NoMemory>
-    ensures { OnOk result (out.new.items ≡ out.old.items ++ lines_of entry_line (map says.State states.now)) }
+    ensures lines { OnOk result (out.new.items ≡ out.old.items ++ lines_of entry_line (map says.State states.now)) }
+    ensures printed { OnOk result (All IsSupply states.now) }
 {
     for state in states {
         put_state(out, state)?;
@@ -145,7 +155,8 @@ fn put_states(out: &mut Vec<u8>, states: &[Supply]) -> Result<(), NoMemory>
 
 /// Adds the UNPLUG lines.
 fn put_unplugs(out: &mut Vec<u8>, unplugs: &[Unplug]) -> Result<(), NoMemory>
-    ensures { OnOk result (out.new.items ≡ out.old.items ++ lines_of entry_line (map says.Unplug unplugs.now)) }
+    ensures lines { OnOk result (out.new.items ≡ out.old.items ++ lines_of entry_line (map says.Unplug unplugs.now)) }
+    ensures printed { OnOk result (All (λ unplug. unplug.time ≤ MOST_TIMES → IsUnplug unplug) unplugs.now) }
 {
     for unplug in unplugs {
         put_unplug(out, unplug)?;
@@ -167,6 +178,7 @@ fn put_script(out: &mut Vec<u8>, script: &Script) -> Result<(), NoMemory>
 fn put_orders(out: &mut Vec<u8>, orders: &Orders) -> Result<(), NoMemory>
     ensures lines { OnOk result (out.new.items ≡ out.old.items ++ lines_of entry_line (map says.Order (orders_of orders.now))) }
     ensures short { OnOk result (length out.new.items ≤ length out.old.items + 352) }
+    ensures full { OnOk result (All (IsFullOrder 21) (orders_of orders.now)) }
 {
     for index in 0..orders.count() {
         put_order(out, orders.order(index))?;
@@ -179,6 +191,8 @@ pub fn print_saved(alloc: Global, saved: &Saved) -> Result<Vec<u8>, NoMemory>
     requires whole { IsWhole saved.now.snapshot }
     ensures text { IfOk result (λ text. text.items ≡ saved_text saved.now) }
     ensures short { IfOk result (λ text. IsBounded MOST_WORDS saved.now → length text.items ≤ LONGEST_SAVED) }
+    // Each of its lines says its entry again.
+    ensures printed { OnOk result (IsOfADeck saved.now → All IsPrinted (entries_of saved.now)) }
 {
     let snapshot = &saved.snapshot;
     let mut out = Vec::new(alloc);

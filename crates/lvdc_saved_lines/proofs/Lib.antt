@@ -1,4 +1,11 @@
 mod ReadingLines
 mod Tokens
 mod Soundness
+mod Splits
+mod Chains
+mod Following
+mod Resting
+mod Sections
+mod Copies
+mod SavedAgain
 mod Rows

@@ -4,10 +4,9 @@
 
 mod entries;
 mod fields;
+mod laws;
 mod read;
 mod reading;
 
+pub use laws::{entries_say_the_state, printed_is_read_back};
 pub use read::read_saved;
-
-#[cfg(test)]
-mod tests;

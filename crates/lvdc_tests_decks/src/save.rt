@@ -1,4 +1,4 @@
-use crate::{CopyState, Entry, SaveFault, put_entry};
+use lvdc_save::{CopyState, Entry, SaveFault, put_entry};
 use lvdc_word::{Seq, Word};
 use std::test::Fail;
 

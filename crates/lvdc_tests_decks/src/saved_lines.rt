@@ -1,6 +1,6 @@
-use crate::read_saved;
 use lvdc_port::{Latch, PortDevice, Recorder, Tape, Ticker};
 use lvdc_save::{SaveFault, print_saved};
+use lvdc_saved_lines::read_saved;
 use std::alloc::Global;
 use std::test::Fail;
 

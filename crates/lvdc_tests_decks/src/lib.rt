@@ -1,0 +1,13 @@
+//! Tests of decks, the decks of campaigns and of soak runs, and saved texts, over the public calls of their crates.
+#![tactic(auto)]
+
+#[cfg(test)]
+mod campaign_deck;
+#[cfg(test)]
+mod deck;
+#[cfg(test)]
+mod save;
+#[cfg(test)]
+mod saved_lines;
+#[cfg(test)]
+mod soak;
