@@ -125,7 +125,7 @@ through_unreported device_of faults deck old new m h =
 -- ---- up to the first inadmissible step
 
 -- an account's answer is that of the state that tells it
-answer_told : (o : Trial) (a : Account) (v w : Voted) → Tells o a v w → state_answer (λ x. voted_text title.Run o x) v ≡ account_answer o a w
+pub answer_told : (o : Trial) (a : Account) (v w : Voted) → Tells o a v w → state_answer (λ x. voted_text title.Run o x) v ≡ account_answer o a w
 answer_told o a v w t =
     let e = t.end in
     let d = t.devices in

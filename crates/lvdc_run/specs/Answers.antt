@@ -37,6 +37,10 @@ account_text o told v = account_front o told ++ wrong_text v.counts ++ repairs_t
 abbrev pub account_answer : Trial → Account → Voted → Answer
 account_answer o told v = answer_with (end_status told.end) (account_text o told v) told.devices
 
+-- the same by the voted machine's own state
+abbrev pub guarded_answer : Trial → Voted → Answer
+guarded_answer o v = answer_with (end_status (answer_of_end v.end)) (voted_text title.Run o v) v.devices
+
 -- the answer of `run --through`, by the voted machine's own state
 abbrev pub through_answer : Trial → Voted → Answer
 through_answer o v = answer_with (end_status (answer_of_end v.end)) (voted_text title.Through o v) v.devices

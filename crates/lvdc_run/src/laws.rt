@@ -1,16 +1,19 @@
 //! What the answers of jobs tell, as laws over their definitions: functions that do nothing.
 
-ghost use Rattle.std.specs.Prelude.{◌≡◌, ℕ, false, List, Some, Ok};
+ghost use Rattle.std.specs.Prelude.{◌≡◌, ℕ, ◌*◌, false, List, Some, Ok};
 ghost use Rattle.lvdc_port.specs.Device.{Device};
 ghost use Rattle.lvdc_text.specs.Lines.{NumberedLine, numbered, lines_of};
 ghost use Rattle.lvdc_asm.specs.Assembly.{assembly_of};
+ghost use Rattle.lvdc_model.specs.Runs.{guarded};
+ghost use Rattle.lvdc_model.specs.Trial.{Trial};
+ghost use Rattle.lvdc_laws.specs.Ends.{IsOpening};
 ghost use Rattle.lvdc_deck.specs.Deck.{deck_of};
 ghost use Rattle.lvdc_deck.specs.Loading.{source_in, HasLines};
 ghost use Rattle.lvdc_deck.specs.declared.deck.Deck.{Deck};
 ghost use Rattle.lvdc_run.specs.Trials.{trial_of};
 ghost use Rattle.lvdc_run.specs.Headline.{Headline};
 ghost use Rattle.lvdc_run.specs.Loaded.{StartsWith};
-ghost use Rattle.lvdc_run.specs.Answers.{job_answer};
+ghost use Rattle.lvdc_run.specs.Answers.{guarded_answer, run_answer, job_answer};
 ghost use Rattle.lvdc_run.specs.Runs.{Judges, Stops, HasRunThat};
 ghost use Rattle.lvdc_run.specs.declared.job.Engine.TheVariants as engines;
 ghost use Rattle.lvdc_run.specs.declared.job.Job.{Job};
@@ -23,6 +26,17 @@ pub fn headline_told()
     ensures { (bytes : List ℕ) (devices : List Device) (deck : Deck) → deck_of bytes devices false ≡ Ok deck →
         Headline (trial_of devices deck) deck.count (job_answer (jobs.Deck engines.Guarded) bytes devices) }
 {}
+
+/// What `run` answers of a trial is what the voted machine's own state tells after the guarded run.
+pub fn guarded_is_answered()
+    ensures { (o : Trial) (n : ℕ) → IsOpening o.opening → guarded_answer o (guarded o (3 * n)) ≡ run_answer (jobs.Deck engines.Guarded) o n }
+{
+    lvdc_laws::guarded_run();
+    lvdc_laws::guarded_ends();
+    lvdc_laws::guarded_times();
+    lvdc_laws::words_known();
+    lvdc_laws::all_times_made();
+}
 
 /// A run of a deck that begins with a source starts with exactly the words that assembling the source's lines gives.
 pub fn source_is_loaded()

@@ -9,10 +9,7 @@ mod refusal;
 mod runs;
 
 pub use job::{Engine, Job};
-pub use laws::{headline_told, source_is_loaded, statuses_caused};
+pub use laws::{guarded_is_answered, headline_told, source_is_loaded, statuses_caused};
 pub use perform::{refuse, run_job};
 pub use ready::{Ready, make_ready};
 pub use runs::end_status;
-
-#[cfg(test)]
-mod tests;
