@@ -1,0 +1,11 @@
+pub mod Gathering
+pub mod Cells
+pub mod Words
+pub mod Listed
+pub mod Taken
+pub mod HeldWords
+pub mod Again
+pub mod Stops
+pub mod Answering
+pub mod Statuses
+pub mod Halved
