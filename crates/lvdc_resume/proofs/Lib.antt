@@ -1,0 +1,11 @@
+pub mod Unplugged
+pub mod Taking
+pub mod Ends
+pub mod Resumed
+pub mod Replied
+pub mod Consumed
+pub mod Behind
+pub mod Lengths
+pub mod Went
+pub mod Onward
+pub mod Statuses

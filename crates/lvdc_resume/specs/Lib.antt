@@ -1,0 +1,8 @@
+pub mod Restore
+pub mod Runs
+pub mod Finished
+pub mod Room
+pub mod Answers
+pub mod Replies
+pub mod GoesOn
+pub mod Statuses

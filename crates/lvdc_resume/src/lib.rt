@@ -1,0 +1,12 @@
+//! The command `resume`: a saved text is read, the devices are given their states, and the run goes on to its count and is
+//! reported.
+#![tactic(auto)]
+
+mod laws;
+mod reply;
+mod restore;
+mod run;
+mod widths;
+
+pub use laws::resume_statuses;
+pub use reply::{LIMIT, ROOM, resume_bytes};
