@@ -1,0 +1,8 @@
+pub mod Renewing
+pub mod LeftInTime
+pub mod Going
+pub mod Restoring
+pub mod KindsLeft
+pub mod HeldWords
+pub mod Telling
+pub mod Wholes
