@@ -1,7 +1,9 @@
 -- The laws of the runs, as facts of commands: each command has its case.
 use Rattle.std.proofs.Common.{◌≡◌, ◌≢◌, ℕ, false, List, map, Result, Ok, Err, IfOk, OnOk, refl, sym, subst, ap, ◌∙◌, ◌⊎◌, inl, inr, arith}
 use Rattle.lvdc_port.specs.Device.{Device}
+use Rattle.std.specs.declared.option.Option.{Option}
 use Rattle.lvdc_model.specs.Trial.{Trial}
+use Rattle.lvdc_model.specs.declared.outcome.Outcome.{Outcome}
 use Rattle.lvdc_deck.specs.Deck.{deck_of}
 use Rattle.lvdc_deck.specs.declared.deck.Deck.{Deck}
 use Rattle.lvdc_reply.specs.Answer.{Answer, answer_with}
@@ -36,19 +38,27 @@ use Rattle.lvdc_run.specs.Headline.{Headline}
 use Rattle.lvdc_run.specs.Answers.{job_answer}
 use Rattle.lvdc_run.specs.Runs.{HasRunThat}
 use Rattle.lvdc_session.specs.Answers.{session_answer, HasSessionThat}
+use Rattle.lvdc_suspend.specs.Answers.{save_answer}
+use Rattle.lvdc_suspend.specs.Statuses.{HasSaveThat}
+use Rattle.lvdc_resume.specs.Answers.{resume_answer}
+use Rattle.lvdc_resume.specs.Statuses.{HasResumeThat}
 use Rattle.lvdc_cli.specs.declared.command.Command.{Command}
-use Rattle.lvdc_cli.specs.declared.command.Command.TheVariants.{Run, Soak, Assemble, Debug, Campaign, Uplink, Expand}
+use Rattle.lvdc_cli.specs.declared.command.Command.TheVariants.{Run, Soak, Assemble, Debug, Save, Resume, Campaign, Uplink, Expand}
 use Rattle.lvdc_cli.specs.Commands.{command_answer, FailsInCommand, RunsThat, IsReplyTo}
 use Rattle.lvdc_cli.proofs.Answered.{reply_answer}
 
--- this status of a job or of a session says this of its run, and the other way round
-pub record StatusSays (P : Job → Trial → ℕ → Type 0) (n : ℕ) : Type 0 where
+-- this status of a job, of a session, of a save or of a resumed run says this of its run, and the other way round
+pub record StatusSays (P : Job → Trial → ℕ → Type 0) (Q : Option Outcome → Type 0) (n : ℕ) : Type 0 where
   pub of_job : (j : Job) (bytes : List ℕ) (devices : List Device) → (job_answer j bytes devices).status ≡ n → HasRunThat P j bytes devices
   pub of_session : (bytes : List ℕ) (devices : List Device) → (session_answer bytes devices).status ≡ n → HasSessionThat (P (job.Deck Guarded)) bytes devices
+  pub of_save : (times : ℕ) (bytes : List ℕ) (devices : List Device) → (save_answer times bytes devices).status ≡ n → HasSaveThat (P (job.Deck Guarded)) times bytes devices
+  pub of_resume : (bytes : List ℕ) (devices : List Device) → (resume_answer bytes devices).status ≡ n → HasResumeThat Q bytes devices
 
-pub record RunSays (P : Job → Trial → ℕ → Type 0) (n : ℕ) : Type 0 where
+pub record RunSays (P : Job → Trial → ℕ → Type 0) (Q : Option Outcome → Type 0) (n : ℕ) : Type 0 where
   pub of_job : (j : Job) (bytes : List ℕ) (devices : List Device) → HasRunThat P j bytes devices → (job_answer j bytes devices).status ≡ n
   pub of_session : (bytes : List ℕ) (devices : List Device) → HasSessionThat (P (job.Deck Guarded)) bytes devices → (session_answer bytes devices).status ≡ n
+  pub of_save : (times : ℕ) (bytes : List ℕ) (devices : List Device) → HasSaveThat (P (job.Deck Guarded)) times bytes devices → (save_answer times bytes devices).status ≡ n
+  pub of_resume : (bytes : List ℕ) (devices : List Device) → HasResumeThat Q bytes devices → (resume_answer bytes devices).status ≡ n
 
 -- the answer of `run` to a deck carries the headline
 abbrev pub HeadlineTold : Type 0
@@ -136,8 +146,8 @@ expand_settled form.Source (Ok lines) = inl refl
 expand_settled form.Image (Ok lines) = source_settled (source.assembly_in (bytes_of lines))
 
 -- what is so is so whatever a call answers
-pub whatever : {P T E : Type 0} (result : Result T E) → P → OnOk result P
-whatever (Ok done) p = p
+pub whatever : {T E : Type 0} {P : T → Type 0} (result : Result T E) → ((done : T) → P done) → IfOk result P
+whatever (Ok done) p = p done
 whatever (Err fault) p = tt
 
 -- a campaign takes no device, but its deck is judged with those that are there
@@ -153,25 +163,29 @@ study_replied device_of faults command bytes old (Err wanting) is is_status is_t
 -- ---- statuses
 
 -- 5 and 6 are statuses of runs alone
-command_runs : (P : Job → Trial → ℕ → Type 0) (n : ℕ) → (n ≡ 5) ⊎ (n ≡ 6) → StatusSays P n
-    → (command : Command) (bytes : List ℕ) (devices : List Device) → (command_answer command bytes devices).status ≡ n → RunsThat P command bytes devices
-command_runs P n of_run law (Run engine) bytes devices e = law.of_job (job.Deck engine) bytes devices e
-command_runs P n of_run law (Soak number) bytes devices e = law.of_job (job.Soak number) bytes devices e
-command_runs P n of_run law (Assemble product) bytes devices e = absurd (never_runs _ n of_run (source_settled (source.assembly_in bytes)) e)
-command_runs P n of_run law Debug bytes devices e = law.of_session bytes devices e
-command_runs P n of_run law Campaign bytes devices e = absurd (never_runs _ n of_run (study_settled (campaign_of bytes devices)) e)
-command_runs P n of_run law Uplink bytes devices e = absurd (never_runs _ n of_run (patch_settled (request_of bytes)) e)
-command_runs P n of_run law (Expand f) bytes devices e = absurd (never_runs _ n of_run (expand_settled f (expand.expansion_in bytes)) e)
+command_runs : (P : Job → Trial → ℕ → Type 0) (Q : Option Outcome → Type 0) (n : ℕ) → (n ≡ 5) ⊎ (n ≡ 6) → StatusSays P Q n
+    → (command : Command) (bytes : List ℕ) (devices : List Device) → (command_answer command bytes devices).status ≡ n → RunsThat P Q command bytes devices
+command_runs P Q n of_run law (Run engine) bytes devices e = law.of_job (job.Deck engine) bytes devices e
+command_runs P Q n of_run law (Soak number) bytes devices e = law.of_job (job.Soak number) bytes devices e
+command_runs P Q n of_run law (Assemble product) bytes devices e = absurd (never_runs _ n of_run (source_settled (source.assembly_in bytes)) e)
+command_runs P Q n of_run law Debug bytes devices e = law.of_session bytes devices e
+command_runs P Q n of_run law (Save times) bytes devices e = law.of_save times bytes devices e
+command_runs P Q n of_run law Resume bytes devices e = law.of_resume bytes devices e
+command_runs P Q n of_run law Campaign bytes devices e = absurd (never_runs _ n of_run (study_settled (campaign_of bytes devices)) e)
+command_runs P Q n of_run law Uplink bytes devices e = absurd (never_runs _ n of_run (patch_settled (request_of bytes)) e)
+command_runs P Q n of_run law (Expand f) bytes devices e = absurd (never_runs _ n of_run (expand_settled f (expand.expansion_in bytes)) e)
 
-pub command_is : (P : Job → Trial → ℕ → Type 0) (n : ℕ) → RunSays P n
-    → (command : Command) (bytes : List ℕ) (devices : List Device) → RunsThat P command bytes devices → (command_answer command bytes devices).status ≡ n
-command_is P n law (Run engine) bytes devices h = law.of_job (job.Deck engine) bytes devices h
-command_is P n law (Soak number) bytes devices h = law.of_job (job.Soak number) bytes devices h
-command_is P n law (Assemble product) bytes devices h = absurd h
-command_is P n law Debug bytes devices h = law.of_session bytes devices h
-command_is P n law Campaign bytes devices h = absurd h
-command_is P n law Uplink bytes devices h = absurd h
-command_is P n law (Expand f) bytes devices h = absurd h
+pub command_is : (P : Job → Trial → ℕ → Type 0) (Q : Option Outcome → Type 0) (n : ℕ) → RunSays P Q n
+    → (command : Command) (bytes : List ℕ) (devices : List Device) → RunsThat P Q command bytes devices → (command_answer command bytes devices).status ≡ n
+command_is P Q n law (Run engine) bytes devices h = law.of_job (job.Deck engine) bytes devices h
+command_is P Q n law (Soak number) bytes devices h = law.of_job (job.Soak number) bytes devices h
+command_is P Q n law (Assemble product) bytes devices h = absurd h
+command_is P Q n law Debug bytes devices h = law.of_session bytes devices h
+command_is P Q n law (Save times) bytes devices h = law.of_save times bytes devices h
+command_is P Q n law Resume bytes devices h = law.of_resume bytes devices h
+command_is P Q n law Campaign bytes devices h = absurd h
+command_is P Q n law Uplink bytes devices h = absurd h
+command_is P Q n law (Expand f) bytes devices h = absurd h
 
 command_headline : HeadlineTold → (command : Command) (bytes : List ℕ) (devices : List Device) (deck : Deck) → command ≡ Run Guarded
     → deck_of bytes devices false ≡ Ok deck
@@ -190,13 +204,13 @@ module _ {B : Type 0} {device_of : B → Device} {faults : B → ℕ} (command :
       subst (λ (x : Answer). Headline (trial_of (map device_of old) deck) deck.count x) (sym (reply_answer a free h))
       (command_headline law command bytes (map device_of old) deck is means)
 
-  pub reply_runs : (P : Job → Trial → ℕ → Type 0) (n : ℕ) → (n ≡ 5) ⊎ (n ≡ 6) → StatusSays P n → (a : Answer) → a.status ≡ n
-      → IsReplyTo device_of faults command bytes old new a → RunsThat P command bytes (map device_of old)
-  reply_runs P n which law a is h =
-      command_runs P n which law command bytes (map device_of old)
+  pub reply_runs : (P : Job → Trial → ℕ → Type 0) (Q : Option Outcome → Type 0) (n : ℕ) → (n ≡ 5) ⊎ (n ≡ 6) → StatusSays P Q n → (a : Answer) → a.status ≡ n
+      → IsReplyTo device_of faults command bytes old new a → RunsThat P Q command bytes (map device_of old)
+  reply_runs P Q n which law a is h =
+      command_runs P Q n which law command bytes (map device_of old)
       (sym (ap (λ (x : Answer). x.status) (reply_answer a (λ x. omega (arith, which, is, x)) h)) ∙ is)
 
-  pub reply_is : (P : Job → Trial → ℕ → Type 0) (n : ℕ) → RunSays P n → (a : Answer) → a.status ≢ 10 → IsReplyTo device_of faults command bytes old new a
-      → RunsThat P command bytes (map device_of old) → a.status ≡ n
-  reply_is P n law a free h runs =
-      ap (λ (x : Answer). x.status) (reply_answer a free h) ∙ command_is P n law command bytes (map device_of old) runs
+  pub reply_is : (P : Job → Trial → ℕ → Type 0) (Q : Option Outcome → Type 0) (n : ℕ) → RunSays P Q n → (a : Answer) → a.status ≢ 10 → IsReplyTo device_of faults command bytes old new a
+      → RunsThat P Q command bytes (map device_of old) → a.status ≡ n
+  reply_is P Q n law a free h runs =
+      ap (λ (x : Answer). x.status) (reply_answer a free h) ∙ command_is P Q n law command bytes (map device_of old) runs

@@ -7,11 +7,10 @@ use Rattle.lvdc_text.specs.Transfer.{TookCount, TookAtMost}
 use Rattle.lvdc_port.specs.Device.{Device}
 use Rattle.lvdc_reply.specs.Answer.{Answer}
 use Rattle.lvdc_reply.specs.Replies.{Quiet, IsRefused}
-use Rattle.lvdc_cli.specs.declared.TheConstants.{LIMIT}
 use Rattle.lvdc_cli.specs.declared.command.Command.{Command}
-use Rattle.lvdc_cli.specs.Words.{command_of, reads, reads_for}
+use Rattle.lvdc_cli.specs.Words.{command_of, reads, reads_for, limit_of, limit_for}
 use Rattle.lvdc_cli.specs.Commands.{command_answer, input_of, usage_answer, read_fault_answer, too_long_answer, memory_answer, IsReplyTo, IsLeftUnanswered, answer_by, answer, HoldsFor}
-use Rattle.lvdc_cli.specs.Outside.{Outside}
+use Rattle.lvdc_cli.specs.Outside.{SourceState, Outside}
 use Rattle.lvdc_cli.specs.Top.{HasRead, IsAbandoned, after_reading, IsDue, usage, read_fault, too_long, replied, wants_memory, IsRefusal}
 use Rattle.lvdc_cli.proofs.Answered.{reply_answer, reply_quiet, reply_kept, reply_not}
 use Rattle.lvdc_cli.proofs.Inputs.{took_over, took_both, within_limit, took_within, is_input, to_end, answer_small, answer_large}
@@ -29,6 +28,20 @@ pub some_command : (o : Option Command) (command : Command) → o ≡ Some comma
 some_command None command e = absurd (cc)
 some_command (Some x) command e = refl
 
+-- what was taken for a command, as the words ask for it
+module _ (left rest : Option (List ℕ)) (words : List (List ℕ)) (command : Command) (asked : command_of words ≡ Some command) where
+  pub at_most_asked : TookAtMost left rest (limit_of command) → TookAtMost left rest (limit_for (command_of words))
+  at_most_asked h = subst (λ (o : Option Command). TookAtMost left rest (limit_for o)) (sym asked) h
+
+  pub count_asked : TookCount left rest (limit_of command + 1) → TookCount left rest (limit_for (command_of words) + 1)
+  count_asked h = subst (λ (o : Option Command). TookCount left rest (limit_for o + 1)) (sym asked) h
+
+-- what was read for a command is no more than its words may read
+took_for : (words : List (List ℕ)) (before after : SourceState) (command : Command) (bytes : List ℕ) → command_of words ≡ Some command
+    → HasRead command before after bytes → TookAtMost before.left after.left (limit_for (command_of words))
+took_for words before after command bytes asked read =
+    at_most_asked before.left after.left words command asked (took_within command before after bytes read)
+
 -- the same objects have the same counts
 module _ {B : Type 0} (device_of : B → Device) (faults : B → ℕ) (old new : List B) where
   kept_quiet : new ≡ old → Quiet device_of faults old new
@@ -39,35 +52,35 @@ pub record IsOfCommand {B : Type 0} (device_of : B → Device) (faults : B → �
   pub command : Command
   pub asked : command_of words ≡ Some command
   pub bytes : List ℕ
-  pub read : HasRead (reads_for command) before.source after.source bytes
+  pub read : HasRead command before.source after.source bytes
   pub reply : IsReplyTo device_of faults command bytes before.devices after.devices due
-  pub holds : HoldsFor command bytes (map device_of before.devices)
+  pub holds : HoldsFor command bytes (map device_of before.devices) due
 
 -- memory is wanting
 pub record IsWant {B : Type 0} (device_of : B → Device) (faults : B → ℕ) (words : List (List ℕ)) (before after : Outside B) (due : Answer) : Type 0 where
   pub asked : IsSome (command_of words)
   pub quiet : after.source.faults ≡ before.source.faults
-  pub took : TookAtMost before.source.left after.source.left LIMIT
+  pub took : TookAtMost before.source.left after.source.left (limit_for (command_of words))
   pub abandoned : IsAbandoned device_of faults words before after
   pub is : due ≡ memory_answer (map device_of after.devices)
 
 module _ {B : Type 0} {device_of : B → Device} {faults : B → ℕ} {words : List (List ℕ)} {before after : Outside B} where
   -- the reply, or the want of memory, of a command over these bytes in memory
   pub replied_over : (command : Command) (bytes slice : List ℕ) (reply : Answer) → command_of words ≡ Some command
-      → after.source.faults ≡ before.source.faults → HasRead (reads_for command) before.source after.source bytes → slice ≡ bytes
-      → IsReplyTo device_of faults command slice before.devices after.devices reply → HoldsFor command slice (map device_of before.devices)
+      → after.source.faults ≡ before.source.faults → HasRead command before.source after.source bytes → slice ≡ bytes
+      → IsReplyTo device_of faults command slice before.devices after.devices reply → HoldsFor command slice (map device_of before.devices) reply
       → IsDue device_of faults words before after reply
   replied_over command bytes slice reply asked quiet read same h holds =
       replied command bytes reply asked quiet read
       (subst (λ (xs : List ℕ). IsReplyTo device_of faults command xs before.devices after.devices reply) same h)
-      (subst (λ (xs : List ℕ). HoldsFor command xs (map device_of before.devices)) same holds)
+      (subst (λ (xs : List ℕ). HoldsFor command xs (map device_of before.devices) reply) same holds)
 
   pub wanting_over : (command : Command) (bytes slice : List ℕ) → command_of words ≡ Some command
-      → after.source.faults ≡ before.source.faults → HasRead (reads_for command) before.source after.source bytes → slice ≡ bytes
+      → after.source.faults ≡ before.source.faults → HasRead command before.source after.source bytes → slice ≡ bytes
       → IsLeftUnanswered device_of faults command slice before.devices after.devices
       → IsDue device_of faults words before after (memory_answer (map device_of after.devices))
   wanting_over command bytes slice asked quiet read same h =
-      wants_memory (some_command (command_of words) command asked) quiet (took_within command before.source after.source bytes read)
+      wants_memory (some_command (command_of words) command asked) quiet (took_for words before.source after.source command bytes asked read)
       (after_reading command bytes asked read
       (subst (λ (xs : List ℕ). IsLeftUnanswered device_of faults command xs before.devices after.devices) same h))
 
@@ -110,7 +123,7 @@ module _ {B : Type 0} {device_of : B → Device} {faults : B → ℕ} {words : L
   due_9 due e (wants_memory s q t w) = record { asked = s; quiet = q; took = t; abandoned = w; is = refl }
 
   pub due_11 : (due : Answer) → due.status ≡ 11 → IsDue device_of faults words before after due
-      → TookCount before.source.left after.source.left (LIMIT + 1) × (due ≡ too_long_answer (map device_of after.devices))
+      → TookCount before.source.left after.source.left (limit_for (command_of words) + 1) × (due ≡ too_long_answer (map device_of after.devices))
   due_11 due e (usage none source devices) = absurd (cc)
   due_11 due e (read_fault s r t k) = absurd (cc)
   due_11 due e (too_long s q t k) = (t, refl)
@@ -133,14 +146,14 @@ module _ {B : Type 0} {device_of : B → Device} {faults : B → ℕ} {words : L
   due_grew due g (wants_memory s q t w) = absurd (omega arith)
 
   -- one byte too many was taken
-  pub due_large : (due : Answer) → IsSome before.source.left → reads (command_of words) ≡ true → TookCount before.source.left after.source.left (LIMIT + 1)
+  pub due_large : (due : Answer) → IsSome before.source.left → reads (command_of words) ≡ true → TookCount before.source.left after.source.left (limit_for (command_of words) + 1)
       → IsDue device_of faults words before after due → due.status ≡ 11
   due_large due i s t (usage none source devices) = clash (command_of words) none (reads_some (command_of words) s)
-  due_large due i s t (read_fault s' r m k) = took_both before.source.left after.source.left i t m
+  due_large due i s t (read_fault s' r m k) = took_both (limit_for (command_of words)) before.source.left after.source.left i t m
   due_large due i s t (too_long s' q m k) = refl
   due_large due i s t (replied command bytes reply asked quiet read is holds) =
-      took_both before.source.left after.source.left i t (took_within command before.source after.source bytes read)
-  due_large due i s t (wants_memory s' q m w) = took_both before.source.left after.source.left i t m
+      took_both (limit_for (command_of words)) before.source.left after.source.left i t (took_for words before.source after.source command bytes asked read)
+  due_large due i s t (wants_memory s' q m w) = took_both (limit_for (command_of words)) before.source.left after.source.left i t m
 
   pub due_end : (due : Answer) → reads (command_of words) ≡ true → due.status ≢ 7 → due.status ≢ 9 → due.status ≢ 11
       → IsDue device_of faults words before after due → IsAtEnd after.source.left
@@ -184,7 +197,7 @@ module _ {B : Type 0} {device_of : B → Device} {faults : B → ℕ} {words : L
   due_answer due bytes told a b c (read_fault s r t k) = absurd (a refl)
   due_answer due bytes told a b c (too_long s q t k) =
       ap (λ (ds : List B). too_long_answer (map device_of ds)) k
-      ∙ sym (answer_large (command_of words) bytes (map device_of before.devices) s (took_over before.source.left after.source.left bytes told t))
+      ∙ sym (answer_large (command_of words) bytes (map device_of before.devices) s (took_over (limit_for (command_of words)) before.source.left after.source.left bytes told t))
   due_answer due bytes told a b c (replied command taken reply asked quiet read is holds) =
       let same : taken ≡ input_of command bytes = is_input command before.source after.source taken read bytes told in
       reply_answer reply c is ∙ ap (λ (xs : List ℕ). command_answer command xs (map device_of before.devices)) same

@@ -6,6 +6,7 @@ use Rattle.lvdc_text.specs.Causes.{Rose}
 use Rattle.lvdc_text.specs.Transfer.{TookCount, TookAtMost}
 use Rattle.lvdc_port.specs.Device.{Device}
 use Rattle.lvdc_model.specs.Trial.{Trial}
+use Rattle.lvdc_model.specs.declared.outcome.Outcome.{Outcome}
 use Rattle.lvdc_deck.specs.Deck.{deck_of}
 use Rattle.lvdc_deck.specs.declared.deck.Deck.{Deck}
 use Rattle.lvdc_reply.specs.Answer.{Answer, answer_with}
@@ -14,12 +15,11 @@ use Rattle.lvdc_run.specs.declared.job.Engine.TheVariants.{Guarded}
 use Rattle.lvdc_run.specs.declared.job.Job.{Job}
 use Rattle.lvdc_run.specs.Trials.{trial_of}
 use Rattle.lvdc_run.specs.Headline.{Headline}
-use Rattle.lvdc_cli.specs.declared.TheConstants.{LIMIT}
 use Rattle.lvdc_cli.specs.declared.command.Command.{Command}
 use Rattle.lvdc_cli.specs.declared.command.Command.TheVariants.{Run}
-use Rattle.lvdc_cli.specs.Words.{command_of, reads, reads_for}
+use Rattle.lvdc_cli.specs.Words.{command_of, reads, limit_for}
 use Rattle.lvdc_cli.specs.Texts.{usage_text, read_fault_text, too_long_text}
-use Rattle.lvdc_cli.specs.Commands.{FailsInCommand, input_of, RunsThat, Has, IsReplyTo, answer}
+use Rattle.lvdc_cli.specs.Commands.{FailsInCommand, input_of, RunsThat, Has, IsReplyTo, HoldsFor, answer}
 use Rattle.lvdc_cli.specs.Outside.{SourceState, SinkState, Outside, outside}
 use Rattle.lvdc_cli.specs.Top.{HasRead, IsDue, IsTold, told, cut, IsEnd, IsReplied, CarriesHeadline, IsCut, IsAbandoned, HasFailed, IsUnhindered, IsOfReply, IsRefusal}
 use Rattle.lvdc_cli.proofs.Answered.{reply_failed}
@@ -113,7 +113,7 @@ module _ {B : Type 0} {device_of : B → Device} {faults : B → ℕ} {words : L
 
   pub end_memory : result ≡ 9 → IsEnd device_of faults words before after result
       → Keeps before.sink.written after.sink.written × IsSome (command_of words) × (after.source.faults ≡ before.source.faults)
-      × TookAtMost before.source.left after.source.left LIMIT
+      × TookAtMost before.source.left after.source.left (limit_for (command_of words))
   end_memory is e =
       let w = whole (λ x. omega arith) e in
       let d = due_9 e.due (sym w.status_is ∙ is) e.is_due in (
@@ -131,13 +131,13 @@ module _ {B : Type 0} {device_of : B → Device} {faults : B → ℕ} {words : L
   end_quiet a b c e = let w = whole a e in due_quiet e.due (λ x. b (w.status_is ∙ x)) (λ x. c (w.status_is ∙ x)) e.is_due
 
   pub end_too_long : result ≡ 11 → IsEnd device_of faults words before after result
-      → TookCount before.source.left after.source.left (LIMIT + 1) × Appends before.sink.written after.sink.written too_long_text
+      → TookCount before.source.left after.source.left (limit_for (command_of words) + 1) × Appends before.sink.written after.sink.written too_long_text
   end_too_long is e =
       let w = whole (λ x. omega arith) e in
       let d = due_11 e.due (sym w.status_is ∙ is) e.is_due in
       (d.0, subst (λ (a : Answer). Appends before.sink.written after.sink.written a.text) d.1 w.written)
 
-  pub end_took_more : IsSome before.source.left → reads (command_of words) ≡ true → TookCount before.source.left after.source.left (LIMIT + 1)
+  pub end_took_more : IsSome before.source.left → reads (command_of words) ≡ true → TookCount before.source.left after.source.left (limit_for (command_of words) + 1)
       → IsEnd device_of faults words before after result → (result ≡ 11) ⊎ (result ≡ 8)
   end_took_more i s t e = told_or 11 (due_large e.due i s t e.is_due) e.told
 
@@ -176,7 +176,7 @@ module _ {B : Type 0} {device_of : B → Device} {faults : B → ℕ} {words : L
         text = e.due.text;
         written = w.written;
         reply = subst (λ (a : Answer). IsReplyTo device_of faults r.command r.bytes before.devices after.devices a) same r.reply;
-        holds = r.holds;
+        holds = subst (λ (a : Answer). HoldsFor r.command r.bytes (map device_of before.devices) a) same r.holds;
       }
 
   pub end_headline : HeadlineTold → command_of words ≡ Some (Run Guarded) → IsUnhindered result → result ≢ 11
@@ -194,7 +194,7 @@ module _ {B : Type 0} {device_of : B → Device} {faults : B → ℕ} {words : L
       let is : r.command ≡ Run Guarded = cc same in
       record {
         bytes = r.bytes;
-        read = subst (λ (c : Command). HasRead (reads_for c) before.source after.source r.bytes) is r.read;
+        read = subst (λ (c : Command). HasRead c before.source after.source r.bytes) is r.read;
         text = r.text;
         written = r.written;
         headline = λ deck means. reply_headline r.command r.bytes law (answer_with result r.text (map device_of after.devices)) u.no_device_fault r.reply deck is means;
@@ -207,20 +207,21 @@ module _ {B : Type 0} {device_of : B → Device} {faults : B → ℕ} {words : L
       → P (input_of r.command bytes)
   of_input P r bytes h p = subst P (is_input r.command before.source after.source r.bytes r.read bytes h) p
 
-  pub end_has : (P : Job → Trial → ℕ → Type 0) (n : ℕ) → (n ≡ 5) ⊎ (n ≡ 6) → StatusSays P n → (bytes : List ℕ) → before.source.left ≡ Some bytes → result ≡ n
-      → IsEnd device_of faults words before after result → Has P (command_of words) bytes (map device_of before.devices)
-  end_has P n s law bytes h is e =
+  pub end_has : (P : Job → Trial → ℕ → Type 0) (Q : Option Outcome → Type 0) (n : ℕ) → (n ≡ 5) ⊎ (n ≡ 6) → StatusSays P Q n → (bytes : List ℕ) → before.source.left ≡ Some bytes → result ≡ n
+      → IsEnd device_of faults words before after result → Has P Q (command_of words) bytes (map device_of before.devices)
+  end_has P Q n s law bytes h is e =
       let r = end_replied (of_run n (elim s [ inl x ↦ inl x | inr x ↦ inr (inl x) ]) is) e in
-      let runs : RunsThat P r.command (input_of r.command bytes) (map device_of before.devices) =
-      of_input (λ (xs : List ℕ). RunsThat P r.command xs (map device_of before.devices)) r bytes h
-      (reply_runs r.command r.bytes P n s law (answer_with result r.text (map device_of after.devices)) is r.reply) in
-      subst (λ (o : Option Command). Has P o bytes (map device_of before.devices)) (sym r.asked) runs
+      let runs : RunsThat P Q r.command (input_of r.command bytes) (map device_of before.devices) =
+      of_input (λ (xs : List ℕ). RunsThat P Q r.command xs (map device_of before.devices)) r bytes h
+      (reply_runs r.command r.bytes P Q n s law (answer_with result r.text (map device_of after.devices)) is r.reply) in
+      subst (λ (o : Option Command). Has P Q o bytes (map device_of before.devices)) (sym r.asked) runs
 
-  pub end_is : (P : Job → Trial → ℕ → Type 0) (n : ℕ) → RunSays P n → (bytes : List ℕ) → before.source.left ≡ Some bytes → length bytes ≤ LIMIT
-      → IsUnhindered result → Has P (command_of words) bytes (map device_of before.devices) → IsEnd device_of faults words before after result → result ≡ n
-  end_is P n law bytes h l u has e =
+  pub end_is : (P : Job → Trial → ℕ → Type 0) (Q : Option Outcome → Type 0) (n : ℕ) → RunSays P Q n → (bytes : List ℕ) → before.source.left ≡ Some bytes
+      → length bytes ≤ limit_for (command_of words)
+      → IsUnhindered result → Has P Q (command_of words) bytes (map device_of before.devices) → IsEnd device_of faults words before after result → result ≡ n
+  end_is P Q n law bytes h l u has e =
       let all = end_answer bytes h u e in
-      all.0 ∙ answer_is P n law (command_of words) bytes (map device_of before.devices) l has
+      all.0 ∙ answer_is P Q n law (command_of words) bytes (map device_of before.devices) l has
 
   pub end_failed : (bytes : List ℕ) → before.source.left ≡ Some bytes → result ≡ 10 → IsEnd device_of faults words before after result
       → HasFailed device_of faults words bytes before after

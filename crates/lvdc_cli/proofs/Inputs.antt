@@ -7,14 +7,14 @@ use Rattle.std.specs.Io.KnownBytes.{Consumes, IsAtEnd, Appends, Keeps}
 use Rattle.lvdc_text.specs.Transfer.{TookCount, TookAtMost}
 use Rattle.lvdc_port.specs.Device.{Device}
 use Rattle.lvdc_model.specs.Trial.{Trial}
+use Rattle.lvdc_model.specs.declared.outcome.Outcome.{Outcome}
 use Rattle.lvdc_reply.specs.Answer.{Answer}
 use Rattle.lvdc_run.specs.declared.job.Job.{Job}
-use Rattle.lvdc_cli.specs.declared.TheConstants.{LIMIT}
 use Rattle.lvdc_cli.specs.declared.command.Command.{Command}
-use Rattle.lvdc_cli.specs.Words.{reads, reads_for}
+use Rattle.lvdc_cli.specs.Words.{reads, reads_for, limit_of, limit_for}
 use Rattle.lvdc_cli.specs.Commands.{command_answer, input_of, too_long_answer, answer_by, Has, RunsThat}
 use Rattle.lvdc_cli.specs.Outside.{SourceState}
-use Rattle.lvdc_cli.specs.Top.{HasRead}
+use Rattle.lvdc_cli.specs.Top.{HasReadUpTo, HasRead}
 use Rattle.lvdc_cli.proofs.Commands.{RunSays, command_is}
 
 -- ---- bytes that are told
@@ -35,11 +35,11 @@ taken_once None rest one other s h k = absurd (cc)
 taken_once (Some x) None one other s h k = absurd h
 taken_once (Some x) (Some y) one other s h k = omega (arith, ap length h, ap length k, length-append one y, length-append other y)
 
-pub took_over : (left rest : Option (List ℕ)) (bytes : List ℕ) → left ≡ Some bytes → TookCount left rest (LIMIT + 1) → LIMIT < length bytes
-took_over left rest bytes h (taken, k, l) = omega (arith, l, taken_le left rest bytes taken h k)
+pub took_over : (limit : ℕ) (left rest : Option (List ℕ)) (bytes : List ℕ) → left ≡ Some bytes → TookCount left rest (limit + 1) → limit < length bytes
+took_over limit left rest bytes h (taken, k, l) = omega (arith, l, taken_le left rest bytes taken h k)
 
-pub took_both : {X : Type 0} (left rest : Option (List ℕ)) → IsSome left → TookCount left rest (LIMIT + 1) → TookAtMost left rest LIMIT → X
-took_both left rest s (one, h, l) (other, k, m) = absurd (omega (arith, l, m, taken_once left rest one other s h k))
+pub took_both : {X : Type 0} (limit : ℕ) (left rest : Option (List ℕ)) → IsSome left → TookCount left rest (limit + 1) → TookAtMost left rest limit → X
+took_both limit left rest s (one, h, l) (other, k, m) = absurd (omega (arith, l, m, taken_once left rest one other s h k))
 
 -- nothing was taken
 took_nothing : (left : Option (List ℕ)) → Consumes left left []
@@ -54,62 +54,63 @@ keeps_nothing (Some x) (Some y) h = h ∙ append-nil x
 
 -- ---- what a command reads
 
-module _ (before after : SourceState) (taken : List ℕ) where
-  read_small : (b : Bool) → HasRead b before after taken → length taken ≤ LIMIT
+module _ (limit : ℕ) (before after : SourceState) (taken : List ℕ) where
+  read_small : (b : Bool) → HasReadUpTo b limit before after taken → length taken ≤ limit
   read_small true h = h.2
   read_small false h = omega (arith, ap length h.1)
 
-  read_took : (b : Bool) → HasRead b before after taken → TookAtMost before.left after.left LIMIT
+  read_took : (b : Bool) → HasReadUpTo b limit before after taken → TookAtMost before.left after.left limit
   read_took true h = (taken, h.0, h.2)
   read_took false h =
-      subst (λ (s : SourceState). TookAtMost before.left s.left LIMIT) (sym h.0) ([], took_nothing before.left, omega arith)
+      subst (λ (s : SourceState). TookAtMost before.left s.left limit) (sym h.0) ([], took_nothing before.left, omega arith)
 
-  read_bytes : (b : Bool) (bytes : List ℕ) → before.left ≡ Some bytes → HasRead b before after taken → taken ≡ (if b then bytes else [])
+  read_bytes : (b : Bool) (bytes : List ℕ) → before.left ≡ Some bytes → HasReadUpTo b limit before after taken → taken ≡ (if b then bytes else [])
   read_bytes true bytes told h = taken_whole before.left after.left bytes taken told h.0 h.1
   read_bytes false bytes told h = h.1
 
-  read_end : (b : Bool) → b ≡ true → HasRead b before after taken → IsAtEnd after.left
+  read_end : (b : Bool) → b ≡ true → HasReadUpTo b limit before after taken → IsAtEnd after.left
   read_end true e h = h.1
   read_end false e h = absurd (cc)
 
-module _ (command : Command) (before after : SourceState) (taken : List ℕ) (read : HasRead (reads_for command) before after taken) where
-  pub within_limit : length taken ≤ LIMIT
-  within_limit = read_small before after taken (reads_for command) read
+module _ (command : Command) (before after : SourceState) (taken : List ℕ) (read : HasRead command before after taken) where
+  pub within_limit : length taken ≤ limit_of command
+  within_limit = read_small (limit_of command) before after taken (reads_for command) read
 
-  pub took_within : TookAtMost before.left after.left LIMIT
-  took_within = read_took before after taken (reads_for command) read
+  pub took_within : TookAtMost before.left after.left (limit_of command)
+  took_within = read_took (limit_of command) before after taken (reads_for command) read
 
   pub is_input : (bytes : List ℕ) → before.left ≡ Some bytes → taken ≡ input_of command bytes
-  is_input bytes told = read_bytes before after taken (reads_for command) bytes told read
+  is_input bytes told = read_bytes (limit_of command) before after taken (reads_for command) bytes told read
 
   pub to_end : reads_for command ≡ true → IsAtEnd after.left
-  to_end e = read_end before after taken (reads_for command) e read
+  to_end e = read_end (limit_of command) before after taken (reads_for command) e read
 
 -- ---- the answer by what the command reads
 
-input_small : (b : Bool) (bytes : List ℕ) → length bytes ≤ LIMIT → length (if b then bytes else []) ≤ LIMIT
-input_small true bytes l = l
-input_small false bytes l = omega arith
+input_small : (limit : ℕ) (b : Bool) (bytes : List ℕ) → length bytes ≤ limit → length (if b then bytes else []) ≤ limit
+input_small limit true bytes l = l
+input_small limit false bytes l = omega arith
 
 -- an input within the limit
-pub answer_small : (command : Command) (bytes : List ℕ) (devices : List Device) → length (input_of command bytes) ≤ LIMIT
+pub answer_small : (command : Command) (bytes : List ℕ) (devices : List Device) → length (input_of command bytes) ≤ limit_of command
     → answer_by (Some command) bytes devices ≡ command_answer command (input_of command bytes) devices
 answer_small command bytes devices l =
-    let small : nat_lt LIMIT (length (input_of command bytes)) ≡ false = grind (arith, nat_tests) in
+    let small : nat_lt (limit_of command) (length (input_of command bytes)) ≡ false = grind (arith, nat_tests) in
     rw small refl
 
 -- an input above it
-pub answer_large : (o : Option Command) (bytes : List ℕ) (devices : List Device) → reads o ≡ true → LIMIT < length bytes → answer_by o bytes devices ≡ too_long_answer devices
+pub answer_large : (o : Option Command) (bytes : List ℕ) (devices : List Device) → reads o ≡ true → limit_for o < length bytes → answer_by o bytes devices ≡ too_long_answer devices
 answer_large None bytes devices s l = absurd (cc)
 answer_large (Some command) bytes devices s l =
     let all : input_of command bytes ≡ bytes = rw s refl in
-    let long : LIMIT < length (input_of command bytes) = omega (arith, ap length all) in
-    let large : nat_lt LIMIT (length (input_of command bytes)) ≡ true = grind (arith, nat_tests) in
+    let long : limit_of command < length (input_of command bytes) = omega (arith, ap length all) in
+    let large : nat_lt (limit_of command) (length (input_of command bytes)) ≡ true = grind (arith, nat_tests) in
     rw large refl
 
 -- a run has its status
-pub answer_is : (P : Job → Trial → ℕ → Type 0) (n : ℕ) → RunSays P n → (o : Option Command) (bytes : List ℕ) (devices : List Device) → length bytes ≤ LIMIT
-    → Has P o bytes devices → (answer_by o bytes devices).status ≡ n
-answer_is P n law None bytes devices l h = absurd h
-answer_is P n law (Some command) bytes devices l h =
-    ap (λ (a : Answer). a.status) (answer_small command bytes devices (input_small (reads_for command) bytes l)) ∙ command_is P n law command (input_of command bytes) devices h
+pub answer_is : (P : Job → Trial → ℕ → Type 0) (Q : Option Outcome → Type 0) (n : ℕ) → RunSays P Q n → (o : Option Command) (bytes : List ℕ) (devices : List Device)
+    → length bytes ≤ limit_for o → Has P Q o bytes devices → (answer_by o bytes devices).status ≡ n
+answer_is P Q n law None bytes devices l h = absurd h
+answer_is P Q n law (Some command) bytes devices l h =
+    ap (λ (a : Answer). a.status) (answer_small command bytes devices (input_small (limit_of command) (reads_for command) bytes l))
+    ∙ command_is P Q n law command (input_of command bytes) devices h

@@ -5,8 +5,8 @@ use Rattle.std.specs.declared.option.Option.TheVariants.{None, Some}
 use Rattle.lvdc_run.specs.declared.job.Engine.TheVariants.{Guarded, Through, Plain}
 use Rattle.lvdc_assemble.specs.declared.reply.Product.TheVariants.{Image, Listing}
 use Rattle.lvdc_expand.specs.declared.reply.Form.TheVariants as form
-use Rattle.lvdc_cli.specs.declared.command.Command.TheVariants.{Run, Soak, Assemble, Debug, Campaign, Uplink, Expand}
-use Rattle.lvdc_cli.specs.Words.{soak_number, command_of}
+use Rattle.lvdc_cli.specs.declared.command.Command.TheVariants.{Run, Soak, Assemble, Debug, Save, Resume, Campaign, Uplink, Expand}
+use Rattle.lvdc_cli.specs.Words.{soak_number, times_of, command_of}
 
 run_alone : command_of (codes "run" ∷ []) ≡ Some (Run Guarded)
 run_alone = refl
@@ -62,3 +62,18 @@ soak_past_it = refl
 
 soak_without_number : command_of (codes "soak" ∷ []) ≡ None
 soak_without_number = refl
+
+resume_alone : command_of (codes "resume" ∷ []) ≡ Some Resume
+resume_alone = refl
+
+save_40 : command_of (codes "save" ∷ codes "0000040" ∷ []) ≡ Some (Save 40)
+unfolding times_of
+save_40 = refl
+
+-- eight digits
+save_too_long : command_of (codes "save" ∷ codes "00000040" ∷ []) ≡ None
+unfolding times_of
+save_too_long = refl
+
+save_without_number : command_of (codes "save" ∷ []) ≡ None
+save_without_number = refl

@@ -1,9 +1,10 @@
 -- The answer to each command, by the definitions of its crate: a command has one case in each of these.
-use Rattle.std.specs.Prelude.{◌≡◌, ℕ, nat_lt, List, [], length, map, if◌then◌else◌}
+use Rattle.std.specs.Prelude.{◌≡◌, ◌≢◌, ℕ, nat_lt, List, [], length, map, if◌then◌else◌}
 use Rattle.std.specs.declared.option.Option.{Option}
 use Rattle.std.specs.declared.option.Option.TheVariants.{None, Some}
 use Rattle.lvdc_port.specs.Device.{Device}
 use Rattle.lvdc_model.specs.Trial.{Trial}
+use Rattle.lvdc_model.specs.declared.outcome.Outcome.{Outcome}
 use Rattle.lvdc_reply.specs.Answer.{Answer, answer_with}
 use Rattle.lvdc_reply.specs.Replies.{IsReply}
 use Rattle.lvdc_run.specs.declared.job.Engine.TheVariants.{Guarded}
@@ -18,10 +19,18 @@ use Rattle.lvdc_patch.specs.Answers.{uplink_answer}
 use Rattle.lvdc_expand.specs.Answers.{macro_answer}
 use Rattle.lvdc_session.specs.Answers.{session_answer, HasSessionThat}
 use Rattle.lvdc_session.specs.Replies.{FailsInSession, IsUnanswered as IsSessionUnanswered}
-use Rattle.lvdc_cli.specs.declared.TheConstants.{LIMIT, ROOM, SESSION_ROOM}
+use Rattle.lvdc_suspend.specs.Answers.{save_answer}
+use Rattle.lvdc_suspend.specs.Replies.{FailsInSave, IsUnanswered as IsUnsaved}
+use Rattle.lvdc_suspend.specs.Statuses.{HasSaveThat}
+use Rattle.lvdc_suspend.specs.Halves.{IsSaveOf}
+use Rattle.lvdc_resume.specs.Answers.{resume_answer}
+use Rattle.lvdc_resume.specs.Replies.{FailsInResume, IsUnresumed}
+use Rattle.lvdc_resume.specs.Statuses.{HasResumeThat}
+use Rattle.lvdc_halves.specs.Alike.{AreAlike}
+use Rattle.lvdc_cli.specs.declared.TheConstants.{ROOM, SESSION_ROOM, SAVED_ROOM, RESUMED_ROOM}
 use Rattle.lvdc_cli.specs.declared.command.Command.{Command}
-use Rattle.lvdc_cli.specs.declared.command.Command.TheVariants.{Run, Soak, Assemble, Debug, Campaign, Uplink, Expand}
-use Rattle.lvdc_cli.specs.Words.{command_of, reads_for}
+use Rattle.lvdc_cli.specs.declared.command.Command.TheVariants.{Run, Soak, Assemble, Debug, Save, Resume, Campaign, Uplink, Expand}
+use Rattle.lvdc_cli.specs.Words.{command_of, reads_for, limit_of}
 use Rattle.lvdc_cli.specs.Texts.{usage_text, read_fault_text, too_long_text}
 
 -- the answer where no device fails
@@ -30,6 +39,8 @@ command_answer (Run engine) bytes devices = job_answer (job.Deck engine) bytes d
 command_answer (Soak number) bytes devices = job_answer (job.Soak number) bytes devices
 command_answer (Assemble product) bytes devices = source_answer product bytes devices
 command_answer Debug bytes devices = session_answer bytes devices
+command_answer (Save times) bytes devices = save_answer times bytes devices
+command_answer Resume bytes devices = resume_answer bytes devices
 command_answer Campaign bytes devices = study_answer bytes devices
 command_answer Uplink bytes devices = uplink_answer bytes devices
 command_answer (Expand form) bytes devices = macro_answer form bytes devices
@@ -40,6 +51,8 @@ FailsInCommand (Run engine) bytes devices = FailsInRun (job.Deck engine) bytes d
 FailsInCommand (Soak number) bytes devices = FailsInRun (job.Soak number) bytes devices
 FailsInCommand (Assemble product) bytes devices = λ step port reply. ⊥
 FailsInCommand Debug bytes devices = FailsInSession bytes devices
+FailsInCommand (Save times) bytes devices = FailsInSave times bytes devices
+FailsInCommand Resume bytes devices = FailsInResume bytes devices
 FailsInCommand Campaign bytes devices = λ step port reply. ⊥
 FailsInCommand Uplink bytes devices = λ step port reply. ⊥
 FailsInCommand (Expand form) bytes devices = λ step port reply. ⊥
@@ -50,19 +63,24 @@ IsLeftUnanswered device_of faults (Run engine) bytes old new = IsUnanswered devi
 IsLeftUnanswered device_of faults (Soak number) bytes old new = IsUnanswered device_of faults (job.Soak number) bytes old new
 IsLeftUnanswered device_of faults (Assemble product) bytes old new = new ≡ old
 IsLeftUnanswered device_of faults Debug bytes old new = IsSessionUnanswered device_of faults bytes old new
+IsLeftUnanswered device_of faults (Save times) bytes old new = IsUnsaved device_of faults times bytes old new
+IsLeftUnanswered device_of faults Resume bytes old new = IsUnresumed device_of faults bytes old new
 IsLeftUnanswered device_of faults Campaign bytes old new = new ≡ old
 IsLeftUnanswered device_of faults Uplink bytes old new = new ≡ old
 IsLeftUnanswered device_of faults (Expand form) bytes old new = new ≡ old
 
--- the command runs a deck, and this is so of its run; a session runs it as `run` does, as far as its commands ask
-abbrev pub RunsThat : (Job → Trial → ℕ → Type 0) → Command → List ℕ → List Device → Type 0
-RunsThat P (Run engine) bytes devices = HasRunThat P (job.Deck engine) bytes devices
-RunsThat P (Soak number) bytes devices = HasRunThat P (job.Soak number) bytes devices
-RunsThat P (Assemble product) bytes devices = ⊥
-RunsThat P Debug bytes devices = HasSessionThat (P (job.Deck Guarded)) bytes devices
-RunsThat P Campaign bytes devices = ⊥
-RunsThat P Uplink bytes devices = ⊥
-RunsThat P (Expand form) bytes devices = ⊥
+-- the command runs a deck, and this is so of its run, by the job and the times: a session runs it as `run` does, as far as its
+-- commands ask, and a save so many times; or it goes on with a saved run, and this is so of its end
+abbrev pub RunsThat : (Job → Trial → ℕ → Type 0) → (Option Outcome → Type 0) → Command → List ℕ → List Device → Type 0
+RunsThat P Q (Run engine) bytes devices = HasRunThat P (job.Deck engine) bytes devices
+RunsThat P Q (Soak number) bytes devices = HasRunThat P (job.Soak number) bytes devices
+RunsThat P Q (Assemble product) bytes devices = ⊥
+RunsThat P Q Debug bytes devices = HasSessionThat (P (job.Deck Guarded)) bytes devices
+RunsThat P Q (Save times) bytes devices = HasSaveThat (P (job.Deck Guarded)) times bytes devices
+RunsThat P Q Resume bytes devices = HasResumeThat Q bytes devices
+RunsThat P Q Campaign bytes devices = ⊥
+RunsThat P Q Uplink bytes devices = ⊥
+RunsThat P Q (Expand form) bytes devices = ⊥
 
 -- the room that the text of a command may take
 abbrev pub room_of : Command → ℕ
@@ -70,19 +88,27 @@ room_of (Run engine) = ROOM
 room_of (Soak number) = ROOM
 room_of (Assemble product) = ROOM
 room_of Debug = SESSION_ROOM
+room_of (Save times) = SAVED_ROOM
+room_of Resume = RESUMED_ROOM
 room_of Campaign = ROOM
 room_of Uplink = ROOM
 room_of (Expand form) = ROOM
 
--- what is true of the input beside the answer: each admissible row of a campaign comes to the same
-abbrev pub HoldsFor : Command → List ℕ → List Device → Type 0
-HoldsFor (Run engine) bytes devices = Unit {0}
-HoldsFor (Soak number) bytes devices = Unit {0}
-HoldsFor (Assemble product) bytes devices = Unit {0}
-HoldsFor Debug bytes devices = Unit {0}
-HoldsFor Campaign bytes devices = AdmissibleAreSame bytes devices
-HoldsFor Uplink bytes devices = Unit {0}
-HoldsFor (Expand form) bytes devices = Unit {0}
+-- What is true of the input, the devices and the reply beside the answer. Each admissible row of a campaign comes to the same. From
+-- what is saved the run can go on; and where such a text is resumed, over devices of the ports and kinds of those that were handed in
+-- to `save`, each in its kind's first state, the reply is that of `run` to the deck, unless a device fails.
+abbrev pub HoldsFor : Command → List ℕ → List Device → Answer → Type 0
+HoldsFor (Run engine) bytes devices reply = Unit {0}
+HoldsFor (Soak number) bytes devices reply = Unit {0}
+HoldsFor (Assemble product) bytes devices reply = Unit {0}
+HoldsFor Debug bytes devices reply = Unit {0}
+HoldsFor (Save times) bytes devices reply = reply.status ≡ 0 → IsSaveOf times bytes devices reply.text
+HoldsFor Resume bytes devices reply =
+    (times : ℕ) (deck : List ℕ) (before : List Device) → IsSaveOf times deck before bytes → AreAlike before devices → reply.status ≢ 10
+    → reply ≡ job_answer (job.Deck Guarded) deck before
+HoldsFor Campaign bytes devices reply = AdmissibleAreSame bytes devices
+HoldsFor Uplink bytes devices reply = Unit {0}
+HoldsFor (Expand form) bytes devices reply = Unit {0}
 
 -- ---- of all commands
 
@@ -100,10 +126,10 @@ room_for (Some command) = room_of command
 abbrev pub input_of : Command → List ℕ → List ℕ
 input_of command bytes = if reads_for command then bytes else []
 
--- the words are a command that runs a deck, and this is so of its run
-abbrev pub Has : (Job → Trial → ℕ → Type 0) → Option Command → List ℕ → List Device → Type 0
-Has P None bytes devices = ⊥
-Has P (Some command) bytes devices = RunsThat P command (input_of command bytes) devices
+-- the words are a command that runs a deck or goes on with a run, and this is so of its run
+abbrev pub Has : (Job → Trial → ℕ → Type 0) → (Option Outcome → Type 0) → Option Command → List ℕ → List Device → Type 0
+Has P Q None bytes devices = ⊥
+Has P Q (Some command) bytes devices = RunsThat P Q command (input_of command bytes) devices
 
 -- ---- what the words and the bytes alone decide leaves the devices as they were
 
@@ -125,7 +151,7 @@ memory_answer devices = answer_with 9 [] devices
 abbrev pub answer_by : Option Command → List ℕ → List Device → Answer
 answer_by None bytes devices = usage_answer devices
 answer_by (Some command) bytes devices =
-    if nat_lt LIMIT (length (input_of command bytes)) then too_long_answer devices
+    if nat_lt (limit_of command) (length (input_of command bytes)) then too_long_answer devices
     else command_answer command (input_of command bytes) devices
 
 -- the answer to these words over these bytes and devices, where no read, no write and no device fails

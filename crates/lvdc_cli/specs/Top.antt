@@ -13,19 +13,24 @@ use Rattle.lvdc_reply.specs.Answer.{Answer, answer_with}
 use Rattle.lvdc_reply.specs.Replies.{RoseAt, OthersQuiet}
 use Rattle.lvdc_run.specs.Trials.{trial_of}
 use Rattle.lvdc_run.specs.Headline.{Headline}
-use Rattle.lvdc_cli.specs.declared.TheConstants.{LIMIT}
+use Rattle.lvdc_run.specs.declared.job.Engine.TheVariants.{Guarded}
 use Rattle.lvdc_cli.specs.declared.command.Command.{Command}
-use Rattle.lvdc_cli.specs.Words.{command_of, reads, reads_for}
+use Rattle.lvdc_cli.specs.declared.command.Command.TheVariants.{Run}
+use Rattle.lvdc_cli.specs.Words.{command_of, reads, reads_for, limit_of, limit_for}
 use Rattle.lvdc_cli.specs.Commands.{usage_answer, read_fault_answer, too_long_answer, memory_answer, input_of, IsReplyTo, FailsInCommand, IsLeftUnanswered, HoldsFor}
 use Rattle.lvdc_cli.specs.Outside.{SourceState, SinkState, Outside}
 
 -- ---- what was read
 
--- these bytes were read, by whether the command reads: all that the source had left, no more than the limit, and the source is at
+-- these bytes were read, by whether any are asked for: all that the source had left, no more than the limit, and the source is at
 -- its end; or none, and the source is as before
-abbrev pub HasRead : Bool → SourceState → SourceState → List ℕ → Type 0
-HasRead true before after bytes = Consumes before.left after.left bytes × IsAtEnd after.left × (length bytes ≤ LIMIT)
-HasRead false before after bytes = (after ≡ before) × (bytes ≡ [])
+abbrev pub HasReadUpTo : Bool → ℕ → SourceState → SourceState → List ℕ → Type 0
+HasReadUpTo true limit before after bytes = Consumes before.left after.left bytes × IsAtEnd after.left × (length bytes ≤ limit)
+HasReadUpTo false limit before after bytes = (after ≡ before) × (bytes ≡ [])
+
+-- these bytes were read for a command
+abbrev pub HasRead : Command → SourceState → SourceState → List ℕ → Type 0
+HasRead command before after bytes = HasReadUpTo (reads_for command) (limit_of command) before after bytes
 
 -- ---- what is due
 
@@ -34,7 +39,7 @@ HasRead false before after bytes = (after ≡ before) × (bytes ≡ [])
 pub data IsAbandoned {B : Type 0} (device_of : B → Device) (faults : B → ℕ) (words : List (List ℕ)) (before after : Outside B) : Type 0 where
   in_reading : after.devices ≡ before.devices → IsAbandoned device_of faults words before after
   after_reading : (command : Command) (bytes : List ℕ) → command_of words ≡ Some command
-      → HasRead (reads_for command) before.source after.source bytes
+      → HasRead command before.source after.source bytes
       → IsLeftUnanswered device_of faults command bytes before.devices after.devices → IsAbandoned device_of faults words before after
 
 -- The answer that is due, by the words, and by the source and the devices before and after; the sink has no part in it.
@@ -44,20 +49,21 @@ pub data IsDue {B : Type 0} (device_of : B → Device) (faults : B → ℕ) (wor
       → IsDue device_of faults words before after (usage_answer (map device_of after.devices))
   -- a read failed
   read_fault : reads (command_of words) ≡ true → Rose before.source.faults after.source.faults
-      → TookAtMost before.source.left after.source.left LIMIT → after.devices ≡ before.devices
+      → TookAtMost before.source.left after.source.left (limit_for (command_of words)) → after.devices ≡ before.devices
       → IsDue device_of faults words before after (read_fault_answer (map device_of after.devices))
   -- one byte too many was taken
   too_long : reads (command_of words) ≡ true → after.source.faults ≡ before.source.faults
-      → TookCount before.source.left after.source.left (LIMIT + 1) → after.devices ≡ before.devices
+      → TookCount before.source.left after.source.left (limit_for (command_of words) + 1) → after.devices ≡ before.devices
       → IsDue device_of faults words before after (too_long_answer (map device_of after.devices))
   -- all bytes that the command asks for were taken, and this is the reply to them
   replied : (command : Command) (bytes : List ℕ) (reply : Answer) → command_of words ≡ Some command
-      → after.source.faults ≡ before.source.faults → HasRead (reads_for command) before.source after.source bytes
-      → IsReplyTo device_of faults command bytes before.devices after.devices reply → HoldsFor command bytes (map device_of before.devices)
+      → after.source.faults ≡ before.source.faults → HasRead command before.source after.source bytes
+      → IsReplyTo device_of faults command bytes before.devices after.devices reply
+      → HoldsFor command bytes (map device_of before.devices) reply
       → IsDue device_of faults words before after reply
   -- memory is wanting
   wants_memory : IsSome (command_of words) → after.source.faults ≡ before.source.faults
-      → TookAtMost before.source.left after.source.left LIMIT → IsAbandoned device_of faults words before after
+      → TookAtMost before.source.left after.source.left (limit_for (command_of words)) → IsAbandoned device_of faults words before after
       → IsDue device_of faults words before after (memory_answer (map device_of after.devices))
 
 -- ---- what was written
@@ -86,17 +92,17 @@ pub record IsReplied {B : Type 0} (device_of : B → Device) (faults : B → ℕ
   pub command : Command
   pub asked : command_of words ≡ Some command
   pub bytes : List ℕ
-  pub read : HasRead (reads_for command) before.source after.source bytes
+  pub read : HasRead command before.source after.source bytes
   pub text : List ℕ
   pub written : Appends before.sink.written after.sink.written text
   pub reply : IsReplyTo device_of faults command bytes before.devices after.devices (answer_with result text (map device_of after.devices))
-  pub holds : HoldsFor command bytes (map device_of before.devices)
+  pub holds : HoldsFor command bytes (map device_of before.devices) (answer_with result text (map device_of after.devices))
 
 -- The headline holds of the bytes that were read and of the text that was written: where those bytes are a deck, of its trial, of
 -- the status, of that text and of the devices that are left.
 pub record CarriesHeadline {B : Type 0} (device_of : B → Device) (before after : Outside B) (result : ℕ) : Type 0 where
   pub bytes : List ℕ
-  pub read : HasRead true before.source after.source bytes
+  pub read : HasRead (Run Guarded) before.source after.source bytes
   pub text : List ℕ
   pub written : Appends before.sink.written after.sink.written text
   pub headline : (deck : Deck) → deck_of bytes (map device_of before.devices) false ≡ Ok deck

@@ -6,19 +6,21 @@ ghost use Rattle.lvdc_text.specs.Transfer.{TookCount, TookAtMost};
 ghost use Rattle.lvdc_port.specs.Devices.{AreDistinct};
 ghost use Rattle.lvdc_reply.specs.Replies.{Quiet};
 ghost use Rattle.lvdc_run.specs.declared.job.Engine.TheVariants.{Guarded};
-ghost use Rattle.lvdc_run.specs.Runs.{Judges, Stops};
+ghost use Rattle.lvdc_run.specs.Runs.{Judges, Stops, IsStop};
+ghost use Rattle.lvdc_resume.specs.Statuses.{IsInadmissible};
 ghost use Rattle.lvdc_cli.specs.declared.command.Command.TheVariants.{Run};
-ghost use Rattle.lvdc_cli.specs.Words.{texts, command_of, reads};
+ghost use Rattle.lvdc_cli.specs.Words.{texts, command_of, reads, limit_for};
 ghost use Rattle.lvdc_cli.specs.Texts.{usage_text, read_fault_text, too_long_text};
 ghost use Rattle.lvdc_cli.specs.Commands.{answer, Has, room_for};
 ghost use Rattle.lvdc_cli.specs.Outside.{sink_state, outside_of};
 ghost use Rattle.lvdc_cli.specs.Top.{IsAbandoned, IsEnd, IsTold, IsReplied, CarriesHeadline, IsCut, HasFailed, IsUnhindered, IsOfReply, IsRefusal};
 
-use crate::LIMIT;
 use crate::due::due_of;
 use lvdc_port::PortDevice;
+use lvdc_resume::resume_statuses;
 use lvdc_run::{headline_told, statuses_caused};
 use lvdc_session::session_statuses;
+use lvdc_suspend::save_statuses;
 use lvdc_text::{Sink, Source, write_all};
 use std::alloc::Global;
 
@@ -77,15 +79,15 @@ pub fn lvdc<S: Source, K: Sink>(
 
     // 5: exactly where the command judges the script, and finds a step that isn't admissible.
     ensures inadmissible { (bytes : List ℕ) → S.left source.old ≡ Some bytes → result ≡ 5
-        → Has Judges (command_of (texts words.now)) bytes (map device_of devices.old.items) }
-    ensures inadmissible_always { (bytes : List ℕ) → S.left source.old ≡ Some bytes → length bytes ≤ LIMIT → IsUnhindered result
-        → Has Judges (command_of (texts words.now)) bytes (map device_of devices.old.items) → result ≡ 5 }
+        → Has Judges IsInadmissible (command_of (texts words.now)) bytes (map device_of devices.old.items) }
+    ensures inadmissible_always { (bytes : List ℕ) → S.left source.old ≡ Some bytes → length bytes ≤ limit_for (command_of (texts words.now)) → IsUnhindered result
+        → Has Judges IsInadmissible (command_of (texts words.now)) bytes (map device_of devices.old.items) → result ≡ 5 }
 
     // 6: exactly where the command's run stops, which for a command that judges is one without such a step.
     ensures stopped { (bytes : List ℕ) → S.left source.old ≡ Some bytes → result ≡ 6
-        → Has Stops (command_of (texts words.now)) bytes (map device_of devices.old.items) }
-    ensures stopped_always { (bytes : List ℕ) → S.left source.old ≡ Some bytes → length bytes ≤ LIMIT → IsUnhindered result
-        → Has Stops (command_of (texts words.now)) bytes (map device_of devices.old.items) → result ≡ 6 }
+        → Has Stops IsStop (command_of (texts words.now)) bytes (map device_of devices.old.items) }
+    ensures stopped_always { (bytes : List ℕ) → S.left source.old ≡ Some bytes → length bytes ≤ limit_for (command_of (texts words.now)) → IsUnhindered result
+        → Has Stops IsStop (command_of (texts words.now)) bytes (map device_of devices.old.items) → result ≡ 6 }
 
     // 7: only where the source's count rose, and always where it grew.
     ensures read_fault { result ≡ 7 → Rose (S.read_faults source.old) (S.read_faults source.new)
@@ -103,7 +105,7 @@ pub fn lvdc<S: Source, K: Sink>(
     ensures no_memory { result ≡ 9 → Keeps (K.written sink.old) (K.written sink.new)
         × IsSome (command_of (texts words.now))
         × (S.read_faults source.new ≡ S.read_faults source.old)
-        × TookAtMost (S.left source.old) (S.left source.new) LIMIT }
+        × TookAtMost (S.left source.old) (S.left source.new) (limit_for (command_of (texts words.now))) }
     ensures abandoned { result ≡ 9 →
         let outside = outside_of S.left S.read_faults K.written K.write_faults K.room in
         IsAbandoned device_of faults (texts words.now) (outside source.old sink.old devices.old.items) (outside source.new sink.new devices.new.items) }
@@ -116,10 +118,10 @@ pub fn lvdc<S: Source, K: Sink>(
     ensures device_fault_always { (result ≢ 8) → (result ≢ 9) → (result ≢ 10) → Quiet device_of faults devices.old.items devices.new.items }
 
     // 11: exactly where one byte more than the limit was taken.
-    ensures too_long { result ≡ 11 → TookCount (S.left source.old) (S.left source.new) (LIMIT + 1)
+    ensures too_long { result ≡ 11 → TookCount (S.left source.old) (S.left source.new) (limit_for (command_of (texts words.now)) + 1)
         × Appends (K.written sink.old) (K.written sink.new) too_long_text }
     ensures too_long_always { IsSome (S.left source.old) → reads (command_of (texts words.now)) ≡ true →
-        TookCount (S.left source.old) (S.left source.new) (LIMIT + 1) → (result ≡ 11) ⊎ (result ≡ 8) }
+        TookCount (S.left source.old) (S.left source.new) (limit_for (command_of (texts words.now)) + 1) → (result ≡ 11) ⊎ (result ≡ 8) }
 
     // A refusal leaves the devices: they are the same objects as before.
     ensures kept { IsRefusal result → devices.new.items ≡ devices.old.items }
@@ -131,6 +133,8 @@ pub fn lvdc<S: Source, K: Sink>(
     headline_told();
     statuses_caused();
     session_statuses();
+    save_statuses();
+    resume_statuses();
     let due = due_of(alloc, words, source, devices);
     tell(sink, due.status(), due.text())
 }

@@ -1,6 +1,7 @@
 ghost use Rattle.std.specs.Prelude.{◌≡◌, string_bytes};
-ghost use Rattle.lvdc_cli.specs.Words.{texts, flagged, product_of, form_of, soak_number, of_one, of_two, command_of, reads_for};
+ghost use Rattle.lvdc_cli.specs.Words.{texts, flagged, product_of, form_of, soak_number, times_of, of_one, of_two, command_of, reads_for, limit_of};
 
+use crate::{LIMIT, SAVED_LIMIT};
 use lvdc_assemble::Product;
 use lvdc_expand::Form;
 use lvdc_run::Engine;
@@ -17,6 +18,10 @@ pub enum Command {
     Assemble(Product),
     /// `debug`: reads a deck and answers the commands of its debug session.
     Debug,
+    /// `save` with a number: reads a deck, makes so many instruction times and writes the saved text.
+    Save(u64),
+    /// `resume`: reads a saved text and goes on with its run.
+    Resume,
     /// `campaign`: reads a deck and scripts, and runs the deck under each of them.
     Campaign,
     /// `uplink`: reads an image and messages, and answers them and patches it.
@@ -35,9 +40,21 @@ impl Command {
             Command::Soak(_) => false,
             Command::Assemble(_) => true,
             Command::Debug => true,
+            Command::Save(_) => true,
+            Command::Resume => true,
             Command::Campaign => true,
             Command::Uplink => true,
             Command::Expand(_) => true,
+        }
+    }
+
+    /// The most bytes that are read for it.
+    pub fn limit(self) -> usize
+        ensures { result ≡ limit_of self }
+    {
+        match self {
+            Command::Resume => SAVED_LIMIT,
+            _ => LIMIT,
         }
     }
 }
@@ -84,6 +101,14 @@ fn soak_number(word: &String) -> Option<u32>
     }
 }
 
+/// The instruction times after `save`: one to seven decimal digits.
+#[tactic(auto, unfolding(crate::specs::Words::times_of))]
+fn times_of(word: &String) -> Option<u64>
+    ensures { result ≡ times_of (string_bytes word.now) }
+{
+    decimal(word.as_bytes(), 7)
+}
+
 /// What one word asks for.
 fn of_one(word: &String) -> Option<Command>
     ensures { result ≡ of_one (string_bytes word.now) }
@@ -92,6 +117,7 @@ fn of_one(word: &String) -> Option<Command>
         "run" => Some(Command::Run(Engine::Guarded)),
         "asm" => Some(Command::Assemble(Product::Listing)),
         "debug" => Some(Command::Debug),
+        "resume" => Some(Command::Resume),
         "campaign" => Some(Command::Campaign),
         "uplink" => Some(Command::Uplink),
         "macro" => Some(Command::Expand(Form::Source)),
@@ -109,6 +135,10 @@ fn of_two(first: &String, second: &String) -> Option<Command>
         "macro" => form_of(second),
         "soak" => match soak_number(second) {
             Some(number) => Some(Command::Soak(number)),
+            None => None,
+        },
+        "save" => match times_of(second) {
+            Some(times) => Some(Command::Save(times)),
             None => None,
         },
         _ => None,

@@ -3,13 +3,12 @@ ghost use Rattle.lvdc_text.specs.Causes.{Rose};
 ghost use Rattle.lvdc_text.specs.Transfer.{TookCount, TookAtMost};
 ghost use Rattle.lvdc_port.specs.Devices.{AreDistinct};
 ghost use Rattle.lvdc_reply.specs.Answer.{answer_with};
-ghost use Rattle.lvdc_cli.specs.Words.{texts, command_of, reads, reads_for};
+ghost use Rattle.lvdc_cli.specs.Words.{texts, command_of, reads, reads_for, limit_of};
 ghost use Rattle.lvdc_cli.specs.Outside.{SinkState, source_state, outside};
 ghost use Rattle.lvdc_cli.specs.Commands.{room_of, room_for};
 ghost use Rattle.lvdc_cli.specs.Telling.{due_status, due_text};
 ghost use Rattle.lvdc_cli.specs.Top.{HasRead, IsDue};
 
-use crate::LIMIT;
 use crate::command::{Command, read_command};
 use crate::join::reply;
 use lvdc_port::PortDevice;
@@ -69,19 +68,19 @@ fn read_input<S: Source>(
     command: Command,
     source: &mut S,
 ) -> Result<Vec<u8>, ReadEnd>
-    ensures read { IfOk result (λ bytes. HasRead (reads_for command) (source_state (S.left source.old) (S.read_faults source.old))
+    ensures read { IfOk result (λ bytes. HasRead command (source_state (S.left source.old) (S.read_faults source.old))
         (source_state (S.left source.new) (S.read_faults source.new)) bytes.items) }
-    ensures within { IfOk result (λ bytes. length bytes.items ≤ LIMIT) }
+    ensures within { IfOk result (λ bytes. length bytes.items ≤ limit_of command) }
     ensures unread { reads_for command ≡ false → source.new ≡ source.old }
     ensures quiet { result ≢ Err ReadEnd.ReadFault → S.read_faults source.new ≡ S.read_faults source.old }
     ensures read_fault { IsErrOf result ReadEnd.ReadFault → (reads_for command ≡ true) × Rose (S.read_faults source.old) (S.read_faults source.new)
-        × TookAtMost (S.left source.old) (S.left source.new) LIMIT }
+        × TookAtMost (S.left source.old) (S.left source.new) (limit_of command) }
     ensures too_long { IsErrOf result ReadEnd.TooLong → (reads_for command ≡ true)
-        × TookCount (S.left source.old) (S.left source.new) (LIMIT + 1) }
-    ensures no_memory { IsErrOf result ReadEnd.NoMemory → TookAtMost (S.left source.old) (S.left source.new) LIMIT }
+        × TookCount (S.left source.old) (S.left source.new) (limit_of command + 1) }
+    ensures no_memory { IsErrOf result ReadEnd.NoMemory → TookAtMost (S.left source.old) (S.left source.new) (limit_of command) }
 {
     if command.reads() {
-        read_all(alloc, source, LIMIT)
+        read_all(alloc, source, command.limit())
     } else {
         Ok(Vec::new(alloc))
     }

@@ -7,20 +7,24 @@ ghost use Rattle.lvdc_reply.specs.Replies.{Quiet, IsRefused};
 ghost use Rattle.lvdc_run.specs.declared.job.Engine.TheVariants.{Guarded};
 ghost use Rattle.lvdc_run.specs.Trials.{trial_of};
 ghost use Rattle.lvdc_run.specs.Headline.{Headline};
-ghost use Rattle.lvdc_run.specs.Runs.{Judges, Stops};
+ghost use Rattle.lvdc_run.specs.Runs.{Judges, Stops, IsStop};
+ghost use Rattle.lvdc_resume.specs.Statuses.{IsInadmissible};
 ghost use Rattle.lvdc_cli.specs.declared.command.Command.TheVariants.{Run};
+ghost use Rattle.lvdc_cli.specs.Words.{limit_of};
 ghost use Rattle.lvdc_cli.specs.Commands.{command_answer, IsReplyTo, IsLeftUnanswered, RunsThat, room_of, HoldsFor};
 
-use crate::LIMIT;
 use crate::command::Command;
 use lvdc_assemble::assemble_bytes;
 use lvdc_expand::expand_bytes;
+use lvdc_halves::resume_saved;
 use lvdc_patch::patch_bytes;
 use lvdc_port::PortDevice;
 use lvdc_reply::Reply;
+use lvdc_resume::resume_statuses;
 use lvdc_run::{Job, headline_told, run_job, statuses_caused};
 use lvdc_session::{debug_bytes, session_statuses};
 use lvdc_study::study_bytes;
+use lvdc_suspend::{save_bytes, save_statuses};
 use lvdc_word::NoMemory;
 use std::alloc::Global;
 
@@ -31,19 +35,22 @@ fn join(
     bytes: &[u8],
     devices: &mut Vec<Box<dyn PortDevice>>,
 ) -> Result<Reply, NoMemory>
-    requires few { length bytes.now ≤ LIMIT }
+    requires few { length bytes.now ≤ limit_of command }
     requires distinct { AreDistinct (map device_of devices.old.items) }
     ensures reply { IfOk result (λ reply. IsReplyTo device_of faults command bytes.now devices.old.items devices.new.items
         (answer_with reply.status reply.text (map device_of devices.new.items))) }
     ensures unanswered { OnErr result (IsLeftUnanswered device_of faults command bytes.now devices.old.items devices.new.items) }
     ensures room { IfOk result (λ reply. length reply.text ≤ room_of command) }
-    ensures holds { OnOk result (HoldsFor command bytes.now (map device_of devices.old.items)) }
+    ensures holds { IfOk result (λ reply. HoldsFor command bytes.now (map device_of devices.old.items)
+        (answer_with reply.status reply.text (map device_of devices.new.items))) }
 {
     match command {
         Command::Run(engine) => run_job(alloc, Job::Deck(engine), bytes, devices),
         Command::Soak(number) => run_job(alloc, Job::Soak(number), bytes, devices),
         Command::Assemble(product) => assemble_bytes(alloc, product, bytes),
         Command::Debug => debug_bytes(alloc, bytes, devices),
+        Command::Save(times) => save_bytes(alloc, times, bytes, devices),
+        Command::Resume => resume_saved(alloc, bytes, devices),
         Command::Campaign => study_bytes(alloc, bytes, devices),
         Command::Uplink => patch_bytes(alloc, bytes),
         Command::Expand(form) => expand_bytes(alloc, form, bytes),
@@ -59,7 +66,7 @@ pub fn reply(
     bytes: &[u8],
     devices: &mut Vec<Box<dyn PortDevice>>,
 ) -> Result<Reply, NoMemory>
-    requires few { length bytes.now ≤ LIMIT }
+    requires few { length bytes.now ≤ limit_of command }
     requires distinct { AreDistinct (map device_of devices.old.items) }
 
     // Where no device fails status, text and devices are those of the definition.
@@ -75,14 +82,14 @@ pub fn reply(
         (answer_with reply.status reply.text (map device_of devices.new.items))) }
 
     // 5: exactly where the command judges the script, and finds a step that isn't admissible.
-    ensures inadmissible { IfOk result (λ reply. reply.status ≡ 5 → RunsThat Judges command bytes.now (map device_of devices.old.items)) }
+    ensures inadmissible { IfOk result (λ reply. reply.status ≡ 5 → RunsThat Judges IsInadmissible command bytes.now (map device_of devices.old.items)) }
     ensures inadmissible_always { IfOk result (λ reply. reply.status ≢ 10
-        → RunsThat Judges command bytes.now (map device_of devices.old.items) → reply.status ≡ 5) }
+        → RunsThat Judges IsInadmissible command bytes.now (map device_of devices.old.items) → reply.status ≡ 5) }
 
     // 6: exactly where the command's run stops, which for a command that judges is one without such a step.
-    ensures stopped { IfOk result (λ reply. reply.status ≡ 6 → RunsThat Stops command bytes.now (map device_of devices.old.items)) }
+    ensures stopped { IfOk result (λ reply. reply.status ≡ 6 → RunsThat Stops IsStop command bytes.now (map device_of devices.old.items)) }
     ensures stopped_always { IfOk result (λ reply. reply.status ≢ 10
-        → RunsThat Stops command bytes.now (map device_of devices.old.items) → reply.status ≡ 6) }
+        → RunsThat Stops IsStop command bytes.now (map device_of devices.old.items) → reply.status ≡ 6) }
 
     // A refusal leaves the devices: they are the same objects as before. No count grows but where a device fails.
     ensures kept { IfOk result (λ reply. IsRefused reply.status → devices.new.items ≡ devices.old.items) }
@@ -97,11 +104,15 @@ pub fn reply(
     ensures unanswered { OnErr result (IsLeftUnanswered device_of faults command bytes.now devices.old.items devices.new.items) }
     ensures room { IfOk result (λ reply. length reply.text ≤ room_of command) }
 
-    // Of a campaign each row whose script is admissible comes to the same.
-    ensures holds { OnOk result (HoldsFor command bytes.now (map device_of devices.old.items)) }
+    // Of a campaign each row whose script is admissible comes to the same. From what is saved the run can go on; and resumed, over
+    // devices in their first states, it comes to what `run` comes to.
+    ensures holds { IfOk result (λ reply. HoldsFor command bytes.now (map device_of devices.old.items)
+        (answer_with reply.status reply.text (map device_of devices.new.items))) }
 {
     headline_told();
     statuses_caused();
     session_statuses();
+    save_statuses();
+    resume_statuses();
     join(alloc, command, bytes, devices)
 }

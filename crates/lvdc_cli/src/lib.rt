@@ -13,15 +13,22 @@ pub use join::reply;
 pub use laws::source_is_printed;
 use lvdc_debug::LONGEST_SESSION;
 use lvdc_report::LONGEST_REPORT;
+use lvdc_save::LONGEST_SAVED;
 
-/// The input has at most so many bytes.
+/// The input has at most so many bytes, but for `resume`.
 pub const LIMIT: usize = 1_048_576;
 
-/// A sink that tells its room has room for so many bytes: no text but a debug session's is longer than the longest report.
+/// A saved text that is resumed has at most so many.
+pub const SAVED_LIMIT: usize = lvdc_resume::LIMIT;
+
+/// A sink that tells its room has room for so many bytes, but for three commands: no other text is longer than the longest report.
 pub const ROOM: usize = LONGEST_REPORT;
 
 /// The same where a debug session is asked for.
 pub const SESSION_ROOM: usize = LONGEST_SESSION;
 
-#[cfg(test)]
-mod tests;
+/// The same where a run is saved.
+pub const SAVED_ROOM: usize = LONGEST_SAVED;
+
+/// The same where a saved run goes on: its report has the log and the repairs of both halves.
+pub const RESUMED_ROOM: usize = lvdc_resume::ROOM;

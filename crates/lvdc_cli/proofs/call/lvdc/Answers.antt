@@ -1,6 +1,7 @@
 use Rattle.std.proofs.Common.{refl, inl, inr, map}
 use Rattle.lvdc_reply.specs.Answer.{answer_with}
-use Rattle.lvdc_run.specs.Runs.{Judges, Stops}
+use Rattle.lvdc_run.specs.Runs.{Judges, Stops, IsStop}
+use Rattle.lvdc_resume.specs.Statuses.{IsInadmissible}
 use Rattle.lvdc_cli.specs.Telling.{due_status, due_text}
 use Rattle.lvdc_cli.proofs.Ends.{ended, end_usage, end_usage_only, end_read, end_read_fault, end_read_grew, end_cut, end_write_grew, end_memory, end_abandoned, end_quiet, end_too_long, end_took_more, end_kept, end_answer, end_replied, end_headline, end_has, end_is, end_failed}
 use Rattle.lvdc_cli.proofs.call.lvdc.Goals as goal
@@ -18,10 +19,10 @@ returns g c =
       usage_only = λ is. end_usage_only is e;
       unread = c.due_of-due.ensures.unread;
       read = λ reads a b d f. end_read reads a b d f e;
-      inadmissible = λ bytes told is. end_has Judges 5 (inl refl) (record { of_job = c.statuses_caused.ensures.inadmissible; of_session = c.session_statuses.ensures.inadmissible }) bytes told is e;
-      inadmissible_always = λ bytes told small free has. end_is Judges 5 (record { of_job = c.statuses_caused.ensures.inadmissible_always; of_session = c.session_statuses.ensures.inadmissible_always }) bytes told small free has e;
-      stopped = λ bytes told is. end_has Stops 6 (inr refl) (record { of_job = c.statuses_caused.ensures.stopped; of_session = c.session_statuses.ensures.stopped }) bytes told is e;
-      stopped_always = λ bytes told small free has. end_is Stops 6 (record { of_job = c.statuses_caused.ensures.stopped_always; of_session = c.session_statuses.ensures.stopped_always }) bytes told small free has e;
+      inadmissible = λ bytes told is. end_has Judges IsInadmissible 5 (inl refl) (record { of_job = c.statuses_caused.ensures.inadmissible; of_session = c.session_statuses.ensures.inadmissible; of_save = c.save_statuses.ensures.inadmissible; of_resume = c.resume_statuses.ensures.inadmissible }) bytes told is e;
+      inadmissible_always = λ bytes told small free has. end_is Judges IsInadmissible 5 (record { of_job = c.statuses_caused.ensures.inadmissible_always; of_session = c.session_statuses.ensures.inadmissible_always; of_save = c.save_statuses.ensures.inadmissible_always; of_resume = c.resume_statuses.ensures.inadmissible_always }) bytes told small free has e;
+      stopped = λ bytes told is. end_has Stops IsStop 6 (inr refl) (record { of_job = c.statuses_caused.ensures.stopped; of_session = c.session_statuses.ensures.stopped; of_save = c.save_statuses.ensures.stopped; of_resume = c.resume_statuses.ensures.stopped }) bytes told is e;
+      stopped_always = λ bytes told small free has. end_is Stops IsStop 6 (record { of_job = c.statuses_caused.ensures.stopped_always; of_session = c.session_statuses.ensures.stopped_always; of_save = c.save_statuses.ensures.stopped_always; of_resume = c.resume_statuses.ensures.stopped_always }) bytes told small free has e;
       read_fault = λ is. end_read_fault is e;
       read_fault_always = λ grew. end_read_grew grew e;
       write_fault = λ is. end_cut is e;

@@ -1,7 +1,7 @@
 use Rattle.std.proofs.Common.{Err, ap, refl, ◌∙◌}
 use Rattle.lvdc_cli.specs.Words.{reads}
 use Rattle.lvdc_cli.specs.Top.{read_fault, too_long, wants_memory, in_reading}
-use Rattle.lvdc_cli.proofs.Dues.{some_command, replied_over, wanting_over}
+use Rattle.lvdc_cli.proofs.Dues.{some_command, at_most_asked, count_asked, replied_over, wanting_over}
 use Rattle.lvdc_cli.proofs.due.due_for.Goals as goal
 
 pub returns-in-Ok-reply-clause-due : goal.returns-in-Ok-reply-clause-due
@@ -17,14 +17,14 @@ returns-in-Ok-clause-due g c = λ words before after asked.
 pub returns-in-Err-ReadFault-clause-due : goal.returns-in-Err-ReadFault-clause-due
 returns-in-Err-ReadFault-clause-due g c = λ words before after asked.
     let h = c.in-Err-ReadFault.ensures.read_fault (ap Err c.in-Err-ReadFault.field-0-is) in
-    read_fault (ap reads asked ∙ h.0) h.1 h.2 refl
+    read_fault (ap reads asked ∙ h.0) h.1 (at_most_asked _ _ words c.args.command asked h.2) refl
 
 pub returns-in-Err-TooLong-clause-due : goal.returns-in-Err-TooLong-clause-due
 returns-in-Err-TooLong-clause-due g c = λ words before after asked.
     let h = c.in-Err-TooLong.ensures.too_long (ap Err c.in-Err-TooLong.field-0-is) in
-    too_long (ap reads asked ∙ h.0) (c.in-Err-TooLong.ensures.quiet (λ e. cc)) h.1 refl
+    too_long (ap reads asked ∙ h.0) (c.in-Err-TooLong.ensures.quiet (λ e. cc)) (count_asked _ _ words c.args.command asked h.1) refl
 
 pub returns-clause-due : goal.returns-clause-due
 returns-clause-due g c = λ words before after asked.
     wants_memory (some_command _ c.args.command asked) (c.in-Err-NoMemory.ensures.quiet (λ e. cc))
-    (c.in-Err-NoMemory.ensures.no_memory (ap Err c.in-Err-NoMemory.field-0-is)) (in_reading refl)
+    (at_most_asked _ _ words c.args.command asked (c.in-Err-NoMemory.ensures.no_memory (ap Err c.in-Err-NoMemory.field-0-is))) (in_reading refl)

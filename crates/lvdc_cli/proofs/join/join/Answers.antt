@@ -33,6 +33,12 @@ returns-in-Uplink-clause-reply g c =
 pub returns-in-Debug-clause-reply : goal.returns-in-Debug-clause-reply
 returns-in-Debug-clause-reply g c = rw c.in-Debug.is c.debug_bytes.ensures.reply
 
+pub returns-in-Save-clause-reply : goal.returns-in-Save-clause-reply
+returns-in-Save-clause-reply g c = rw c.in-Save.is c.save_bytes.ensures.reply
+
+pub returns-in-Resume-clause-reply : goal.returns-in-Resume-clause-reply
+returns-in-Resume-clause-reply g c = rw c.in-Resume.is c.resume_saved.ensures.reply
+
 pub returns-in-Expand-clause-reply : goal.returns-in-Expand-clause-reply
 returns-in-Expand-clause-reply g c =
     let f = c.in-Expand.form in
@@ -44,4 +50,4 @@ pub returns-in-Soak-clause-room : goal.returns-in-Soak-clause-room
 returns-in-Soak-clause-room g c = rw c.in-Soak.is c.run_job-in-Soak.ensures.room
 
 pub returns-in-Soak-clause-holds : goal.returns-in-Soak-clause-holds
-returns-in-Soak-clause-holds g c = rw c.in-Soak.is (whatever c.run_job-in-Soak.result tt)
+returns-in-Soak-clause-holds g c = rw c.in-Soak.is (whatever c.run_job-in-Soak.result (λ reply. tt))

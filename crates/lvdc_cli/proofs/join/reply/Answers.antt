@@ -1,6 +1,7 @@
 use Rattle.std.proofs.lemmas.Result.{IfOk-weaker}
 use Rattle.std.proofs.Common.{inl, inr, refl}
-use Rattle.lvdc_run.specs.Runs.{Judges, Stops}
+use Rattle.lvdc_run.specs.Runs.{Judges, Stops, IsStop}
+use Rattle.lvdc_resume.specs.Statuses.{IsInadmissible}
 use Rattle.lvdc_cli.proofs.Answered.{reply_answer, reply_quiet, reply_kept}
 use Rattle.lvdc_cli.proofs.Commands.{reply_headline, reply_runs, reply_is}
 use Rattle.lvdc_cli.proofs.join.reply.Goals as goal
@@ -14,19 +15,19 @@ returns-clause-headline g c =
 
 pub returns-clause-inadmissible : goal.returns-clause-inadmissible
 returns-clause-inadmissible g c =
-    IfOk-weaker c.join.result _ _ (λ r h is. reply_runs c.args.command c.args.bytes.now Judges 5 (inl refl) (record { of_job = c.statuses_caused.ensures.inadmissible; of_session = c.session_statuses.ensures.inadmissible }) _ is h) c.join.ensures.reply
+    IfOk-weaker c.join.result _ _ (λ r h is. reply_runs c.args.command c.args.bytes.now Judges IsInadmissible 5 (inl refl) (record { of_job = c.statuses_caused.ensures.inadmissible; of_session = c.session_statuses.ensures.inadmissible; of_save = c.save_statuses.ensures.inadmissible; of_resume = c.resume_statuses.ensures.inadmissible }) _ is h) c.join.ensures.reply
 
 pub returns-clause-inadmissible_always : goal.returns-clause-inadmissible_always
 returns-clause-inadmissible_always g c =
-    IfOk-weaker c.join.result _ _ (λ r h free runs. reply_is c.args.command c.args.bytes.now Judges 5 (record { of_job = c.statuses_caused.ensures.inadmissible_always; of_session = c.session_statuses.ensures.inadmissible_always }) _ free h runs) c.join.ensures.reply
+    IfOk-weaker c.join.result _ _ (λ r h free runs. reply_is c.args.command c.args.bytes.now Judges IsInadmissible 5 (record { of_job = c.statuses_caused.ensures.inadmissible_always; of_session = c.session_statuses.ensures.inadmissible_always; of_save = c.save_statuses.ensures.inadmissible_always; of_resume = c.resume_statuses.ensures.inadmissible_always }) _ free h runs) c.join.ensures.reply
 
 pub returns-clause-stopped : goal.returns-clause-stopped
 returns-clause-stopped g c =
-    IfOk-weaker c.join.result _ _ (λ r h is. reply_runs c.args.command c.args.bytes.now Stops 6 (inr refl) (record { of_job = c.statuses_caused.ensures.stopped; of_session = c.session_statuses.ensures.stopped }) _ is h) c.join.ensures.reply
+    IfOk-weaker c.join.result _ _ (λ r h is. reply_runs c.args.command c.args.bytes.now Stops IsStop 6 (inr refl) (record { of_job = c.statuses_caused.ensures.stopped; of_session = c.session_statuses.ensures.stopped; of_save = c.save_statuses.ensures.stopped; of_resume = c.resume_statuses.ensures.stopped }) _ is h) c.join.ensures.reply
 
 pub returns-clause-stopped_always : goal.returns-clause-stopped_always
 returns-clause-stopped_always g c =
-    IfOk-weaker c.join.result _ _ (λ r h free runs. reply_is c.args.command c.args.bytes.now Stops 6 (record { of_job = c.statuses_caused.ensures.stopped_always; of_session = c.session_statuses.ensures.stopped_always }) _ free h runs) c.join.ensures.reply
+    IfOk-weaker c.join.result _ _ (λ r h free runs. reply_is c.args.command c.args.bytes.now Stops IsStop 6 (record { of_job = c.statuses_caused.ensures.stopped_always; of_session = c.session_statuses.ensures.stopped_always; of_save = c.save_statuses.ensures.stopped_always; of_resume = c.resume_statuses.ensures.stopped_always }) _ free h runs) c.join.ensures.reply
 
 pub returns-clause-kept : goal.returns-clause-kept
 returns-clause-kept g c = IfOk-weaker c.join.result _ _ (λ r h refused. reply_kept _ refused h) c.join.ensures.reply

@@ -2,7 +2,7 @@
 ghost use Rattle.std.specs.Prelude.{map};
 ghost use Rattle.lvdc_port.specs.Devices.{AreDistinct};
 
-use crate::{SESSION_ROOM, lvdc};
+use lvdc_cli::{SESSION_ROOM, lvdc};
 use lvdc_port::PortDevice;
 use lvdc_text::{MemorySink, MemorySource};
 use std::alloc::Global;
@@ -17,6 +17,7 @@ mod ports;
 mod programs;
 mod refusals;
 mod replies;
+mod saves;
 mod sessions;
 mod soaks;
 mod sources;

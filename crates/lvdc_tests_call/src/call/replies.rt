@@ -1,6 +1,6 @@
 //! Replies to commands, over bytes that are there.
 use super::{command, deck};
-use crate::{LIMIT, read_command, reply};
+use lvdc_cli::{LIMIT, read_command, reply};
 use std::test::Fail;
 
 #[test]

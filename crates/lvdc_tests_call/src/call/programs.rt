@@ -7,7 +7,7 @@ use std::test::Fail;
 
 /// Discretes from port 000, halved by a subroutine that a HOP constant calls, to the telemetry of port 017. Faults wander through
 /// all 21 copies, one at a time: the line i, from 0, turns over a bit of copy i mod 3 + 1 of module i mod 7 + 1 at step 2i.
-fn halving(alloc: Global) -> Result<Vec<u8>, Fail> {
+pub(super) fn halving(alloc: Global) -> Result<Vec<u8>, Fail> {
     let mut deck = String::from_str(
         alloc,
         "SOURCE\n* DISCRETES, HALVED BY A SUBROUTINE, TO TELEMETRY\n        CODE\nMAIN    PIO   400\n        STO   DISC\n        TNZ   WORK\nDONE    TRA   DONE\nWORK    HOP   =HSCALE\nBACK    CLA   SUM\n        PIO   017\n        TRA   MAIN\n        CODE\nSCALE   STO   776      RETURN\n        CLA   DISC\n        MPY   HALF\n        CLA   SUM\n        CLA   SUM\n        CLA   SUM\n        CLA   SUM\n        ADD   775\n        STO   SUM\n        HOP   776\n        WORDS 0,01\nDISC    BSS   1\nSUM     OCT   0\n        WORDS 0,17\nHALF    OCT   100000000\n        END\nSTART MAIN\nPORTS\nTAPE 000 000000010 000000020\nFAULTS\n",

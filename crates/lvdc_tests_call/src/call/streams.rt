@@ -1,6 +1,6 @@
 //! Sources and sinks that fail, and words that ask for nothing.
 use super::{answer_alone, command, deck};
-use crate::{SESSION_ROOM, lvdc};
+use lvdc_cli::{SESSION_ROOM, lvdc};
 use lvdc_text::{FaultySink, FaultySource, MemorySink, MemorySource, read_all};
 use std::test::Fail;
 
