@@ -1,0 +1,129 @@
+"""What texts of lvdc say, read anew for the tests of the page, in the words and forms that the page has to show."""
+
+MANY = {1: "timers", 2: "locators", 3: "decoders", 4: "selectors", 5: "accumulators", 6: "multipliers", 7: "copies of the exchange"}
+LANES = [f"copy-{module}-{copy}" for module in range(1, 8) for copy in range(1, 4)] + ["memory-0", "memory-1", "ports", "end"]
+COPY_FAULTS = ["FLIP", "FORCE", "LAG", "DEAF"]
+SECTIONS = ["START", "SIMPLEX", "PORTS", "FAULTS", "ORDER", "RUN", "DEBUG", "CAMPAIGN"]
+REGISTERS = ["TIMES", "PLACE", "DATA", "DUP", "A", "PQ", "SAVER"]
+WORDS = ["A", "PQ", "SAVER"]
+VERDICTS = ["ADMISSIBLE", "LOGIC", "MEMORY"]
+
+
+def counted(count, one):
+    return f"{count} {one}" if count == "1" else f"{count} {one}s"
+
+
+def end_sentence(line, times):
+    """The sentence for an END line."""
+    match line.split():
+        case ["END", "DONE"]:
+            return f"The run made all {counted(times, 'instruction time')} that it was asked for."
+        case ["END", "DEVICE", step, port]:
+            return f"At step {step} the device at port {port} failed. The run ends there."
+        case ["END", "STOPPED", step, "SHIFT"]:
+            return f"At step {step} the program came to a shift that has no meaning. That stops the machine."
+        case ["END", "STOPPED", step, "EXM"]:
+            return f"At step {step} the program came to EXM, an instruction that stops this machine."
+        case ["END", "STOPPED", step, "MEMORY", *place]:
+            return f"At step {step} a read of the word at {' '.join(place)} found no good copy of it. The machine stops there."
+        case ["END", "INADMISSIBLE", step, "LOGIC", module]:
+            return (f"At step {step} two of the three {MANY[int(module)]} were wrong. "
+                    "The run ends there: the voter can no longer tell which is right.")
+        case ["END", "INADMISSIBLE", step, "MEMORY", *place]:
+            return (f"At step {step} the word at {' '.join(place)} was to be read, and it can't be recovered any more. "
+                    "The run ends there: the memories no longer tell what it was.")
+    raise ValueError(line)
+
+
+def decimal(word):
+    """A word as a signed number, as the page writes it."""
+    value = int(word, 8)
+    return f"{value - 2 ** 26 if value >= 2 ** 25 else value:,}".replace("-", "−")
+
+
+def sections(deck):
+    """The words of the lines of a deck after its program, by the section that they stand in."""
+    lines = [it.split() for it in deck.split("\n") if not it.startswith("*")]
+    found, section = {}, ""
+    for words in lines[lines.index(["END"]) + 1:]:
+        if words and words[0] in SECTIONS and section != "DEBUG":
+            section = words[0]
+        elif words:
+            found.setdefault(section, []).append(words)
+    return found
+
+
+def faults(deck):
+    return sections(deck).get("FAULTS", [])
+
+
+def copy_faults(deck):
+    """How many fault lines name a copy."""
+    return sum(words[0] in COPY_FAULTS for words in faults(deck))
+
+
+def lanes(deck, report):
+    """How many marks each lane has: fault lines, unplug lines, repairs, exchanges, the end."""
+    found = dict.fromkeys(LANES, 0)
+    for words in faults(deck):
+        found[f"copy-{words[1]}-{words[2]}" if words[0] in COPY_FAULTS else f"memory-{words[1]}"] += 1
+    found["ports"] += sum(words[0] == "UNPLUG" for words in sections(deck).get("PORTS", []))
+    for words in map(str.split, report):
+        if words[0] == "REPAIR":
+            found[f"memory-{words[5]}"] += 1
+        elif words[0] in ("IN", "OUT"):
+            found["ports"] += 1
+        elif words[0] == "END":
+            found["end"] += 1
+    return found
+
+
+def place_of(words):
+    """The place that a fault line of a memory names."""
+    if words[0] == "DEAD":
+        return f"all of pair {words[2]}"
+    return f"{words[2]} {words[3].zfill(2)} {words[4].zfill(3)}"
+
+
+def places(deck, report):
+    """The places of the memories at which anything happened, where every pair is duplex."""
+    told = told_of(report)
+    named = {place_of(words) for words in faults(deck) if words[0] not in COPY_FAULTS}
+    return sorted(named | {it[1] for it in told["repairs"]} | set(told["lost"]))
+
+
+def exchange(words):
+    return [words[1], "read" if words[0] == "IN" else "written", words[2], words[3], decimal(words[3])]
+
+
+def repair(words):
+    return [words[1], " ".join(words[2:5]), words[5], "the other from then on" if words[6:] else "as before"]
+
+
+def told_of(report):
+    """What the lines of a report say."""
+    rows = [it.split() for it in report]
+    registers = [it.split(" ", 1) for it in report if it.split()[0] in REGISTERS]
+    words = [(" ".join(it[1:4]), it[4]) for it in rows if it[0] == "MEM"]
+    return {
+        "end": end_sentence(report[1], dict(registers)["TIMES"]),
+        "asWritten": report[1],
+        "registers": [[name, value, decimal(value) if name in WORDS else ""] for name, value in registers],
+        "log": [exchange(it) for it in rows if it[0] in ("IN", "OUT")],
+        "memory": [[address, word, decimal(word)] for address, word in words if word != "?"],
+        "lost": [address for address, word in words if word == "?"],
+        "counts": [it[1:] for it in rows if it[0] == "WRONG"],
+        "repairs": [repair(it) for it in rows if it[0] == "REPAIR"],
+        "unread": 0,
+    }
+
+
+def answers(session):
+    """The commands of a session, each with its answer."""
+    return [it.rstrip("\n").split("\n", 1) for it in session.split("\n> ")[1:]]
+
+
+def cells(rows):
+    """The marks of a campaign by verdict: the verdict, whether the program comes to the same, and the name."""
+    words = [it.split() for it in rows]
+    return sorted(([it[2], str(it[-1] == "SAME").lower(), it[1]] for it in words), key=lambda it: VERDICTS.index(it[0]))
