@@ -22,14 +22,6 @@ fn damaged_loop(alloc: Global) -> Result<Vec<u8>, Fail> {
     deck(alloc, "17000 10000", "000000005", faults)
 }
 
-/// A tape and a recorder in their first states.
-fn tape_and_recorder(alloc: Global) -> Result<Vec<Box<dyn PortDevice>>, Fail> {
-    let mut devices: Vec<Box<dyn PortDevice>> = Vec::new(alloc);
-    devices.push(Box::new(alloc, Tape::new(alloc, 0))?)?;
-    devices.push(Box::new(alloc, Recorder::new(alloc, 0o17))?)?;
-    Ok(devices)
-}
-
 /// The words that the last of the devices holds.
 fn last_words(alloc: Global, devices: &Vec<Box<dyn PortDevice>>) -> Result<String, Fail> {
     let device = devices.last().ok_or("no device")?;
@@ -42,16 +34,9 @@ fn last_words(alloc: Global, devices: &Vec<Box<dyn PortDevice>>) -> Result<Strin
     Ok(words)
 }
 
-/// The saved text of a run after so many times.
-fn saved(
-    rt: &impl Abort,
-    alloc: Global,
-    times: u64,
-    deck: Vec<u8>,
-    devices: &mut Vec<Box<dyn PortDevice>>,
-) -> Result<Vec<u8>, Fail> {
-    let line = format!(in alloc; "save {times}")?;
-    let (status, text) = answer(alloc, line.as_str(), deck, devices)?;
+/// The saved text of a run without devices after so many times.
+fn saved(rt: &impl Abort, alloc: Global, line: &str, deck: Vec<u8>) -> Result<Vec<u8>, Fail> {
+    let (status, text) = answer_alone(alloc, line, deck)?;
     assert_eq!(rt; status, 0, "{text}");
     Ok(text.into_bytes())
 }
@@ -67,7 +52,7 @@ fn whole_of(alloc: Global, bytes: &[u8]) -> Result<String, Fail> {
 #[test]
 fn an_addition_is_saved_after_a_time_and_goes_on(rt: HostRuntime) -> Result<(), Fail> {
     let alloc = rt.alloc();
-    let text = saved(&rt, alloc, 1, addition(alloc)?, &mut Vec::new(alloc))?;
+    let text = saved(&rt, alloc, "save 1", addition(alloc)?)?;
     let whole = whole_of(alloc, text.as_slice())?;
     for line in [
         "LVDC SAVE 1\nSTEPS 3\nCOUNT 3\n",
@@ -84,7 +69,7 @@ fn an_addition_is_saved_after_a_time_and_goes_on(rt: HostRuntime) -> Result<(), 
 #[test]
 fn a_repair_and_the_selection_are_saved(rt: HostRuntime) -> Result<(), Fail> {
     let alloc = rt.alloc();
-    let text = saved(&rt, alloc, 1, damaged_loop(alloc)?, &mut Vec::new(alloc))?;
+    let text = saved(&rt, alloc, "save 1", damaged_loop(alloc)?)?;
     let whole = whole_of(alloc, text.as_slice())?;
     for line in ["\nSELECT 1 0 0 0\n", "\nREPAIR 1 0 01 000 0 SWITCH\n"] {
         assert!(rt; whole.as_str().find(line).is_some(), "{line}in\n{whole}");
@@ -99,8 +84,8 @@ fn a_repair_and_the_selection_are_saved(rt: HostRuntime) -> Result<(), Fail> {
 fn a_run_is_saved_at_its_start_and_at_its_count(rt: HostRuntime) -> Result<(), Fail> {
     let alloc = rt.alloc();
     let (status, report) = answer_alone(alloc, "run", addition(alloc)?)?;
-    for times in [0, 3] {
-        let text = saved(&rt, alloc, times, addition(alloc)?, &mut Vec::new(alloc))?;
+    for line in ["save 0", "save 3"] {
+        let text = saved(&rt, alloc, line, addition(alloc)?)?;
         answers(&rt, alloc, "resume", text, status, report.as_str())?;
     }
     let deck = addition(alloc)?;
@@ -117,14 +102,21 @@ fn a_stop_in_the_last_time_that_is_made_is_reported(rt: HostRuntime) -> Result<(
 #[test]
 fn a_program_goes_on_from_each_of_its_times(rt: HostRuntime) -> Result<(), Fail> {
     let alloc = rt.alloc();
-    let mut devices = tape_and_recorder(alloc)?;
+    let mut devices: Vec<Box<dyn PortDevice>> = Vec::new(alloc);
+    devices.push(Box::new(alloc, Tape::new(alloc, 0))?)?;
+    devices.push(Box::new(alloc, Recorder::new(alloc, 0o17))?)?;
     let (_, report) = answer(alloc, "run", halving(alloc)?, &mut devices)?;
     let left = last_words(alloc, &devices)?;
-    for times in 0..41 {
-        let mut first = tape_and_recorder(alloc)?;
-        let text = saved(&rt, alloc, times, halving(alloc)?, &mut first)?;
-        let mut then = tape_and_recorder(alloc)?;
-        let (status, whole) = answer(alloc, "resume", text, &mut then)?;
+    for times in 0..41u64 {
+        let mut first: Vec<Box<dyn PortDevice>> = Vec::new(alloc);
+        first.push(Box::new(alloc, Tape::new(alloc, 0))?)?;
+        first.push(Box::new(alloc, Recorder::new(alloc, 0o17))?)?;
+        let line = format!(in alloc; "save {times}")?;
+        let (_, text) = answer(alloc, line.as_str(), halving(alloc)?, &mut first)?;
+        let mut then: Vec<Box<dyn PortDevice>> = Vec::new(alloc);
+        then.push(Box::new(alloc, Tape::new(alloc, 0))?)?;
+        then.push(Box::new(alloc, Recorder::new(alloc, 0o17))?)?;
+        let (status, whole) = answer(alloc, "resume", text.into_bytes(), &mut then)?;
         assert_eq!(rt; status, 0, "{times}");
         assert_eq!(rt; whole.as_str(), report.as_str(), "{times}");
         let words = last_words(alloc, &then)?;
@@ -136,18 +128,16 @@ fn a_program_goes_on_from_each_of_its_times(rt: HostRuntime) -> Result<(), Fail>
 #[test]
 fn a_device_that_fails_while_it_is_given_its_words_is_named(rt: HostRuntime) -> Result<(), Fail> {
     let alloc = rt.alloc();
-    let text = saved(
-        &rt,
-        alloc,
-        20,
-        halving(alloc)?,
-        &mut tape_and_recorder(alloc)?,
-    )?;
+    let mut first: Vec<Box<dyn PortDevice>> = Vec::new(alloc);
+    first.push(Box::new(alloc, Tape::new(alloc, 0))?)?;
+    first.push(Box::new(alloc, Recorder::new(alloc, 0o17))?)?;
+    let (_, text) = answer(alloc, "save 20", halving(alloc)?, &mut first)?;
     let mut devices: Vec<Box<dyn PortDevice>> = Vec::new(alloc);
     devices.push(Box::new(alloc, Tape::new(alloc, 0))?)?;
     let fails = Vec::from_slice(alloc, &[1])?;
-    devices.push(Box::new(alloc, Failing::new(Recorder::new(alloc, 0o17), fails))?)?;
-    let (status, told) = answer(alloc, "resume", text, &mut devices)?;
+    let recorder = Failing::new(Recorder::new(alloc, 0o17), fails);
+    devices.push(Box::new(alloc, recorder)?)?;
+    let (status, told) = answer(alloc, "resume", text.into_bytes(), &mut devices)?;
     assert_eq!(rt; status, 10);
     assert_eq!(rt; told.as_str(), "REFUSED Device 017\n");
     Ok(())
