@@ -2,7 +2,7 @@
 use Rattle.std.proofs.Common.{◌≡◌, ◌==◌, ◌&&◌, ◌||◌, true≢false, ℕ, ◌+◌, ◌*◌, ◌/◌, ◌%◌, ◌^◌, ◌<◌, Bool, true, false, cond, Option, None, Some, Result, Ok, nat_lt, refl, sym, ap, subst, arith}
 use Rattle.std.proofs.lemmas.Bool.{ltb-true, eqb-true}
 use Rattle.lvdc_map.specs.Address.{Spot}
-use Rattle.lvdc_isa.specs.Instr.{operation, fourteen, is_shift, code_of}
+use Rattle.lvdc_isa.specs.Instr.{operation, fourteen, is_shift, operation_code}
 use Rattle.lvdc_isa.specs.declared.op.Op.{Op}
 use Rattle.lvdc_isa.specs.declared.op.Op.TheVariants.{Hop, Mpy, Sub, Div, Tnz, Mph, And, Add, Tra, Xor, Pio, Sto, Tmi, Rsu, Cds, Shf, WrongShift, Exm, Cla}
 use Rattle.lvdc_source.specs.Items.{takes}
@@ -59,7 +59,7 @@ shf : (n address : ℕ) → number_address Shf n ≡ Some address → fourteen a
 shf n address h = shf-by n address (is_shift n) refl h
 
 pub meant : (plan : Plan) (line : ℕ) (op : Op) (here : Spot) (assumed : DataPlace) (progress : Progress) (operand : Operand) (x : OperandAddress)
-    → takes op operand ≡ true → operand_address plan line op here assumed progress operand ≡ Ok x → operation (code_of op) x.address ≡ op
+    → takes op operand ≡ true → operand_address plan line op here assumed progress operand ≡ Ok x → operation (operation_code op) x.address ≡ op
 meant plan line Hop here assumed progress operand x t h = refl
 meant plan line Mpy here assumed progress operand x t h = refl
 meant plan line Sub here assumed progress operand x t h = refl

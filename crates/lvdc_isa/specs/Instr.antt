@@ -27,35 +27,35 @@ abbrev pub instr : ℕ → Instr
 instr s = record { op = operation (s / 2 ^ 9) (s % 2 ^ 9); address = s % 2 ^ 9 }
 
 -- the code of an operation
-abbrev pub code_of : Op → ℕ
-code_of Hop = 0
-code_of Mpy = 1
-code_of Sub = 2
-code_of Div = 3
-code_of Tnz = 4
-code_of Mph = 5
-code_of And = 6
-code_of Add = 7
-code_of Tra = 8
-code_of Xor = 9
-code_of Pio = 10
-code_of Sto = 11
-code_of Tmi = 12
-code_of Rsu = 13
-code_of Cds = 14
-code_of Shf = 14
-code_of WrongShift = 14
-code_of Exm = 14
-code_of Cla = 15
+abbrev pub operation_code : Op → ℕ
+operation_code Hop = 0
+operation_code Mpy = 1
+operation_code Sub = 2
+operation_code Div = 3
+operation_code Tnz = 4
+operation_code Mph = 5
+operation_code And = 6
+operation_code Add = 7
+operation_code Tra = 8
+operation_code Xor = 9
+operation_code Pio = 10
+operation_code Sto = 11
+operation_code Tmi = 12
+operation_code Rsu = 13
+operation_code Cds = 14
+operation_code Shf = 14
+operation_code WrongShift = 14
+operation_code Exm = 14
+operation_code Cla = 15
 
 -- the syllable of an instruction
 abbrev pub syllable_of : Instr → ℕ
-syllable_of i = code_of i.op * 2 ^ 9 + i.address
+syllable_of i = operation_code i.op * 2 ^ 9 + i.address
 
 -- an instruction that some syllable is: its address has nine bits, and its operation is what its code means at that address
 pub record IsInstruction (i : Instr) : Type 0 where
   pub nine_bits : i.address < 2 ^ 9
-  pub meant : operation (code_of i.op) i.address ≡ i.op
+  pub meant : operation (operation_code i.op) i.address ≡ i.op
 
 -- the ten operations that take an operand word
 abbrev pub takes_operand : Op → Bool

@@ -1,5 +1,5 @@
 ghost use Rattle.std.specs.Prelude.{◌≡◌, ◌<◌};
-ghost use Rattle.lvdc_isa.specs.Instr.{code_of, takes_operand};
+ghost use Rattle.lvdc_isa.specs.Instr.{operation_code, takes_operand};
 
 /// What an instruction does. The eighteen mnemonics and their codes are this project's profile of the published list:
 /// none names `WrongShift`, which is a shift whose pattern means nothing.
@@ -67,7 +67,7 @@ impl Op {
 
     /// The four bits of the operation's code.
     pub(crate) fn code(self) -> u16
-        ensures value { result ≡ code_of self }
+        ensures value { result ≡ operation_code self }
         ensures small { result < 16 }
     {
         match self {

@@ -19,6 +19,12 @@ pub record HasBank (banks : ℕ) (at : Spot) : Type 0 where
   pub small : at.pair < 8
   pub there : is_there banks at ≡ true
 
+-- a place in the modules of a pair
+pub record IsPlace (place : Spot) : Type 0 where
+  pub pair : place.pair < 4
+  pub sector : place.sector < 16
+  pub loc : place.loc < 256
+
 -- the place of an address in the modules of its pair
 abbrev pub home : Spot → Spot
 home at = record at { pair = at.pair % 4 }

@@ -2,15 +2,15 @@
 use Rattle.std.specs.Prelude.{◌≡◌, ℕ, ◌/◌, ◌%◌, ◌^◌, Bool, true, ◌==◌, ◌||◌, if◌then◌else◌}
 use Rattle.lvdc_map.specs.Address.{Spot}
 use Rattle.lvdc_map.specs.Banks.{bank_of, is_there}
-use Rattle.lvdc_map.specs.Hop.{HopConstant}
+use Rattle.lvdc_map.specs.Hop.{HopConstant, bit}
 use Rattle.lvdc_map.specs.declared.operand.OperandKind.{OperandKind}
 use Rattle.lvdc_map.specs.declared.operand.OperandKind.TheVariants as kinds
 use Rattle.lvdc_map.specs.declared.place.Place.{Place}
 use Rattle.lvdc_map.specs.declared.place.Place.TheVariants.{Memory, Pq, Saver}
 
--- A9, the highest of the nine bits of an operand address
+-- A9, bit 8 of an operand address and the highest of its nine
 abbrev pub a9 : ℕ → Bool
-a9 address = address / 2 ^ 8 == 1
+a9 address = bit address 8
 
 -- the low eight bits of an operand address: a location, and of PIO the port
 abbrev pub low_bits : ℕ → ℕ

@@ -30,13 +30,15 @@ impl Model for Address {
 impl Address {
     ghost use Rattle.std.specs.Prelude.{nat_lt};
     ghost use Rattle.lvdc_map.specs.Address.{number_of, spot_at};
+    ghost use Rattle.lvdc_map.specs.Banks.{home, IsPlace};
 
     /// How many addresses the eight banks have.
     pub const COUNT: usize = 32768;
 
     /// The address with these numbers, where its bank is below 8 and its sector below 20 octal.
     pub fn new(pair: u8, sector: u8, loc: u8) -> Option<Address>
-        ensures { SomeIff result ((pair < 8) × (sector < 16)) (record { pair = pair; sector = sector; loc = loc }) }
+        ensures { SomeIff result ((pair < 8) × (sector < 16))
+            (record { pair = pair; sector = sector; loc = loc }) }
     {
         if pair < 8 && sector < 16 {
             Some(Address { pair, sector, loc })
@@ -69,6 +71,18 @@ impl Address {
             pair: (number / 4096) as u8,
             sector: (number / 256 % 16) as u8,
             loc: (number % 256) as u8,
+        }
+    }
+
+    /// Its physical place, the same in each twin that holds it: its bank is the pair, 0 to 3.
+    pub fn home(self) -> Address
+        ensures value { result ≡ home self }
+        ensures place { IsPlace result }
+        ensures bank { self.pair < 8 }
+    {
+        Address {
+            pair: self.pair % 4,
+            ..self
         }
     }
 }

@@ -25,7 +25,7 @@ impl Model for Banks {
 }
 
 impl Banks {
-    ghost use Rattle.lvdc_map.specs.Banks.{is_simplex, bank_of, is_there};
+    ghost use Rattle.lvdc_map.specs.Banks.{is_simplex, bank_of, is_there, holds};
 
     /// Every pair is duplex.
     pub const DUPLEX: Banks = Banks { simplex: 0 };
@@ -69,12 +69,25 @@ impl Banks {
     {
         at.pair < 4 || self.simplex(at.pair - 4)
     }
+
+    /// Does this twin, 0 or 1, hold this address? Both hold those of a duplex pair, one holds those of a simplex pair.
+    pub fn holds(self, twin: u8, at: Address) -> bool
+        ensures { result ≡ holds self twin at }
+    {
+        if self.simplex(at.pair % 4) {
+            twin == at.pair / 4
+        } else {
+            at.pair < 4
+        }
+    }
 }
 
 /// The bank that the number of a module means is there, and both twins hold the addresses of a duplex pair that are there.
 pub fn banks_are_held()
-    ensures there { (banks number : ℕ) (at : Spot) → number < 8 → at.pair ≡ bank_of banks number → HasBank banks at }
-    ensures duplex { (banks twin : ℕ) (at : Spot) → HasBank banks at → is_simplex banks (at.pair % 4) ≡ false → holds banks twin at ≡ true }
+    ensures there { (banks number : ℕ) (at : Spot) → number < 8 → at.pair ≡ bank_of banks number
+        → HasBank banks at }
+    ensures duplex { (banks twin : ℕ) (at : Spot) → HasBank banks at
+        → is_simplex banks (at.pair % 4) ≡ false → holds banks twin at ≡ true }
 {}
 
 const _: () = prove!(Banks::DUPLEX.simplex == 0);

@@ -32,11 +32,30 @@ impl Model for Hop {
 
     ghost Value = { HopConstant };
 
-    ghost view = { λ h. record { imod = h.imod; isec = h.isec; syl = h.syl; loc = h.loc; dmod = h.dmod; dsec = h.dsec; dupin = h.dupin; dupdn = h.dupdn } };
+    ghost view = { λ h. record {
+      imod = h.imod;
+      isec = h.isec;
+      syl = h.syl;
+      loc = h.loc;
+      dmod = h.dmod;
+      dsec = h.dsec;
+      dupin = h.dupin;
+      dupdn = h.dupdn;
+    } };
 
-    ghost invariant = { λ h. (h.imod < 8) × (h.isec < 16) × (h.syl < 2) × (h.dmod < 8) × (h.dsec < 16) };
+    ghost invariant = { λ h. (h.imod < 8) × (h.isec < 16) × (h.syl < 2)
+        × (h.dmod < 8) × (h.dsec < 16) };
 
-    ghost inverse = { λ h. record { imod = h.imod; isec = h.isec; syl = h.syl; loc = h.loc; dmod = h.dmod; dsec = h.dsec; dupin = h.dupin; dupdn = h.dupdn } };
+    ghost inverse = { λ h. record {
+      imod = h.imod;
+      isec = h.isec;
+      syl = h.syl;
+      loc = h.loc;
+      dmod = h.dmod;
+      dsec = h.dsec;
+      dupin = h.dupin;
+      dupdn = h.dupdn;
+    } };
 }
 
 impl Hop {

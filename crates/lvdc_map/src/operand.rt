@@ -28,11 +28,11 @@ impl OperandKind {
     }
 }
 
-/// Is A9, the highest of the nine bits of an address, 1?
+/// Is A9, bit 8 of an address and the highest of its nine, 1?
 pub fn is_a9(address: u16) -> bool
     ensures { result ≡ a9 address }
 {
-    address >> 8 == 1
+    (address >> 8) & 1 == 1
 }
 
 /// The low eight bits of an address: a location, and of PIO the port.

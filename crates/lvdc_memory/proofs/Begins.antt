@@ -8,7 +8,8 @@ use Rattle.std.proofs.lemmas.List.Folds.{list_any-append}
 use Rattle.lvdc_map.specs.Address.{Spot, is_same}
 use Rattle.lvdc_map.specs.Memory.{word_at}
 use Rattle.lvdc_twin.specs.Calls.{ChangesAreLocal}
-use Rattle.lvdc_twin.specs.Store.{Store, IsStore, IsPlace, nothing, stored_in, stuck_in, with_cell, with_stuck_bits, with_dead}
+use Rattle.lvdc_map.specs.Banks.{IsPlace}
+use Rattle.lvdc_twin.specs.Store.{Store, IsStore, nothing, stored_in, stuck_in, with_cell, with_stuck_bits, with_dead}
 use Rattle.lvdc_twin.specs.Store as store
 use Rattle.lvdc_twin.specs.declared.stuck.Stuck.{Stuck}
 use Rattle.lvdc_fault.specs.Damage.{stuck_by, stuck_after, stuck, kills, is_dead}

@@ -3,12 +3,12 @@ use Rattle.std.proofs.Common.{◌≡◌, ℕ, zero, suc, ◌-◌, ◌/◌, ◌%�
 use Rattle.std.specs.Prelude.{◌==◌}
 use Rattle.lvdc_word.specs.Cell.{code_of, with_stuck}
 use Rattle.lvdc_map.specs.Address.{Spot, is_same}
-use Rattle.lvdc_map.specs.Banks.{is_simplex, home, holds}
+use Rattle.lvdc_map.specs.Banks.{is_simplex, home, holds, IsPlace}
 use Rattle.lvdc_map.specs.Memory.{Memory, word_at, stored, IsMemory}
 use Rattle.lvdc_twin.specs.Calls as calls
 use Rattle.lvdc_twin.specs.Calls.{ChangesAreLocal}
 use Rattle.lvdc_twin.specs.Store as store
-use Rattle.lvdc_twin.specs.Store.{Store, IsStore, IsPlace, stored_in, stuck_in, shown_in, survives}
+use Rattle.lvdc_twin.specs.Store.{Store, IsStore, stored_in, stuck_in, shown_in, survives}
 use Rattle.lvdc_twin.specs.declared.both_bad.BothBad.{BothBad}
 use Rattle.lvdc_twin.specs.declared.read_out.ReadOut.{ReadOut}
 use Rattle.lvdc_fault.specs.Ledger.{Intended}

@@ -4,7 +4,8 @@ use Rattle.std.specs.declared.option.Option.{Option}
 use Rattle.std.specs.declared.option.Option.TheVariants.{None, Some}
 use Rattle.lvdc_word.specs.Cell.{with_stuck}
 use Rattle.lvdc_map.specs.Address.{Spot, is_same}
-use Rattle.lvdc_twin.specs.Store.{Store, IsPlace, nothing, stuck_in}
+use Rattle.lvdc_map.specs.Banks.{IsPlace}
+use Rattle.lvdc_twin.specs.Store.{Store, nothing, stuck_in}
 use Rattle.lvdc_twin.specs.Store as store
 use Rattle.lvdc_twin.specs.declared.stuck.Stuck.{Stuck}
 use Rattle.lvdc_fault.specs.Damage.{stuck, is_dead}

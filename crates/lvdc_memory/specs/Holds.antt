@@ -6,7 +6,8 @@ use Rattle.lvdc_map.specs.Memory.{Memory, word_at, memory_of, IsMemory}
 use Rattle.lvdc_map.specs.declared.placed.Placed.{Placed}
 use Rattle.lvdc_twin.specs.Cells.{cells_of}
 use Rattle.lvdc_twin.specs.declared.held.Held.{Held}
-use Rattle.lvdc_twin.specs.Store.{Store, IsPlace, stored_in, stuck_in, is_dead}
+use Rattle.lvdc_map.specs.Banks.{IsPlace}
+use Rattle.lvdc_twin.specs.Store.{Store, stored_in, stuck_in, is_dead}
 use Rattle.lvdc_fault.specs.Ledger.{Intended}
 use Rattle.lvdc_fault.specs.declared.event.Event.{Event}
 use Rattle.lvdc_model.specs.Trial.{Trial}

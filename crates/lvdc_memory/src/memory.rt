@@ -1,9 +1,9 @@
 //! The memory of the voted machine.
 
 ghost use Rattle.std.specs.Prelude.{◌≡◌, ℕ, ◌<◌, true, All, List, [], ◌∷◌, ◌++◌, length, Option, None, Some, IfOk, IfSome, OnErr};
-ghost use Rattle.lvdc_map.specs.Banks.{is_there};
+ghost use Rattle.lvdc_map.specs.Banks.{is_there, IsPlace};
 ghost use Rattle.lvdc_map.specs.Memory.{Memory, word_at, stored, memory_of, AllThere};
-ghost use Rattle.lvdc_twin.specs.Store.{IsStore, IsPlace, stuck_in, with_stuck_bits};
+ghost use Rattle.lvdc_twin.specs.Store.{IsStore, stuck_in, with_stuck_bits};
 ghost use Rattle.lvdc_fault.specs.declared.event.Event.{Event};
 ghost use Rattle.lvdc_fault.specs.Recoverable.{is_recovered};
 ghost use Rattle.lvdc_fault.specs.Script.{is_active, active_at};
@@ -17,7 +17,7 @@ ghost use Rattle.lvdc_memory.specs.Holds.{Carries, Holds};
 
 use lvdc_fault::{Active, Event, Ledger, Script, active_suffice};
 use lvdc_map::{Address, Banks, Placed, same_address};
-use lvdc_twin::{BothBad, ReadOut, Twins, changes_are_local, home};
+use lvdc_twin::{BothBad, ReadOut, Twins, changes_are_local};
 use lvdc_word::{Cell, NoMemory, Word};
 use std::alloc::Global;
 use std::marker::Model;
@@ -91,7 +91,7 @@ impl VotedMemory {
         ensures { (o : Trial) (in_force : Option ℕ) (t : model.Twins) (i : Memory) → Holds o in_force self.now t i
             → result ≡ is_recovered o.opening.banks at (word_at i at) (λ twin. shows_since in_force o t twin at) }
     {
-        let place = home(at);
+        let place = at.home();
         self.ledger
             .recoverable(at, self.twins.view(0, place), self.twins.view(1, place))
     }

@@ -13,11 +13,11 @@ kind_of code =
     else (if code == 2 then MultiplyHigh else Divide))
 
 -- the code of a kind of work
-abbrev pub code_of : Kind → ℕ
-code_of Idle = 0
-code_of Multiply = 1
-code_of MultiplyHigh = 2
-code_of Divide = 3
+abbrev pub kind_code : Kind → ℕ
+kind_code Idle = 0
+kind_code Multiply = 1
+kind_code MultiplyHigh = 2
+kind_code Divide = 3
 
 -- the fields of a word: the kind in bits 1 and 0, the phases left in bits 6 to 2, NEG in bit 7, SAT in bit 8, the others without a name
 abbrev pub control_of : ℕ → Control
@@ -33,7 +33,7 @@ control_of w =
 -- the word of these fields
 abbrev pub control_word : Control → ℕ
 control_word c =
-    c.unnamed * 2 ^ 9 + bit_of c.saturated * 2 ^ 8 + bit_of c.negative * 2 ^ 7 + c.count * 2 ^ 2 + code_of c.kind
+    c.unnamed * 2 ^ 9 + bit_of c.saturated * 2 ^ 8 + bit_of c.negative * 2 ^ 7 + c.count * 2 ^ 2 + kind_code c.kind
 
 -- work that has so many phases before it, and no sign noted
 abbrev pub begun : Kind → ℕ → Control

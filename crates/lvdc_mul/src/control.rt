@@ -1,5 +1,5 @@
 ghost use Rattle.std.specs.Prelude.{◌≡◌, ◌<◌, ◌^◌};
-ghost use Rattle.lvdc_mul.specs.Control.{kind_of, code_of, control_of, control_word, begun, counted_down, is_last};
+ghost use Rattle.lvdc_mul.specs.Control.{kind_of, kind_code, control_of, control_word, begun, counted_down, is_last};
 
 use lvdc_word::Word;
 
@@ -31,7 +31,7 @@ impl Kind {
 
     /// The code of the kind.
     fn code(self) -> u32
-        ensures value { result ≡ code_of self }
+        ensures value { result ≡ kind_code self }
         ensures small { result < 4 }
     {
         match self {

@@ -1,6 +1,6 @@
 ghost use Rattle.std.specs.Prelude.{◌≡◌, ◌<◌, ◌≤◌, ◌^◌, Some, IfSome};
 ghost use Rattle.lvdc_modules.specs.States.{latches_of};
-ghost use Rattle.lvdc_twin.specs.Store.{IsPlace};
+ghost use Rattle.lvdc_map.specs.Banks.{IsPlace};
 ghost use Rattle.lvdc_orders.specs.Events.{STEPS, IsCopy, IsSpan};
 ghost use Rattle.lvdc_script_lines.specs.Fields.{decimal_in, octal_in, step_in, twin_in, pair_in, cell_in, target_in, index_in, span_in, place_in};
 

@@ -7,7 +7,8 @@ use Rattle.lvdc_word.specs.Cell.{code_of}
 use Rattle.lvdc_map.specs.Address.{Spot, is_same, spot_at}
 use Rattle.lvdc_map.specs.Memory.{Memory, filled_with, stored, word_at}
 use Rattle.lvdc_twin.specs.Cells.{NamesPlace, laid, cells_of, are_rising}
-use Rattle.lvdc_twin.specs.Store.{IsPlace, slot_of}
+use Rattle.lvdc_map.specs.Banks.{IsPlace}
+use Rattle.lvdc_twin.specs.Store.{slot_of}
 use Rattle.lvdc_twin.specs.declared.held.Held.{Held}
 use Rattle.lvdc_twin.proofs.Places.{slot_of_place, same-from}
 use Rattle.lvdc_model.specs.Twins.{Twins}

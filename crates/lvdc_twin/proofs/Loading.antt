@@ -4,10 +4,10 @@ use Rattle.std.specs.Prelude.{◌==◌, nat_lt}
 use Rattle.std.proofs.lemmas.Bool.{eqb-true, eqb-false, eq-eqb, ne_eqb, ltb-true, ltb-false}
 use Rattle.lvdc_word.specs.Cell.{code_of}
 use Rattle.lvdc_map.specs.Address.{Spot, is_same}
-use Rattle.lvdc_map.specs.Banks.{is_simplex, home, holds, held_at}
+use Rattle.lvdc_map.specs.Banks.{is_simplex, home, holds, held_at, IsPlace}
 use Rattle.lvdc_map.specs.Memory.{Memory, word_at, stored, loaded, memory_of, filled_with}
 use Rattle.lvdc_map.specs.declared.placed.Placed.{Placed}
-use Rattle.lvdc_twin.specs.Store.{Store, IsPlace, IsStore, stored_in, stuck_in, is_dead}
+use Rattle.lvdc_twin.specs.Store.{Store, IsStore, stored_in, stuck_in, is_dead}
 use Rattle.lvdc_twin.specs.Calls.{Begins, after_write, with_held}
 use Rattle.lvdc_twin.proofs.Writes.{and_false, kept-with_held, stored-after_write}
 

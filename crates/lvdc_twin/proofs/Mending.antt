@@ -5,11 +5,11 @@ use Rattle.std.proofs.lemmas.Bool.{true≢false, false≢true, eqb-true, eq-eqb,
 use Rattle.lvdc_word.specs.Cell.{code_of, is_good, word_in}
 use Rattle.lvdc_word.proofs.Parity.{good-code, word-code}
 use Rattle.lvdc_map.specs.Address.{Spot, is_same}
-use Rattle.lvdc_map.specs.Banks.{is_simplex, is_there, home}
+use Rattle.lvdc_map.specs.Banks.{is_simplex, is_there, home, IsPlace}
 use Rattle.lvdc_map.proofs.Holders.{holds_duplex}
 use Rattle.lvdc_twin.specs.declared.both_bad.BothBad.{BothBad}
 use Rattle.lvdc_twin.specs.declared.read_out.ReadOut.{ReadOut}
-use Rattle.lvdc_twin.specs.Store.{Store, IsPlace, IsStore, stored_in, is_dead, shown_in, selected_in, with_word, survives}
+use Rattle.lvdc_twin.specs.Store.{Store, IsStore, stored_in, is_dead, shown_in, selected_in, with_word, survives}
 use Rattle.lvdc_twin.specs.Calls.{answer_by_one, answer_by_two, repaired_by, switched_by, after_answer, shows_word, is_repaired, Finds, Mends, NoneGood}
 use Rattle.lvdc_twin.proofs.Places.{stored-with_word}
 use Rattle.lvdc_twin.proofs.Writes.{and_false, kept-with_word}

@@ -6,7 +6,8 @@ use Rattle.std.proofs.lemmas.List.{get_or-set_same, get_or-set_other}
 use Rattle.lvdc_word.specs.Cell.{code_of}
 use Rattle.lvdc_map.specs.Address.{Spot, is_same}
 use Rattle.lvdc_map.proofs.Addresses.{same-spot}
-use Rattle.lvdc_twin.specs.Store.{Store, IsPlace, IsStore, nothing, slot_of, stored_in, stuck_in, is_dead, with_cell, with_word, with_stuck_bits, with_dead}
+use Rattle.lvdc_map.specs.Banks.{IsPlace}
+use Rattle.lvdc_twin.specs.Store.{Store, IsStore, nothing, slot_of, stored_in, stuck_in, is_dead, with_cell, with_word, with_stuck_bits, with_dead}
 use Rattle.lvdc_twin.specs.declared.stuck.Stuck.{Stuck}
 
 -- ---- places

@@ -4,8 +4,8 @@ use Rattle.std.specs.Prelude.{◌==◌}
 use Rattle.std.proofs.lemmas.List.{length-set}
 use Rattle.lvdc_word.specs.Cell.{code_of}
 use Rattle.lvdc_map.specs.Address.{Spot, is_same}
-use Rattle.lvdc_map.specs.Banks.{home, holds}
-use Rattle.lvdc_twin.specs.Store.{Store, IsPlace, IsStore, slot_of, stored_in, is_dead, with_cell, with_word}
+use Rattle.lvdc_map.specs.Banks.{home, holds, IsPlace}
+use Rattle.lvdc_twin.specs.Store.{Store, IsStore, slot_of, stored_in, is_dead, with_cell, with_word}
 use Rattle.lvdc_twin.specs.Calls.{with_held, after_write}
 use Rattle.lvdc_twin.proofs.Places.{stored-with_word}
 

@@ -2,12 +2,12 @@
 use Rattle.std.specs.Prelude.{◌≡◌, ℕ, ◌-◌, ◌/◌, ◌<◌, Bool, true, false, not, ◌&&◌, ◌==◌, if◌then◌else◌, List, [], ◌∷◌, Option, Some, None, IfSome, Result, Ok, Err, IsOkAnd}
 use Rattle.lvdc_word.specs.Cell.{code_of, is_good, word_in}
 use Rattle.lvdc_map.specs.Address.{Spot, is_same}
-use Rattle.lvdc_map.specs.Banks.{is_simplex, home, holds, held_at}
+use Rattle.lvdc_map.specs.Banks.{is_simplex, home, holds, held_at, IsPlace}
 use Rattle.lvdc_map.specs.Memory.{word_at, memory_of}
 use Rattle.lvdc_map.specs.declared.placed.Placed.{Placed}
 use Rattle.lvdc_twin.specs.declared.both_bad.BothBad.{BothBad}
 use Rattle.lvdc_twin.specs.declared.read_out.ReadOut.{ReadOut}
-use Rattle.lvdc_twin.specs.Store.{Store, IsPlace, nothing, stored_in, stuck_in, is_dead, selected_in, shown_in, survives, with_word, with_selected, IsStore, with_cell, with_stuck_bits, with_dead}
+use Rattle.lvdc_twin.specs.Store.{Store, nothing, stored_in, stuck_in, is_dead, selected_in, shown_in, survives, with_word, with_selected, IsStore, with_cell, with_stuck_bits, with_dead}
 use Rattle.lvdc_twin.specs.declared.stuck.Stuck.{Stuck}
 
 -- ---- a new memory

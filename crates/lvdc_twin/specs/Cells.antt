@@ -3,7 +3,8 @@ use Rattle.std.specs.Prelude.{◌≡◌, ◌≢◌, ℕ, ◌<◌, Bool, true, fa
 use Rattle.lvdc_word.specs.Cell.{code_of}
 use Rattle.lvdc_map.specs.Address.{Spot}
 use Rattle.lvdc_map.specs.Memory.{Memory, filled_with, stored, word_at}
-use Rattle.lvdc_twin.specs.Store.{Store, IsPlace, nothing, slot_of, stored_in, stuck_in, is_dead}
+use Rattle.lvdc_map.specs.Banks.{IsPlace}
+use Rattle.lvdc_twin.specs.Store.{Store, nothing, slot_of, stored_in, stuck_in, is_dead}
 use Rattle.lvdc_twin.specs.declared.held.Held.{Held}
 
 -- it names a place of one of the two twins: a pair, a sector and a location

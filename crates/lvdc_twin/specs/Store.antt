@@ -13,12 +13,6 @@ pub record Store : Type 0 where
   pub dead : List Bool
   pub selected : List ℕ
 
--- a place in the modules of a pair
-pub record IsPlace (place : Spot) : Type 0 where
-  pub pair : place.pair < 4
-  pub sector : place.sector < 16
-  pub loc : place.loc < 256
-
 -- each table is whole, and each selection is of a twin
 pub record IsStore (t : Store) : Type 0 where
   pub cells : length t.cells ≡ 32768

@@ -2,7 +2,8 @@ ghost use Rattle.std.specs.Prelude.{◌≡◌, ℕ, ◌<◌, length, slice_index
 ghost use Rattle.lvdc_map.specs.Address.{Spot};
 ghost use Rattle.lvdc_map.specs.Memory.{word_at};
 ghost use Rattle.lvdc_twin.specs.Cells.{NamesPlace, cells_of, HasCells, AreHeld};
-ghost use Rattle.lvdc_twin.specs.Store.{IsStore, IsPlace, slot_of, stored_in};
+ghost use Rattle.lvdc_map.specs.Banks.{IsPlace};
+ghost use Rattle.lvdc_twin.specs.Store.{IsStore, slot_of, stored_in};
 
 use crate::Twins;
 use crate::twins::{PLACES, nothing_stuck, slot, zeros};

@@ -12,4 +12,4 @@ pub use both_bad::BothBad;
 pub use held::Held;
 pub use read_out::ReadOut;
 pub use stuck::Stuck;
-pub use twins::{Twins, changes_are_local, home, survivor_is_read};
+pub use twins::{Twins, changes_are_local, survivor_is_read};

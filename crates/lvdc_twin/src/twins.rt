@@ -1,8 +1,8 @@
 ghost use Rattle.std.specs.Prelude.{◌≡◌, ℕ, ◌-◌, ◌/◌, ◌%◌, ◌^◌, ◌<◌, true, false, bit_xor, Ok, IfOk, IfSome, IsErr, OnErr, ◌↔◌, [], length, slice_index, slice_index_or};
 ghost use Rattle.lvdc_word.specs.Cell.{code_of};
-ghost use Rattle.lvdc_map.specs.Banks.{is_there, is_simplex, home};
+ghost use Rattle.lvdc_map.specs.Banks.{is_there, is_simplex, home, IsPlace};
 ghost use Rattle.lvdc_map.specs.Memory.{AllThere};
-ghost use Rattle.lvdc_twin.specs.Store.{IsStore, IsPlace, nothing, slot_of, stored_in, stuck_in, is_dead, selected_in, shown_in, survives, with_cell, with_word, with_stuck_bits, with_dead, with_selected};
+ghost use Rattle.lvdc_twin.specs.Store.{IsStore, nothing, slot_of, stored_in, stuck_in, is_dead, selected_in, shown_in, survives, with_cell, with_word, with_stuck_bits, with_dead, with_selected};
 ghost use Rattle.lvdc_twin.specs.Calls.{Begins, answer_by_one, answer_by_two, answer_of, after_answer, shows_word, Finds, Mends, NoneGood, with_held, after_write, ChangesAreLocal};
 
 use crate::{BothBad, ReadOut, Stuck};
@@ -86,7 +86,7 @@ impl Twins {
         ensures place { IsPlace (home at) }
         ensures bank { at.pair < 8 }
     {
-        let place = home(at);
+        let place = at.home();
         if self.banks.simplex(place.pair) {
             answer_by_one(self.view(at.pair / 4, place))
         } else {
@@ -232,13 +232,8 @@ impl Twins {
         ensures place { IsPlace (home at) }
         ensures after { self.new ≡ with_held self.old twin at word }
     {
-        let place = home(at);
-        let held = if self.banks.simplex(place.pair) {
-            twin == at.pair / 4
-        } else {
-            at.pair < 4
-        };
-        if held {
+        let place = at.home();
+        if self.banks.holds(twin, at) {
             self.store(twin, place, word);
         }
     }
@@ -340,16 +335,4 @@ pub(crate) fn slot(twin: u8, place: Address) -> usize
     ensures place { IsPlace place }
 {
     usize::from(twin) * PLACES + place.number()
-}
-
-/// The physical place of an address, in each twin that holds it.
-pub fn home(at: Address) -> Address
-    ensures value { result ≡ home at }
-    ensures place { IsPlace result }
-    ensures bank { at.pair < 8 }
-{
-    Address {
-        pair: at.pair % 4,
-        ..at
-    }
 }

@@ -105,7 +105,8 @@ impl Cell {
     /// The cell whose bits under the mask are those of `value`.
     pub fn stuck(self, mask: Cell, value: Cell) -> Cell
         ensures value { result ≡ with_stuck self mask value }
-        ensures bits { (i : ℕ) → bit_at result i ≡ (if bit_at mask i == 1 then bit_at value i else bit_at self i) }
+        ensures bits { (i : ℕ) → bit_at result i
+            ≡ (if bit_at mask i == 1 then bit_at value i else bit_at self i) }
     {
         Cell {
             bits: self.bits ^ ((self.bits ^ value.bits) & mask.bits),

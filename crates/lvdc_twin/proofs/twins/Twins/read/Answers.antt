@@ -1,8 +1,8 @@
 -- The law of repair, and where no cell is good.
 use Rattle.std.proofs.Common.{◌≡◌, ap, true, false, sym, ◌∙◌, ◌%◌, rules}
 use Rattle.std.proofs.lemmas.Bool.{true≢false}
-use Rattle.lvdc_map.specs.Banks.{is_simplex, home}
-use Rattle.lvdc_twin.specs.Store.{Store, IsStore, IsPlace}
+use Rattle.lvdc_map.specs.Banks.{is_simplex, home, IsPlace}
+use Rattle.lvdc_twin.specs.Store.{Store, IsStore}
 use Rattle.lvdc_twin.proofs.Mending.{mends, banks-after_answer, unchanged-after_answer, none_good-one, none_good-two}
 use Rattle.lvdc_twin.proofs.twins.Twins.read.Goals as goal
 
