@@ -1,5 +1,5 @@
 -- Lines tell an image exactly where they are its lines.
-use Rattle.std.proofs.Common.{◌≡◌, ℕ, ◌+◌, ◌<◌, ◌≤◌, Bool, true, false, ltb, ◌==◌, List, [], ◌∷◌, ◌++◌, map, codes, Option, None, Some, Result, Ok, Err, All, IfSome, refl, sym, ap, ◌∙◌, subst, arith, if◌then◌else◌}
+use Rattle.std.proofs.Common.{◌≡◌, ◌≢◌, ℕ, ◌+◌, ◌<◌, ◌≤◌, Bool, true, false, ltb, ◌==◌, List, [], ◌∷◌, ◌++◌, map, codes, Option, None, Some, Result, Ok, Err, All, IfSome, IfErr, refl, sym, ap, ◌∙◌, subst, arith, if◌then◌else◌}
 use Rattle.std.specs.Str.{bytes_eq}
 use Rattle.std.proofs.lemmas.Bool.{ltb-true, eqb-true}
 use Rattle.std.proofs.lemmas.List.Elements.{All-head, All-tail}
@@ -10,8 +10,8 @@ use Rattle.lvdc_map.specs.Hop.{HopConstant, IsHopConstant}
 use Rattle.lvdc_map.specs.Memory.{are_rising, AllThere}
 use Rattle.lvdc_map.specs.declared.placed.Placed.{Placed}
 use Rattle.lvdc_image.specs.declared.fault.ImageFault.{ImageFault}
-use Rattle.lvdc_image.specs.declared.fault.ImageFault.TheVariants.{BadImageLine}
-use Rattle.lvdc_image.specs.Image.{Contents, IsPlaced, IsImage, word_line, start_line, simplex_line, simplex_lines, image_lines}
+use Rattle.lvdc_image.specs.declared.fault.ImageFault.TheVariants.{BadImageLine, AddressOrder, BadWord, NoMemory as WantsMemory}
+use Rattle.lvdc_image.specs.Image.{Contents, IsPlaced, IsImage, IsSound, word_line, start_line, simplex_line, simplex_lines, image_lines}
 use Rattle.lvdc_text.specs.Lines.{NumberedLine}
 use Rattle.lvdc_image.specs.Reading.{texts, words_from, image_with, banks_in, by_banks, after_start, start_number, start_of, by_start, from_start, image_of}
 use Rattle.lvdc_image.proofs.Parts.{both, heads}
@@ -193,3 +193,15 @@ image_of-printed image start banks words s b w rising there duplex placed ok sma
       duplex = λ none. duplex (s ∙ none);
     } in
     image_of-again lines image is (subst (λ (ps : List Placed). All IsPlaced ps) w placed) (subst (λ (h : Option HopConstant). IfSome h IsHopConstant) s ok) (subst (λ (n : ℕ). n < 16) b small) e
+
+-- a call that refuses lines as the definition does refuses those of an image for want of memory alone
+pub refused-image : (lines : List NumberedLine) (image : Contents) (result : Result Contents ImageFault) → IsSound image → texts lines ≡ image_lines image
+    → IfErr result (λ fault. fault ≢ WantsMemory → image_of lines ≡ Err fault) → IfErr result (λ fault. fault ≡ WantsMemory)
+refused-image lines image (Ok read) can e refusal = tt
+refused-image lines image (Err WantsMemory) can e refusal = refl
+refused-image lines image (Err (BadImageLine line)) can e refusal =
+    let told = image_of-again lines image can.sound can.words can.start can.banks e in let not = refusal (λ same. absurd (cc)) in absurd (cc)
+refused-image lines image (Err (AddressOrder line)) can e refusal =
+    let told = image_of-again lines image can.sound can.words can.start can.banks e in let not = refusal (λ same. absurd (cc)) in absurd (cc)
+refused-image lines image (Err (BadWord line)) can e refusal =
+    let told = image_of-again lines image can.sound can.words can.start can.banks e in let not = refusal (λ same. absurd (cc)) in absurd (cc)

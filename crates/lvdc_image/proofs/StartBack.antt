@@ -1,5 +1,5 @@
 -- A START line and its constant.
-use Rattle.std.proofs.Common.{◌≡◌, ℕ, ◌%◌, ◌^◌, ◌<◌, Bool, true, false, ltb, eqb, ◌&&◌, ◌==◌, List, ◌++◌, codes, length, take, drop, Option, None, Some, Ok, Err, refl, sym, ap, ◌∙◌, arith, if◌then◌else◌}
+use Rattle.std.proofs.Common.{◌≡◌, ℕ, ◌%◌, ◌^◌, ◌<◌, Bool, ltb, eqb, ◌&&◌, ◌==◌, List, ◌++◌, codes, length, take, drop, Option, None, Some, Ok, Err, refl, sym, ap, ◌∙◌, arith, if◌then◌else◌}
 use Rattle.std.specs.Str.{bytes_eq}
 use Rattle.std.proofs.lemmas.Bool.{lt-ltb, ltb-true, eqb-true, eq-eqb}
 use Rattle.std.proofs.lemmas.List.{take-append-drop}

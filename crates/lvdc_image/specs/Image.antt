@@ -1,7 +1,7 @@
 -- Images and their texts.
-use Rattle.std.specs.Prelude.{◌≡◌, ℕ, ◌+◌, ◌^◌, ◌<◌, true, ◌==◌, List, [], ◌∷◌, ◌++◌, map, codes, Option, None, Some, if◌then◌else◌}
+use Rattle.std.specs.Prelude.{◌≡◌, ℕ, ◌+◌, ◌^◌, ◌<◌, true, ◌==◌, List, [], ◌∷◌, ◌++◌, map, codes, All, Option, None, Some, IfSome, if◌then◌else◌}
 use Rattle.lvdc_map.specs.Address.{IsAddress}
-use Rattle.lvdc_map.specs.Hop.{HopConstant, word_of_hop}
+use Rattle.lvdc_map.specs.Hop.{HopConstant, IsHopConstant, word_of_hop}
 use Rattle.lvdc_map.specs.Banks.{is_simplex}
 use Rattle.lvdc_map.specs.Memory.{are_rising, AllThere}
 use Rattle.lvdc_map.specs.declared.placed.Placed.{Placed}
@@ -23,6 +23,13 @@ pub record IsImage (image : Contents) : Type 0 where
   pub rising : are_rising image.words ≡ true
   pub there : AllThere image.banks image.words
   pub duplex : image.start ≡ None → image.banks ≡ 0
+
+-- an image, with its numbers in their ranges
+pub record IsSound (image : Contents) : Type 0 where
+  pub sound : IsImage image
+  pub words : All IsPlaced image.words
+  pub start : IfSome image.start IsHopConstant
+  pub banks : image.banks < 16
 
 -- the line of a word: bank, sector, location and the word itself, in octal
 abbrev pub word_line : Placed → List ℕ

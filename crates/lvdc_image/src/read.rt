@@ -2,7 +2,7 @@ ghost use Rattle.std.specs.Prelude.{◌≡◌, ◌≢◌, ◌+◌, ◌-◌, ◌^
 ghost use Rattle.std.specs.Str.{bytes_eq};
 ghost use Rattle.lvdc_map.specs.Memory.{are_rising, AllThere};
 ghost use Rattle.lvdc_text.specs.Lines.{IsWithin, part_of, numbered};
-ghost use Rattle.lvdc_image.specs.Image.{image_lines};
+ghost use Rattle.lvdc_image.specs.Image.{Contents, IsSound, image_lines};
 ghost use Rattle.lvdc_image.specs.Reading.{entry_in, placed_of, after_end, words_from, image_with, after_start, from_start, image_of};
 ghost use Rattle.lvdc_image.specs.declared.fault.ImageFault.TheVariants.{NoMemory as WantsMemory};
 
@@ -181,6 +181,9 @@ pub fn read_image(alloc: Global, bytes: &[u8], lines: &[Line]) -> Result<Image, 
         image_of (numbered bytes.now lines.now) ≡ Err fault) }
     // Each image has one list of lines.
     ensures one { IfOk result (λ image. map (part_of bytes.now) lines.now ≡ image_lines image) }
+    // The lines of an image are refused for want of memory alone.
+    ensures each { (image : Contents) → IsSound image → map (part_of bytes.now) lines.now ≡ image_lines image
+        → IfErr result (λ fault. fault ≡ WantsMemory) }
 {
     read_by_version(alloc, bytes, lines)
 }
