@@ -74,15 +74,15 @@ pub record Finds (w : ℕ) (shown : ℕ → ℕ) (answer : Result ReadOut BothBa
   pub twin : IfSome out.repaired (λ twin. twin < 2)
   pub bad : (twin : ℕ) → twin < 2 → is_repaired out.repaired twin ≡ not (is_good (shown twin))
 
--- a twin that isn't dead and shows a bad cell is mended by a read
-abbrev pub is_mended : Store → ℕ → Spot → Bool
-is_mended t twin place = not (is_dead t twin place.pair) && not (is_good (shown_in t twin place))
+-- a twin that isn't dead and shows a bad cell: a read mends it
+abbrev pub is_mendable : Store → ℕ → Spot → Bool
+is_mendable t twin place = not (is_dead t twin place.pair) && not (is_good (shown_in t twin place))
 
 -- the read found the word; each twin that it mended stores the word's code there, and every other stored cell is as before
 pub record Mends (t u : Store) (place : Spot) (w : ℕ) (answer : Result ReadOut BothBad) : Type 0 where
   pub found : IsOkAnd answer (λ r. r.word ≡ w)
   pub cells : (twin : ℕ) → twin < 2 → (other : Spot) → IsPlace other
-      → stored_in u twin other ≡ if is_same other place && is_mended t twin place then code_of w else stored_in t twin other
+      → stored_in u twin other ≡ if is_same other place && is_mendable t twin place then code_of w else stored_in t twin other
 
 -- no twin that holds an address shows a good cell there
 abbrev pub NoneGood : Store → Spot → Type 0

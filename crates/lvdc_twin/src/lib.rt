@@ -4,12 +4,17 @@
 
 mod both_bad;
 mod held;
+mod physical;
 mod read_out;
+mod reading;
 mod stuck;
 mod twins;
+mod writing;
 
 pub use both_bad::BothBad;
 pub use held::Held;
+pub use physical::changes_are_local;
 pub use read_out::ReadOut;
+pub use reading::survivor_is_read;
 pub use stuck::Stuck;
-pub use twins::{Twins, changes_are_local, survivor_is_read};
+pub use twins::Twins;

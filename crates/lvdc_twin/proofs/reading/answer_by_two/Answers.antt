@@ -2,7 +2,7 @@
 use Rattle.std.proofs.Common.{◌≡◌, false, refl}
 use Rattle.std.proofs.lemmas.Bool.{false_from_ne_true}
 use Rattle.lvdc_word.specs.Cell.{is_good}
-use Rattle.lvdc_twin.proofs.twins.answer_by_two.Goals as goal
+use Rattle.lvdc_twin.proofs.reading.answer_by_two.Goals as goal
 
 pub returns-in-Some-None-clause-value : goal.returns-in-Some-None-clause-value
 returns-in-Some-None-clause-value c =

@@ -2,7 +2,7 @@
 use Rattle.std.proofs.Common.{refl}
 use Rattle.lvdc_twin.proofs.Places.{stored-with_cell, stuck-with_stuck_bits, dead-with_dead}
 use Rattle.lvdc_twin.proofs.Writes.{kept-with_held, whole-with_held}
-use Rattle.lvdc_twin.proofs.twins.changes_are_local.Goals as goal
+use Rattle.lvdc_twin.proofs.physical.changes_are_local.Goals as goal
 
 pub returns : goal.returns
 returns c =

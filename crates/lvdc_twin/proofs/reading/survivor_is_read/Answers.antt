@@ -1,5 +1,5 @@
 use Rattle.lvdc_twin.proofs.Mending.{found-one, found-two}
-use Rattle.lvdc_twin.proofs.twins.survivor_is_read.Goals as goal
+use Rattle.lvdc_twin.proofs.reading.survivor_is_read.Goals as goal
 
 pub returns-clause-one : goal.returns-clause-one
 returns-clause-one c = found-one

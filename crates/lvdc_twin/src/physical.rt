@@ -1,0 +1,100 @@
+//! Physical places: what a twin shows there, and what is damaged, stuck or dead.
+
+ghost use Rattle.std.specs.Prelude.{◌≡◌, ◌-◌, ◌/◌, ◌<◌, bit_xor};
+ghost use Rattle.lvdc_map.specs.Banks.{IsPlace};
+ghost use Rattle.lvdc_twin.specs.Store.{IsStore, stored_in, stuck_in, is_dead, selected_in, shown_in, with_cell, with_stuck_bits, with_dead};
+ghost use Rattle.lvdc_twin.specs.Calls.{ChangesAreLocal};
+
+use crate::twins::slot;
+use crate::{Stuck, Twins};
+use lvdc_map::Address;
+use lvdc_word::Cell;
+
+impl Twins {
+    /// What a twin shows at a physical place.
+    pub fn view(&self, twin: u8, at: Address) -> Cell
+        requires twin { twin < 2 }
+        requires pair { at.pair < 4 }
+        ensures value { result ≡ shown_in self.now twin at }
+        ensures whole { IsStore self.now }
+        ensures place { IsPlace at }
+    {
+        if self.is_dead(twin, at.pair) {
+            Cell::within(0)
+        } else {
+            let stuck = self.stuck_at(twin, at);
+            self.cells[slot(twin, at)].stuck(stuck.mask, stuck.value)
+        }
+    }
+
+    /// Turns over the bits under the mask in the cell that a twin stores at a physical place, also while the twin is dead.
+    pub fn damage(&mut self, twin: u8, at: Address, mask: Cell)
+        requires twin { twin < 2 }
+        requires pair { at.pair < 4 }
+        ensures after { self.new
+            ≡ with_cell self.old twin at (bit_xor (stored_in self.old twin at) mask) }
+        ensures whole { IsStore self.old }
+        ensures place { IsPlace at }
+    {
+        let slot = slot(twin, at);
+        self.cells[slot] = self.cells[slot].flip(mask);
+    }
+
+    /// From now on the bits under the mask are the value's in what a twin shows at a physical place. It replaces what was
+    /// stuck there.
+    pub fn stick(&mut self, twin: u8, at: Address, mask: Cell, value: Cell)
+        requires twin { twin < 2 }
+        requires pair { at.pair < 4 }
+        ensures after { self.new
+            ≡ with_stuck_bits self.old twin at (record { mask = mask; value = value }) }
+        ensures whole { IsStore self.old }
+        ensures place { IsPlace at }
+    {
+        self.stuck[slot(twin, at)] = Stuck { mask, value };
+    }
+
+    /// What is stuck at a physical place of a twin.
+    pub fn stuck_at(&self, twin: u8, at: Address) -> Stuck
+        requires twin { twin < 2 }
+        requires pair { at.pair < 4 }
+        ensures value { result ≡ stuck_in self.now twin at }
+        ensures whole { IsStore self.now }
+        ensures place { IsPlace at }
+    {
+        self.stuck[slot(twin, at)]
+    }
+
+    /// Marks a twin as dead in a pair, or as alive. A dead twin shows 0 and stores no word.
+    pub fn dead(&mut self, twin: u8, pair: u8, on: bool)
+        requires twin { twin < 2 }
+        requires pair { pair < 4 }
+        ensures after { self.new ≡ with_dead self.old twin pair on }
+        ensures whole { IsStore self.old }
+    {
+        self.dead[usize::from(twin) * 4 + usize::from(pair)] = on;
+    }
+
+    /// Is a twin dead in a pair?
+    pub(crate) fn is_dead(&self, twin: u8, pair: u8) -> bool
+        requires twin { twin < 2 }
+        requires pair { pair < 4 }
+        ensures { result ≡ is_dead self.now twin pair }
+    {
+        self.dead[usize::from(twin) * 4 + usize::from(pair)]
+    }
+
+    /// The twin that is used first in a pair.
+    pub fn selected(&self, pair: u8) -> u8
+        requires { pair < 4 }
+        ensures value { result ≡ selected_in self.now pair }
+        ensures small { result < 2 }
+        ensures whole { IsStore self.now }
+    {
+        self.selected[usize::from(pair)]
+    }
+}
+
+/// A change at one place, or of one mark, is seen there and nowhere else.
+pub fn changes_are_local()
+    ensures { ChangesAreLocal }
+{}
