@@ -8,7 +8,7 @@ use Rattle.lvdc_map.specs.Address.{Spot, is_same}
 use Rattle.lvdc_twin.specs.declared.stuck.Stuck.{Stuck}
 use Rattle.lvdc_fault.specs.declared.event.Event.{Event}
 use Rattle.lvdc_fault.specs.declared.event.Event.TheVariants.{Flip, Force, Lag, Deaf, Damage, Stick, Dead}
-use Rattle.lvdc_fault.specs.Script.{is_within, hurts, hurts_in, deafens, is_wrong, is_active, put_if, active_from, active_at, active_events}
+use Rattle.lvdc_fault.specs.Script.{is_within, makes_wrong, makes_wrong_in, deafens, is_wrong, is_active, put_if, active_from, active_at, active_events}
 use Rattle.lvdc_fault.specs.Damage.{damaged_by, damaged, stuck_by, stuck_after, kills}
 use Rattle.lvdc_fault.proofs.Starts.{Stand, stand-all, stand-head, stand-tail}
 
@@ -23,12 +23,12 @@ first_fails : (a b c : Bool) → a ≡ false → ((a && b) && c) ≡ false
 first_fails false b c h = refl
 first_fails true b c h = absurd (true≢false h)
 
-pub idle_hurts : (step m c : ℕ) (e : Event) → is_active step e ≡ false → hurts step m c e ≡ false
-idle_hurts step m c (Flip number copy first last index mask) h = last_fails (number == m) (copy == c) (is_within first last step) h
-idle_hurts step m c (Force number copy first last index mask value) h = last_fails (number == m) (copy == c) (is_within first last step) h
-idle_hurts step m c (Lag number copy first last) h = last_fails (number == m) (copy == c) (is_within first last step) h
-idle_hurts step m c (Deaf number copy first last) h = last_fails (number == m) (copy == c) (is_within first last step) h
-idle_hurts step m c _ h = refl
+pub idle_makes_none_wrong : (step m c : ℕ) (e : Event) → is_active step e ≡ false → makes_wrong step m c e ≡ false
+idle_makes_none_wrong step m c (Flip number copy first last index mask) h = last_fails (number == m) (copy == c) (is_within first last step) h
+idle_makes_none_wrong step m c (Force number copy first last index mask value) h = last_fails (number == m) (copy == c) (is_within first last step) h
+idle_makes_none_wrong step m c (Lag number copy first last) h = last_fails (number == m) (copy == c) (is_within first last step) h
+idle_makes_none_wrong step m c (Deaf number copy first last) h = last_fails (number == m) (copy == c) (is_within first last step) h
+idle_makes_none_wrong step m c _ h = refl
 
 pub idle_deafens : (step m c : ℕ) (e : Event) → is_active step e ≡ false → deafens step m c e ≡ false
 idle_deafens step m c (Deaf number copy first last) h = last_fails (number == m) (copy == c) (is_within first last step) h
@@ -111,15 +111,15 @@ module _ (script : List Event) (step : ℕ) where
 
   -- a copy is wrong where an event at an active position acts on it
   hurt_put : (b : Bool) (m c k : ℕ) (ps : List ℕ) (e : Event) (fs : List Event) → slice_get script k ≡ Some e
-      → list_any (λ p. hurts_in (slice_get script p) step m c) ps ≡ list_any (hurts step m c) fs
-      → list_any (λ p. hurts_in (slice_get script p) step m c) (put_if b k ps) ≡ list_any (hurts step m c) (cond b (e ∷ fs) fs)
-  hurt_put true m c k ps e fs here rest = ap (λ o. hurts_in o step m c || list_any (λ p. hurts_in (slice_get script p) step m c) ps) here ∙ ap (λ r. hurts step m c e || r) rest
+      → list_any (λ p. makes_wrong_in (slice_get script p) step m c) ps ≡ list_any (makes_wrong step m c) fs
+      → list_any (λ p. makes_wrong_in (slice_get script p) step m c) (put_if b k ps) ≡ list_any (makes_wrong step m c) (cond b (e ∷ fs) fs)
+  hurt_put true m c k ps e fs here rest = ap (λ o. makes_wrong_in o step m c || list_any (λ p. makes_wrong_in (slice_get script p) step m c) ps) here ∙ ap (λ r. makes_wrong step m c e || r) rest
   hurt_put false m c k ps e fs here rest = rest
 
-  hurt_active : (m c k : ℕ) (es : List Event) → Stand script k es → list_any (λ p. hurts_in (slice_get script p) step m c) (active_from k es step) ≡ list_any (hurts step m c) (active_events es step)
+  hurt_active : (m c k : ℕ) (es : List Event) → Stand script k es → list_any (λ p. makes_wrong_in (slice_get script p) step m c) (active_from k es step) ≡ list_any (makes_wrong step m c) (active_events es step)
   hurt_active m c k [] h = refl
   hurt_active m c k (e ∷ es) h =
       hurt_put (is_active step e) m c k (active_from (suc k) es step) e (active_events es step) (stand-head script k e es h) (hurt_active m c (suc k) es (stand-tail script k e es h))
 
-  pub wrong_active : (m c : ℕ) → list_any (λ p. hurts_in (slice_get script p) step m c) (active_at script step) ≡ is_wrong script step m c
-  wrong_active m c = hurt_active m c 0 script (stand-all script) ∙ any_active (hurts step m c) step (idle_hurts step m c) script
+  pub wrong_active : (m c : ℕ) → list_any (λ p. makes_wrong_in (slice_get script p) step m c) (active_at script step) ≡ is_wrong script step m c
+  wrong_active m c = hurt_active m c 0 script (stand-all script) ∙ any_active (makes_wrong step m c) step (idle_makes_none_wrong step m c) script

@@ -19,11 +19,14 @@ abbrev pub damaged : ℕ → ℕ → Spot → List Event → ℕ → ℕ
 damaged step twin place [] cell = cell
 damaged step twin place (e ∷ es) cell = damaged step twin place es (damaged_by step twin place e cell)
 
--- what is stuck at a place of a twin, after one event: where two meet on a bit, the later one counts
+-- what is stuck once bits are stuck beside others: where they meet on a bit, the later ones count
+abbrev pub stuck_beside : Stuck → ℕ → ℕ → Stuck
+stuck_beside before mask value = record { mask = bit_or before.mask mask; value = with_stuck before.value mask value }
+
+-- what is stuck at a place of a twin, after one event
 abbrev pub stuck_by : ℕ → ℕ → Spot → Event → Stuck → Stuck
 stuck_by step twin place (Stick w at first last mask value) s =
-    if w == twin && is_same place at && is_within first last step
-    then record { mask = bit_or s.mask mask; value = with_stuck s.value mask value } else s
+    if w == twin && is_same place at && is_within first last step then stuck_beside s mask value else s
 stuck_by step twin place _ s = s
 
 -- what a list of events adds to what is stuck

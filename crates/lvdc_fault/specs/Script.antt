@@ -15,22 +15,22 @@ is_within first last step = nat_le first step && nat_le step last
 abbrev pub acts_on : ℕ → ℕ → ℕ → ℕ → ℕ → ℕ → ℕ → Bool
 acts_on number copy first last step m c = number == m && copy == c && is_within first last step
 
--- does an event act on a copy of a module at a step?
-abbrev pub hurts : ℕ → ℕ → ℕ → Event → Bool
-hurts step m c (Flip number copy first last index mask) = acts_on number copy first last step m c
-hurts step m c (Force number copy first last index mask value) = acts_on number copy first last step m c
-hurts step m c (Lag number copy first last) = acts_on number copy first last step m c
-hurts step m c (Deaf number copy first last) = acts_on number copy first last step m c
-hurts step m c _ = false
+-- does an event make a copy of a module wrong at a step?
+abbrev pub makes_wrong : ℕ → ℕ → ℕ → Event → Bool
+makes_wrong step m c (Flip number copy first last index mask) = acts_on number copy first last step m c
+makes_wrong step m c (Force number copy first last index mask value) = acts_on number copy first last step m c
+makes_wrong step m c (Lag number copy first last) = acts_on number copy first last step m c
+makes_wrong step m c (Deaf number copy first last) = acts_on number copy first last step m c
+makes_wrong step m c _ = false
 
 -- does the event, if there is one?
-abbrev pub hurts_in : Option Event → ℕ → ℕ → ℕ → Bool
-hurts_in None step m c = false
-hurts_in (Some e) step m c = hurts step m c e
+abbrev pub makes_wrong_in : Option Event → ℕ → ℕ → ℕ → Bool
+makes_wrong_in None step m c = false
+makes_wrong_in (Some e) step m c = makes_wrong step m c e
 
 -- a copy is wrong at a step where an event acts on it
 abbrev pub is_wrong : List Event → ℕ → ℕ → ℕ → Bool
-is_wrong script step m c = list_any (hurts step m c) script
+is_wrong script step m c = list_any (makes_wrong step m c) script
 
 -- does a module have two wrong copies?
 abbrev pub two_wrong : List Event → ℕ → ℕ → Bool

@@ -1,5 +1,5 @@
 ghost use Rattle.std.specs.Prelude.{◌≡◌, ℕ};
-ghost use Rattle.lvdc_fault.specs.Script.{first_of, span_of, hurts, is_active, is_within};
+ghost use Rattle.lvdc_fault.specs.Script.{first_of, span_of, makes_wrong, is_active, is_within};
 
 use lvdc_map::Address;
 use lvdc_word::{Cell, Word};
@@ -77,7 +77,8 @@ impl Event {
     /// The steps at which it acts.
     fn span(&self) -> Span
         ensures span { result ≡ span_of self.now }
-        ensures active { (step : ℕ) → is_active step self.now ≡ is_within result.first result.last step }
+        ensures active { (step : ℕ) → is_active step self.now
+            ≡ is_within result.first result.last step }
     {
         match *self {
             Event::Flip { first, last, .. }
@@ -108,9 +109,9 @@ impl Event {
         span.first <= step && step <= span.last
     }
 
-    /// Does it act on this copy of this module at the step?
-    pub(crate) fn hurts(&self, step: u64, module_number: u8, copy_number: u8) -> bool
-        ensures { result ≡ hurts step module_number copy_number self.now }
+    /// Does it make this copy of this module wrong at the step?
+    pub(crate) fn makes_wrong(&self, step: u64, module_number: u8, copy_number: u8) -> bool
+        ensures { result ≡ makes_wrong step module_number copy_number self.now }
     {
         match *self {
             Event::Flip { module, copy, .. }

@@ -45,8 +45,10 @@ impl Ledger {
     /// From now on this word is intended at the address.
     pub fn wrote(&mut self, at: Address, word: Word)
         requires { is_there self.old.banks at ≡ true }
-        ensures value { self.new ≡ record self.old { words = slice_set self.old.words (number_of at) word } }
-        ensures words { (m : Memory) → IsMemory self.old.words m → IsMemory self.new.words (stored m at word) }
+        ensures value { self.new
+            ≡ record self.old { words = slice_set self.old.words (number_of at) word } }
+        ensures words { (m : Memory) → IsMemory self.old.words m
+            → IsMemory self.new.words (stored m at word) }
         ensures banks { self.new.banks ≡ self.old.banks }
     {
         self.words.store(at, word);
@@ -81,8 +83,10 @@ impl Ledger {
     /// isn't looked at.
     pub fn recoverable(&self, at: Address, zeroth: Cell, first: Cell) -> bool
         requires { is_there self.now.banks at ≡ true }
-        ensures value { result ≡ is_recovered self.now.banks at (intended_at self.now at) (shown_by zeroth first) }
-        ensures words { (m : Memory) → IsMemory self.now.words m → result ≡ is_recovered self.now.banks at (word_at m at) (shown_by zeroth first) }
+        ensures value { result
+            ≡ is_recovered self.now.banks at (intended_at self.now at) (shown_by zeroth first) }
+        ensures words { (m : Memory) → IsMemory self.now.words m
+            → result ≡ is_recovered self.now.banks at (word_at m at) (shown_by zeroth first) }
     {
         let code = Cell::encode(self.intended(at));
         recovers(

@@ -1,6 +1,6 @@
 ghost use Rattle.std.specs.Prelude.{◌≡◌, ◌<◌, [], ◌∷◌, ◌++◌, length, slice_get, All, Some, OnOk, OnErr};
 ghost use Rattle.lvdc_fault.specs.Activity.{Fits, is_active_at};
-ghost use Rattle.lvdc_fault.specs.Script.{active_at, hurts_in};
+ghost use Rattle.lvdc_fault.specs.Script.{active_at, makes_wrong_in};
 
 use crate::laws::active_suffice;
 use crate::{Active, Event};
@@ -86,12 +86,12 @@ impl Script {
         }
     }
 
-    /// Is there an event at a position that acts on this copy of this module at the step?
-    pub(crate) fn hurts_at(&self, step: u64, number: u8, copy: u8, position: usize) -> bool
-        ensures { result ≡ hurts_in (slice_get self.now position) step number copy }
+    /// Is there an event at a position that makes this copy of this module wrong at the step?
+    pub(crate) fn makes_wrong_at(&self, step: u64, number: u8, copy: u8, position: usize) -> bool
+        ensures { result ≡ makes_wrong_in (slice_get self.now position) step number copy }
     {
         match self.events.get(position) {
-            Some(event) => event.hurts(step, number, copy),
+            Some(event) => event.makes_wrong(step, number, copy),
             None => false,
         }
     }

@@ -1,6 +1,6 @@
 ghost use Rattle.std.specs.Prelude.{◌≡◌, ℕ, ◌↔◌, ◌&&◌, ◌||◌, IsNone, slice_get};
 ghost use Rattle.std.specs.List.{list_any};
-ghost use Rattle.lvdc_fault.specs.Script.{active_at, is_wrong, wrong_module, two_wrong, hurts_in, NoneWrong};
+ghost use Rattle.lvdc_fault.specs.Script.{active_at, is_wrong, wrong_module, two_wrong, makes_wrong_in, NoneWrong};
 
 use crate::{Active, Event, Script};
 
@@ -54,24 +54,26 @@ fn has_two_now(script: &Script, active: &[usize], step: u64, number: u8) -> bool
     )
 }
 
+/// Are two of the three wrong?
 fn are_two(one: bool, two: bool, three: bool) -> bool
     ensures { result ≡ ((one && two) || (one && three) || (two && three)) }
 {
     one && two || one && three || two && three
 }
 
-/// Does one of the events act on this copy of this module at the step?
+/// Does one of the events make this copy of this module wrong at the step?
 fn is_wrong(events: &[Event], step: u64, number: u8, copy: u8) -> bool
     ensures { result ≡ is_wrong events.now step number copy }
 {
-    events.iter().any(|event| event.hurts(step, number, copy))
+    events
+        .iter()
+        .any(|event| event.makes_wrong(step, number, copy))
 }
 
-/// Does an event at one of the positions act on this copy of this module at the step?
+/// Does an event at one of the positions make this copy of this module wrong at the step?
 fn is_wrong_at(script: &Script, positions: &[usize], step: u64, number: u8, copy: u8) -> bool
-    ensures { result ≡ list_any (λ p. hurts_in (slice_get script.now p) step number copy) positions.now }
+    ensures { result
+        ≡ list_any (λ p. makes_wrong_in (slice_get script.now p) step number copy) positions.now }
 {
-    positions
-        .iter()
-        .any(|position| script.hurts_at(step, number, copy, *position))
+    positions.iter().any(|position| script.makes_wrong_at(step, number, copy, *position))
 }

@@ -11,7 +11,7 @@ use Rattle.lvdc_vote.specs.declared.hurt.Hurt.{Hurt}
 use Rattle.lvdc_vote.specs.declared.hurt.Hurt.TheVariants as kinds
 use Rattle.lvdc_modules.specs.Rows.{rows}
 use Rattle.lvdc_modules.specs.declared.bus.Bus.{Bus}
-use Rattle.lvdc_fault.specs.Script.{hurts, is_wrong, two_wrong, wrong_module, NoneWrong, deafens, is_deaf}
+use Rattle.lvdc_fault.specs.Script.{makes_wrong, is_wrong, two_wrong, wrong_module, NoneWrong, deafens, is_deaf}
 use Rattle.lvdc_fault.specs.declared.event.Event.{Event}
 use Rattle.lvdc_fault.specs.declared.event.Event.TheVariants.{Flip, Force, Lag, Deaf}
 use Rattle.lvdc_phases.specs.States.{Fits, next_of, next_states}
@@ -70,7 +70,7 @@ length-latched old new hs n p q = length-hurt (cond (lags hs) old new) hs ∙ by
 
 -- ---- a copy that is not wrong
 
-unhurt_by : (step m c : ℕ) (e : Event) → hurts step m c e ≡ false → hurts_by step m c e ≡ []
+unhurt_by : (step m c : ℕ) (e : Event) → makes_wrong step m c e ≡ false → hurts_by step m c e ≡ []
 unhurt_by step m c (Flip number copy first last index mask) h = rw h refl
 unhurt_by step m c (Force number copy first last index mask value) h = rw h refl
 unhurt_by step m c (Lag number copy first last) h = rw h refl
@@ -80,10 +80,10 @@ unhurt_by step m c _ h = refl
 unhurt : (step m c : ℕ) (es : List Event) → is_wrong es step m c ≡ false → hurts_on step m c es ≡ []
 unhurt step m c [] h = refl
 unhurt step m c (e ∷ es) h =
-    let parts = or_parts (hurts step m c e) (list_any (hurts step m c) es) h in
+    let parts = or_parts (makes_wrong step m c e) (list_any (makes_wrong step m c) es) h in
     rw (unhurt_by step m c e parts.0, unhurt step m c es parts.1) refl
 
-heard_by : (step m c : ℕ) (e : Event) → hurts step m c e ≡ false → deafens step m c e ≡ false
+heard_by : (step m c : ℕ) (e : Event) → makes_wrong step m c e ≡ false → deafens step m c e ≡ false
 heard_by step m c (Deaf number copy first last) h = h
 heard_by step m c _ h = refl
 
@@ -91,7 +91,7 @@ heard_by step m c _ h = refl
 heard : (step m c : ℕ) (es : List Event) → is_wrong es step m c ≡ false → is_deaf es step m c ≡ false
 heard step m c [] h = refl
 heard step m c (e ∷ es) h =
-    let parts = or_parts (hurts step m c e) (list_any (hurts step m c) es) h in
+    let parts = or_parts (makes_wrong step m c e) (list_any (makes_wrong step m c) es) h in
     rw (heard_by step m c e parts.0, heard step m c es parts.1) refl
 
 -- it latches its row of the voted bus

@@ -12,14 +12,13 @@ use Rattle.lvdc_map.specs.Banks.{IsPlace}
 use Rattle.lvdc_twin.specs.Store.{Store, IsStore, nothing, stored_in, stuck_in, with_cell, with_stuck_bits, with_dead}
 use Rattle.lvdc_twin.specs.Store as store
 use Rattle.lvdc_twin.specs.declared.stuck.Stuck.{Stuck}
-use Rattle.lvdc_fault.specs.Damage.{stuck_by, stuck_after, stuck, kills, is_dead}
+use Rattle.lvdc_fault.specs.Damage.{stuck_beside, stuck_by, stuck_after, stuck, kills, is_dead}
 use Rattle.lvdc_fault.specs.Script.{is_within, is_active, active_events}
 use Rattle.lvdc_fault.specs.declared.event.Event.{Event}
 use Rattle.lvdc_fault.specs.declared.event.Event.TheVariants.{Damage, Stick, Dead}
 use Rattle.lvdc_model.specs.Exchanges.{damages_by, damages}
 use Rattle.lvdc_model.specs.Twins as model
 use Rattle.lvdc_model.specs.Twins.{Twins}
-use Rattle.lvdc_memory.specs.Faults.{stuck_beside}
 use Rattle.lvdc_memory.specs.Holds.{Carries}
 use Rattle.lvdc_memory.proofs.Carrying.{cell-carries}
 

@@ -1,8 +1,7 @@
 -- What a script puts in force in a step, and which of its events name memory that is there.
-use Rattle.std.specs.Prelude.{ℕ, ◌<◌, ◌&&◌, ◌==◌, if◌then◌else◌, ◌≡◌, Bool, false, List, bit_or}
+use Rattle.std.specs.Prelude.{ℕ, ◌<◌, ◌&&◌, ◌==◌, if◌then◌else◌, ◌≡◌, Bool, false, List}
 use Rattle.std.specs.declared.option.Option.{Option}
 use Rattle.std.specs.declared.option.Option.TheVariants.{None, Some}
-use Rattle.lvdc_word.specs.Cell.{with_stuck}
 use Rattle.lvdc_map.specs.Address.{Spot, is_same}
 use Rattle.lvdc_map.specs.Banks.{IsPlace}
 use Rattle.lvdc_twin.specs.Store.{Store, nothing, stuck_in}
@@ -28,10 +27,6 @@ NamesMemory (Damage twin at t mask) = (twin < 2) × (at.pair < 4)
 NamesMemory (Stick twin at first last mask value) = (twin < 2) × (at.pair < 4)
 NamesMemory (Dead twin pair first last) = (twin < 2) × (pair < 4)
 NamesMemory _ = Unit
-
--- what is stuck once bits are stuck beside others: where they meet, the later ones count
-abbrev pub stuck_beside : Stuck → ℕ → ℕ → Stuck
-stuck_beside before mask value = record { mask = bit_or before.mask mask; value = with_stuck before.value mask value }
 
 -- does an event stick bits at a place of a twin?
 abbrev pub sticks_at : ℕ → Spot → Event → Bool

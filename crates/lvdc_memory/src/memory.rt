@@ -5,6 +5,7 @@ ghost use Rattle.lvdc_map.specs.Banks.{is_there, IsPlace};
 ghost use Rattle.lvdc_map.specs.Memory.{Memory, word_at, stored, memory_of, AllThere};
 ghost use Rattle.lvdc_twin.specs.Store.{IsStore, stuck_in, with_stuck_bits};
 ghost use Rattle.lvdc_fault.specs.declared.event.Event.{Event};
+ghost use Rattle.lvdc_fault.specs.Damage.{stuck_beside};
 ghost use Rattle.lvdc_fault.specs.Recoverable.{is_recovered};
 ghost use Rattle.lvdc_fault.specs.Script.{is_active, active_at};
 ghost use Rattle.lvdc_model.specs.Exchanges.{damages_by, damages};
@@ -12,7 +13,7 @@ ghost use Rattle.lvdc_model.specs.Known.{shows_since};
 ghost use Rattle.lvdc_model.specs.Trial.{Trial};
 ghost use Rattle.lvdc_model.specs.Twins as model;
 ghost use Rattle.lvdc_model.specs.Twins.{read_answer, after_read, after_store, twins_at_start};
-ghost use Rattle.lvdc_memory.specs.Faults.{NamesMemory, stuck_beside, Releases};
+ghost use Rattle.lvdc_memory.specs.Faults.{NamesMemory, Releases};
 ghost use Rattle.lvdc_memory.specs.Holds.{Carries, Holds};
 
 use lvdc_fault::{Active, Event, Ledger, Script, active_suffice};
