@@ -2,8 +2,9 @@
 use Rattle.std.proofs.Common.{◌≡◌, refl}
 use Rattle.std.specs.Prelude.{ℕ, [], ◌∷◌}
 use Rattle.lvdc_modules.specs.declared.bus.Bus.{Bus}
-use Rattle.lvdc_modules.specs.declared.wanted.Wanted.TheVariants.{Nothing, Fetch, Store}
+use Rattle.lvdc_modules.specs.declared.wanted.Wanted.TheVariants.{Nothing, Fetch, Store, PortRead, PortWrite}
 use Rattle.lvdc_modules.specs.Rows.{bus_of}
+use Rattle.lvdc_modules.specs.States.{locator_of, selector_of, accumulator_of, exchange_of}
 use Rattle.lvdc_modules.specs.Timer.{timer_row}
 use Rattle.lvdc_modules.specs.Locator.{locator_row}
 use Rattle.lvdc_modules.specs.Decoder.{decoder_row}
@@ -66,3 +67,81 @@ sub_takes_the_operand_from_a = refl
 
 exm_stops : exchange_row (bus 2 0 0o16600 0) ≡ 2 ∷ 0 ∷ []
 exm_stops = refl
+
+-- ---- patterns that no run has
+
+-- phase C, with another STOP
+abbrev after_stop : ℕ → ℕ → Bus
+after_stop stop instr = record (bus 2 0 instr 0) { exchange = exchange_of (stop ∷ 0 ∷ []) }
+
+-- phase C, with 1 in each bit of PLACE, DATA and OPERAND
+abbrev all_ones : ℕ → Bus
+all_ones instr =
+    record (bus 2 0 instr 0) {
+      locator = locator_of (0o377777777 ∷ 0o77 ∷ []);
+      selector = selector_of (0o377777777 ∷ []);
+      accumulator = accumulator_of (24 ∷ 0o377777777 ∷ []);
+    }
+
+phase_3_is_c : timer_row (bus 3 0 0o05000 0) ≡ 0 ∷ 4 ∷ []
+phase_3_is_c = refl
+
+phase_3_exchanges : wish (bus 3 0 0 0o77762) 0 ≡ Store (record { pair = 0; sector = 15; loc = 0o376 }) 0o77
+phase_3_exchanges = refl
+
+phase_counts_modulo_4 : timer_row (bus 5 2 0 0) ≡ 2 ∷ 2 ∷ []
+phase_counts_modulo_4 = refl
+
+hold_counts_modulo_8 : timer_row (bus 2 0o13 0 0) ≡ 0 ∷ 2 ∷ []
+hold_counts_modulo_8 = refl
+
+hold_8_is_no_hold : wish (bus 0 8 0 0) 0 ≡ Fetch (record { pair = 0; sector = 0; loc = 4 })
+hold_8_is_no_hold = refl
+
+hold_stays_in_phase_a : timer_row (bus 0 0o13 0 0) ≡ 1 ∷ 0o13 ∷ []
+hold_stays_in_phase_a = refl
+
+instr_has_thirteen_bits : timer_row (bus 2 0 0o1005000 0) ≡ 0 ∷ 4 ∷ []
+instr_has_thirteen_bits = refl
+
+kind_3_writes_to_its_port : wish (bus 2 0 0 0o7771233) 0 ≡ PortWrite 0o123 24
+kind_3_writes_to_its_port = refl
+
+kind_4_reads_from_its_port : wish (bus 2 0 0 0o7771234) 0 ≡ PortRead 0o123
+kind_4_reads_from_its_port = refl
+
+kind_5_requests_nothing : wish (bus 2 0 0 0o77765) 0 ≡ Nothing
+kind_5_requests_nothing = refl
+
+kind_6_requests_nothing : wish (bus 2 0 0 0o77766) 0 ≡ Nothing
+kind_6_requests_nothing = refl
+
+kind_7_requests_nothing : wish (bus 2 0 0 0o77767) 0 ≡ Nothing
+kind_7_requests_nothing = refl
+
+exm_over_a_wrong_shift : exchange_row (after_stop 1 0o16600) ≡ 2 ∷ 0 ∷ []
+exm_over_a_wrong_shift = refl
+
+a_wrong_shift_over_exm : exchange_row (after_stop 2 0o16203) ≡ 1 ∷ 0 ∷ []
+a_wrong_shift_over_exm = refl
+
+stop_stays : exchange_row (after_stop 3 0o17000) ≡ 3 ∷ 0 ∷ []
+stop_stays = refl
+
+-- 111 1111 1 00000000 000 0000 1 0 0
+the_next_place_has_its_fields_alone : locator_row (all_ones 0o17000) ≡ 0o377000004 ∷ 0o77 ∷ []
+the_next_place_has_its_fields_alone = refl
+
+-- 111 1111 1 11111111 000 0000 1 0 0, and the saver has all fields of the place after 377
+the_place_of_hop_has_its_fields_alone : locator_row (all_ones 0) ≡ 0o377776004 ∷ 0o377001776 ∷ []
+the_place_of_hop_has_its_fields_alone = refl
+
+-- 111 1111 0 1 0
+the_data_of_hop_has_its_fields_alone : selector_row (all_ones 0) ≡ 0o1772 ∷ []
+the_data_of_hop_has_its_fields_alone = refl
+
+the_data_of_cds_has_its_fields_alone : selector_row (all_ones 0o16522) ≡ 0o1222 ∷ []
+the_data_of_cds_has_its_fields_alone = refl
+
+data_stays_as_it_is : selector_row (all_ones 0o17000) ≡ 0o377777777 ∷ []
+data_stays_as_it_is = refl

@@ -1,7 +1,7 @@
 -- EXCHANGE, module 7: the stop, and what phase C exchanges.
-use Rattle.std.specs.Prelude.{ℕ, ◌%◌, ◌^◌, List, if◌then◌else◌}
+use Rattle.std.specs.Prelude.{ℕ, List, if◌then◌else◌}
 use Rattle.lvdc_map.specs.Hop.{HopConstant}
-use Rattle.lvdc_map.specs.Place.{a9, operand_kind}
+use Rattle.lvdc_map.specs.Place.{a9, low_bits, operand_kind}
 use Rattle.lvdc_map.specs.declared.operand.OperandKind.{OperandKind}
 use Rattle.lvdc_map.specs.declared.operand.OperandKind.TheVariants.{Memory, Pq, Saver}
 use Rattle.lvdc_isa.specs.declared.instr.Instr.{Instr}
@@ -14,19 +14,19 @@ use Rattle.lvdc_modules.specs.declared.request.Request.TheVariants.{Nothing, Sto
 use Rattle.lvdc_modules.specs.declared.seen.Doing.{Doing}
 use Rattle.lvdc_modules.specs.declared.seen.Doing.TheVariants.{Taking, Executing}
 use Rattle.lvdc_modules.specs.Seen.{doing, instruction, here}
-use Rattle.lvdc_modules.specs.Request.{target, word_of_request}
+use Rattle.lvdc_modules.specs.Request.{destination, word_of_request}
 use Rattle.lvdc_modules.specs.States.{exchange_latches}
 
 -- what a store asks for at the place h: A into memory, the saver into one of its words, nothing for PQ
 abbrev pub store_request : OperandKind → HopConstant → ℕ → Request
-store_request Memory h address = StoreA (target h address)
-store_request Saver h address = StoreSaver (target h address)
+store_request Memory h address = StoreA (destination h address)
+store_request Saver h address = StoreSaver (destination h address)
 store_request Pq h address = Nothing
 
 -- what each operation asks for at the place h
 abbrev pub requested : Op → HopConstant → ℕ → Request
 requested Sto h address = store_request (operand_kind address) h address
-requested Pio h address = if a9 address then PortRead (address % 2 ^ 8) else PortWrite (address % 2 ^ 8)
+requested Pio h address = if a9 address then PortRead (low_bits address) else PortWrite (low_bits address)
 requested _ h address = Nothing
 
 -- REQUEST is set where the operand is taken, and is 0 after every other phase

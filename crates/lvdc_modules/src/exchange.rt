@@ -5,7 +5,7 @@ ghost use Rattle.lvdc_modules.specs.Request.{IsRequest};
 ghost use Rattle.lvdc_modules.specs.Exchange.{requested, stopped, exchange_row};
 
 use crate::seen::{Doing, doing_of, here_of, instruction_of};
-use crate::{Bus, Request, Target};
+use crate::{Bus, Destination, Request};
 use lvdc_isa::Op;
 use lvdc_map::{Hop, OperandKind, is_a9, low_bits};
 use lvdc_vote::{LogicModule, Vote, flipped, forced, majority};
@@ -90,8 +90,8 @@ fn requested(op: Op, place: Hop, address: u16) -> Request
     let port = low_bits(address);
     match op {
         Op::Sto => match OperandKind::of(address) {
-            OperandKind::Memory => Request::StoreA(Target::at(place, address)),
-            OperandKind::Saver => Request::StoreSaver(Target::at(place, address)),
+            OperandKind::Memory => Request::StoreA(Destination::at(place, address)),
+            OperandKind::Saver => Request::StoreSaver(Destination::at(place, address)),
             OperandKind::Pq => Request::Nothing,
         },
         Op::Pio => {

@@ -23,7 +23,7 @@ pub use exchange::{ExchangeState, Exchanger};
 pub use locator::{Locator, LocatorState, place_word};
 pub use multiplier::{Multiplier, MultiplierState};
 pub use numbers::latches;
-pub use request::{Request, Target};
+pub use request::{Destination, Request};
 pub use seen::{Doing, Phase};
 pub use selector::{Selector, SelectorState, data_word};
 pub use timer::{Timer, TimerState};

@@ -24,3 +24,9 @@ pub fn latches(number: u8) -> u8
         _ => unreachable!(),
     }
 }
+
+const _: () = prove!(Timer::NUMBER == 1 && Locator::NUMBER == 2 && Decoder::NUMBER == 3);
+
+const _: () = prove!(Selector::NUMBER == 4 && Accumulator::NUMBER == 5);
+
+const _: () = prove!(Multiplier::NUMBER == 6 && Exchanger::NUMBER == 7);

@@ -1,13 +1,13 @@
 ghost use Rattle.std.specs.Prelude.{◌≡◌, ◌<◌, ◌^◌, ◌-◌, true};
 ghost use Rattle.lvdc_map.specs.Banks.{is_there};
-ghost use Rattle.lvdc_modules.specs.Request.{target, spot_of, target_bits, word_of_request, target_in, request_of, IsTarget, IsRequest};
+ghost use Rattle.lvdc_modules.specs.Request.{destination, spot_of, destination_bits, word_of_request, destination_in, request_of, IsDestination, IsRequest};
 
 use lvdc_map::{Address, Banks, Hop, low_bits};
 use lvdc_word::Word;
 
 /// A word of memory by the number of its module, before the banks are known.
 #[derive(Clone, Copy, Debug, PartialEq, Eq)]
-pub struct Target {
+pub struct Destination {
     /// The data module, 0 to 7.
     pub dmod: u8,
     /// 00 to 17 octal.
@@ -22,23 +22,23 @@ pub enum Request {
     /// No exchange.
     Nothing,
     /// The accumulator goes to memory.
-    StoreA(Target),
+    StoreA(Destination),
     /// The saver goes to memory.
-    StoreSaver(Target),
+    StoreSaver(Destination),
     /// The accumulator goes to the port.
     PortWrite(u8),
     /// A word comes from the port.
     PortRead(u8),
 }
 
-impl Target {
+impl Destination {
     /// The word that an address means at a place.
-    pub(crate) fn at(place: Hop, address: u16) -> Target
+    pub(crate) fn at(place: Hop, address: u16) -> Destination
         requires { address < 2 ^ 9 }
-        ensures value { result ≡ target place address }
-        ensures ranges { IsTarget result }
+        ensures value { result ≡ destination place address }
+        ensures ranges { IsDestination result }
     {
-        Target {
+        Destination {
             dmod: place.dmod,
             sector: place.data_sector(address),
             loc: low_bits(address),
@@ -47,7 +47,7 @@ impl Target {
 
     /// The address of the word, of which the bank is there.
     pub(crate) fn address(self, banks: Banks) -> Address
-        requires { IsTarget self }
+        requires { IsDestination self }
         ensures value { result ≡ spot_of banks self }
         ensures there { is_there banks result ≡ true }
     {
@@ -58,23 +58,23 @@ impl Target {
         }
     }
 
-    /// The target in the bits of a word.
-    fn of(word: Word) -> Target
-        ensures value { result ≡ target_in word }
-        ensures ranges { IsTarget result }
+    /// The destination in the bits of a word.
+    fn of(word: Word) -> Destination
+        ensures value { result ≡ destination_in word }
+        ensures ranges { IsDestination result }
     {
         let w = word.value();
-        Target {
+        Destination {
             dmod: (((w >> 15) & 3) * 2 + ((w >> 17) & 1)) as u8,
             sector: ((w >> 11) & 15) as u8,
             loc: ((w >> 3) & 255) as u8,
         }
     }
 
-    /// The bits of the target.
+    /// The bits of the destination.
     fn bits(self) -> u32
-        requires { IsTarget self }
-        ensures value { result ≡ target_bits self }
+        requires { IsDestination self }
+        ensures value { result ≡ destination_bits self }
         ensures small { result < 2 ^ 18 - 7 }
     {
         u32::from(self.dmod % 2) * (1 << 17)
@@ -92,8 +92,8 @@ impl Request {
     {
         let port = ((word.value() >> 3) & 255) as u8;
         match word.value() & 7 {
-            1 => Request::StoreA(Target::of(word)),
-            2 => Request::StoreSaver(Target::of(word)),
+            1 => Request::StoreA(Destination::of(word)),
+            2 => Request::StoreSaver(Destination::of(word)),
             3 => Request::PortWrite(port),
             4 => Request::PortRead(port),
             _ => Request::Nothing,
@@ -108,8 +108,8 @@ impl Request {
     {
         let bits = match self {
             Request::Nothing => 0,
-            Request::StoreA(target) => target.bits() + 1,
-            Request::StoreSaver(target) => target.bits() + 2,
+            Request::StoreA(destination) => destination.bits() + 1,
+            Request::StoreSaver(destination) => destination.bits() + 2,
             Request::PortWrite(port) => u32::from(port) * 8 + 3,
             Request::PortRead(port) => u32::from(port) * 8 + 4,
         };

@@ -49,12 +49,12 @@ fn request_wish(request: Request, bus: &Bus, banks: Banks) -> Wanted
     let a = bus.accumulator.a;
     match request {
         Request::Nothing => Wanted::Nothing,
-        Request::StoreA(target) => Wanted::Store {
-            at: target.address(banks),
+        Request::StoreA(destination) => Wanted::Store {
+            at: destination.address(banks),
             word: a,
         },
-        Request::StoreSaver(target) => Wanted::Store {
-            at: target.address(banks),
+        Request::StoreSaver(destination) => Wanted::Store {
+            at: destination.address(banks),
             word: bus.locator.saver,
         },
         Request::PortWrite(port) => Wanted::PortWrite { port, word: a },

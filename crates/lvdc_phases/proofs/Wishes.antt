@@ -18,11 +18,11 @@ use Rattle.lvdc_plain.specs.Accesses.{fetched_by, operand_by, spot_of}
 use Rattle.lvdc_modules.specs.declared.bus.Bus.{Bus}
 use Rattle.lvdc_modules.specs.declared.request.Request.{Request}
 use Rattle.lvdc_modules.specs.declared.request.Request.TheVariants as requests
-use Rattle.lvdc_modules.specs.declared.request.Target.{Target}
+use Rattle.lvdc_modules.specs.declared.request.Destination.{Destination}
 use Rattle.lvdc_modules.specs.declared.wanted.Wanted.{Wanted}
 use Rattle.lvdc_modules.specs.declared.wanted.Wanted.TheVariants.{Nothing, Fetch, Operand}
 use Rattle.lvdc_modules.specs.Seen.{here, instruction, hold, phase_of}
-use Rattle.lvdc_modules.specs.Request.{target, target_bits, target_in, port_in, word_of_request, request_of, IsTarget, IsRequest}
+use Rattle.lvdc_modules.specs.Request.{destination, destination_bits, destination_in, port_in, word_of_request, request_of, IsDestination, IsRequest}
 use Rattle.lvdc_modules.specs.Exchange.{store_request, requested}
 use Rattle.lvdc_modules.specs.Wish.{operand_wish, request_wish, instruction_wish, wish_in, wish}
 use Rattle.lvdc_phases.specs.Phase.{IsPhase, fetched_syllable, request_due}
@@ -31,21 +31,21 @@ use Rattle.lvdc_phases.proofs.Seen.{here-is, instruction-is, held}
 
 -- ---- a request is read back from its word
 
-target_again : (k : ℕ) (t : Target) → k < 8 → IsTarget t → target_in (target_bits t + k) ≡ t
-target_again k t small ok =
-    let dmod : (target_in (target_bits t + k)).dmod ≡ t.dmod = omega (arith, ok.dmod, ok.sector, ok.loc) in
-    let sector : (target_in (target_bits t + k)).sector ≡ t.sector = omega (arith, ok.dmod, ok.sector, ok.loc) in
-    let loc : (target_in (target_bits t + k)).loc ≡ t.loc = omega (arith, ok.dmod, ok.sector, ok.loc) in
+destination_again : (k : ℕ) (t : Destination) → k < 8 → IsDestination t → destination_in (destination_bits t + k) ≡ t
+destination_again k t small ok =
+    let dmod : (destination_in (destination_bits t + k)).dmod ≡ t.dmod = omega (arith, ok.dmod, ok.sector, ok.loc) in
+    let sector : (destination_in (destination_bits t + k)).sector ≡ t.sector = omega (arith, ok.dmod, ok.sector, ok.loc) in
+    let loc : (destination_in (destination_bits t + k)).loc ≡ t.loc = omega (arith, ok.dmod, ok.sector, ok.loc) in
     λ i. record { dmod = dmod i; sector = sector i; loc = loc i }
 
 request_again : (r : Request) → IsRequest r → request_of (word_of_request r) ≡ r
 request_again requests.Nothing ok = refl
 request_again (requests.StoreA t) ok =
     let k : word_of_request (requests.StoreA t) % 8 ≡ 1 = omega arith in
-    rw k (ap requests.StoreA (target_again 1 t (omega arith) ok))
+    rw k (ap requests.StoreA (destination_again 1 t (omega arith) ok))
 request_again (requests.StoreSaver t) ok =
     let k : word_of_request (requests.StoreSaver t) % 8 ≡ 2 = omega arith in
-    rw k (ap requests.StoreSaver (target_again 2 t (omega arith) ok))
+    rw k (ap requests.StoreSaver (destination_again 2 t (omega arith) ok))
 request_again (requests.PortWrite port) ok =
     let k : word_of_request (requests.PortWrite port) % 8 ≡ 3 = omega arith in
     let e : port_in (word_of_request (requests.PortWrite port)) ≡ port = omega (arith, ok) in
@@ -57,8 +57,8 @@ request_again (requests.PortRead port) ok =
 
 -- ---- what an instruction requests is the plain exchange
 
-target_fits : (h : HopConstant) (address : ℕ) → IsHopConstant h → IsTarget (target h address)
-target_fits h address ok =
+destination_fits : (h : HopConstant) (address : ℕ) → IsHopConstant h → IsDestination (destination h address)
+destination_fits h address ok =
     record {
       dmod = ok.dmod;
       sector = cond_both (a9 address) 15 h.dsec (λ x. x < 16) (λ _. omega arith) (λ _. ok.dsec);
@@ -66,9 +66,9 @@ target_fits h address ok =
     }
 
 store_fits : (k : OperandKind) (h : HopConstant) (address : ℕ) → IsHopConstant h → IsRequest (store_request k h address)
-store_fits kinds.Memory h address ok = target_fits h address ok
+store_fits kinds.Memory h address ok = destination_fits h address ok
 store_fits kinds.Pq h address ok = tt
-store_fits kinds.Saver h address ok = target_fits h address ok
+store_fits kinds.Saver h address ok = destination_fits h address ok
 
 requested_fits : (op : Op) (h : HopConstant) (address : ℕ) → IsHopConstant h → IsRequest (requested op h address)
 requested_fits Sto h address ok = store_fits (operand_kind address) h address ok
