@@ -41,13 +41,15 @@ same-shown law o step t words m at cell bank e h =
     ∙ law o.opening.banks at (memory.word_at m at) (λ twin. shows o step t twin at) (λ twin. shown_with o step twin at (cell twin)) bank
     (λ twin two held. ap (shown_with o step twin at) (h twin two held))
 
-pub shown-after : HoldersLaw → (o : Trial) (last : ℕ) (v : Voted) (at : Spot) → HasBank o.opening.banks at → Matches o (suc last) v
+-- before a step, with what was in force in the last one
+shown-after : HoldersLaw → (o : Trial) (last : ℕ) (v : Voted) (at : Spot) → HasBank o.opening.banks at → Matches o (suc last) v
     → is_recovered o.opening.banks at (memory.word_at v.intended at) (λ twin. shows o last v.twins twin at) ≡ is_recoverable_after o (suc last) at
 shown-after law o last v at bank m =
     same-shown law o last v.twins v.intended (plain_in o (suc last)).memory at (λ twin. cell_before o twin at (suc last)) bank m.intended
     (λ twin two held. m.stores.cells twin two at held)
 
-pub shown-begun : HoldersLaw → (o : Trial) (n : ℕ) (v : Voted) (at : Spot) → HasBank o.opening.banks at → IsBegun o n v
+-- in a step that is begun
+shown-begun : HoldersLaw → (o : Trial) (n : ℕ) (v : Voted) (at : Spot) → HasBank o.opening.banks at → IsBegun o n v
     → is_recovered o.opening.banks at (memory.word_at v.intended at) (λ twin. shows o n v.twins twin at) ≡ is_recoverable o n at
 shown-begun law o n v at bank b =
     same-shown law o n v.twins v.intended (plain_in o n).memory at (λ twin. damaged_at o n twin at (cell_before o twin at n)) bank b.intended

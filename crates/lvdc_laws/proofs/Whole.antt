@@ -1,5 +1,5 @@
 -- Whole runs of the guarded machine, for an opening of words.
-use Rattle.std.proofs.Common.{◌≡◌, ℕ, zero, suc, ◌-◌, ◌*◌, ◌/◌, ◌%◌, ◌<◌, ◌≤◌, ◌^◌, Bool, true, false, cond, List, [], ◌∷◌, length, subst, refl, sym, ap, ◌∙◌, arith}
+use Rattle.std.proofs.Common.{◌≡◌, ℕ, zero, suc, ◌-◌, ◌*◌, ◌/◌, ◌%◌, ◌<◌, ◌^◌, Bool, true, false, cond, List, [], ◌∷◌, subst, refl, sym, ap, ◌∙◌, arith}
 use Rattle.std.specs.Prelude.{All}
 use Rattle.std.specs.declared.option.Option.{Option}
 use Rattle.std.specs.declared.option.Option.TheVariants.{None, Some}
@@ -17,7 +17,7 @@ use Rattle.lvdc_fault.specs.declared.verdict.Verdict.TheVariants as verdicts
 use Rattle.lvdc_phases.specs.States.{ShowsRegisters}
 use Rattle.lvdc_model.specs.declared.outcome.Outcome.{Outcome}
 use Rattle.lvdc_model.specs.declared.outcome.Outcome.TheVariants as outcomes
-use Rattle.lvdc_model.specs.Trial.{Trial, plain_at, plain_in}
+use Rattle.lvdc_model.specs.Trial.{Trial, plain_at}
 use Rattle.lvdc_model.specs.Voted.{Voted, votes}
 use Rattle.lvdc_model.specs.Judging.{judged, first_bad, first_bad_below}
 use Rattle.lvdc_model.specs.Exchanges.{prepared}
@@ -25,8 +25,8 @@ use Rattle.lvdc_model.specs.Runs.{judged_by, guarded_by, guarded, found, alone_b
 use Rattle.lvdc_laws.specs.Copies.{wrong_before}
 use Rattle.lvdc_laws.specs.Laws.{StepLaws}
 use Rattle.lvdc_laws.specs.Relation.{devices_by, Matches, ShowsPlain, Follows, Goes, Halts}
-use Rattle.lvdc_laws.specs.Ends.{IsOpening, Opens, ShowsTimes, stop_end, IsBegun, Comes, Good, Bad, HasRoom}
-use Rattle.lvdc_laws.proofs.PlainRuns.{times-count, stays-world, plain-log}
+use Rattle.lvdc_laws.specs.Ends.{IsOpening, Opens, ShowsTimes, stop_end, IsBegun, Comes, Good, Bad}
+use Rattle.lvdc_laws.proofs.PlainRuns.{times-count, stays-world}
 use Rattle.lvdc_laws.proofs.Run.{found-judged, begun-at, kept-here, follows, comes, ends-inadmissible}
 
 -- ---- an opening of words
@@ -158,32 +158,6 @@ pub alone-guarded : (Stands : ℕ → List (List ℕ) → PlainState → Type 0)
 alone-guarded Stands law o opens zero = refl
 alone-guarded Stands law o opens (suc n) =
     ap (λ (v : Voted). alone_by v.end o v) (alone-guarded Stands law o opens n) ∙ alone-step Stands law o n (comes Stands o law opens n)
-
--- ---- room: at most one log entry and two repairs a time
-
-few-by : {Stands : ℕ → List (List ℕ) → PlainState → Type 0} → StepLaws Stands → (o : Trial) (n : ℕ) (v : Voted) → Follows Stands o n v → HasRoom n v
-few-by law o n v (Goes e k) =
-    let log : length v.log ≡ length (plain_in o n).log = ap length k.matches.log in
-    let few : length (plain_in o n).log ≤ n / 3 = plain-log law.ports o.opening (n / 3) in
-    record { log = omega arith; repairs = k.matches.few }
-few-by law o n v (Halts le d) =
-    let log : length v.log ≡ length (plain_in o v.steps).log = ap length d.matches.log in
-    let few : length (plain_in o v.steps).log ≤ v.steps / 3 = plain-log law.ports o.opening (v.steps / 3) in
-    let repairs : length v.repairs ≤ v.steps - v.steps / 3 = d.matches.few in
-    record { log = omega arith; repairs = omega arith }
-
-few-comes : {Stands : ℕ → List (List ℕ) → PlainState → Type 0} → StepLaws Stands → (o : Trial) (n : ℕ) → Comes Stands o n → HasRoom n (guarded o n)
-few-comes law o n (Good h f) = few-by law o n (guarded o n) f
-few-comes law o n (Bad m lt same stuck e) =
-    let is : guarded o n ≡ _ = stuck ∙ e.ends in
-    let log : length (guarded o n).log ≡ length (plain_in o m).log = ap (λ (v : Voted). length v.log) is ∙ ap length e.begun.log in
-    let few : length (plain_in o m).log ≤ m / 3 = plain-log law.ports o.opening (m / 3) in
-    let same_repairs : length (guarded o n).repairs ≡ length (prepared o (guarded o m)).repairs = ap (λ (v : Voted). length v.repairs) is in
-    let repairs : length (prepared o (guarded o m)).repairs ≤ m - m / 3 = e.begun.few in
-    record { log = omega arith; repairs = omega arith }
-
-pub guarded-room : (Stands : ℕ → List (List ℕ) → PlainState → Type 0) → StepLaws Stands → (o : Trial) → Opens Stands o → (n : ℕ) → HasRoom n (guarded o n)
-guarded-room Stands law o opens n = few-comes law o n (comes Stands o law opens n)
 
 -- ---- a step that is begun
 

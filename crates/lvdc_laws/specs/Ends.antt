@@ -71,8 +71,3 @@ pub record EndsAt (o : Trial) (n : ℕ) : Type 0 where
 pub data Comes (Stands : ℕ → List (List ℕ) → PlainState → Type 0) (o : Trial) (n : ℕ) : Type 0 where
   Good : first_bad_below o n ≡ Admissible → Follows Stands o n (guarded o n) → Comes Stands o n
   Bad : (m : ℕ) → m < n → first_bad_below o n ≡ first_bad_below o (suc m) → guarded o n ≡ guarded o (suc m) → EndsAt o m → Comes Stands o n
-
--- at most one log entry a time, and two repairs
-pub record HasRoom (n : ℕ) (v : Voted) : Type 0 where
-  pub log : length v.log ≤ n / 3
-  pub repairs : length v.repairs ≤ n - n / 3

@@ -6,24 +6,20 @@
 ghost use Rattle.std.specs.Prelude.{◌≡◌, ◌≢◌, ℕ, suc, ◌*◌, ◌<◌, None, Some, []};
 ghost use Rattle.lvdc_map.specs.Address.{Spot};
 ghost use Rattle.lvdc_map.specs.Banks.{HasBank};
-ghost use Rattle.lvdc_map.specs.Memory.{word_at};
 ghost use Rattle.lvdc_plain.specs.Run.{Opening, run};
-ghost use Rattle.lvdc_fault.specs.Recoverable.{is_recovered};
 ghost use Rattle.lvdc_fault.specs.declared.verdict.Verdict.{Verdict};
 ghost use Rattle.lvdc_fault.specs.declared.verdict.Verdict.TheVariants.{Admissible};
 ghost use Rattle.lvdc_phases.specs.Standing.{Standing};
 ghost use Rattle.lvdc_model.specs.declared.outcome.Outcome.{Outcome};
 ghost use Rattle.lvdc_model.specs.declared.outcome.Outcome.TheVariants.{Inadmissible};
 ghost use Rattle.lvdc_model.specs.Trial.{Trial, plain_at, plain_in};
-ghost use Rattle.lvdc_model.specs.Twins.{shows};
 ghost use Rattle.lvdc_model.specs.Voted.{Voted};
 ghost use Rattle.lvdc_model.specs.Judging.{is_recoverable, is_recoverable_after, first_bad, first_bad_below};
 ghost use Rattle.lvdc_model.specs.Exchanges.{prepared, ended};
 ghost use Rattle.lvdc_model.specs.Runs.{guarded, alone};
 ghost use Rattle.lvdc_model.specs.Known.{last_begun, is_known};
-ghost use Rattle.lvdc_laws.specs.Relation.{Matches};
 ghost use Rattle.lvdc_laws.specs.Laws.{VotesLaw, CopiesLaw, DamageLaw, ReadLaw, HoldersLaw, StoreLaw, IdleLaw, PortLaw, StepLaws};
-ghost use Rattle.lvdc_laws.specs.Ends.{IsOpening, Opens, ShowsTimes, stop_end, IsBegun, EndsAt, Comes, HasRoom};
+ghost use Rattle.lvdc_laws.specs.Ends.{IsOpening, Opens, ShowsTimes, stop_end, IsBegun, Comes};
 
 /// The headline's law: as long as no step was inadmissible, the guarded machine of 21 copies shows after whole times the
 /// registers, the words, the log and the devices of the plain run, a stop's own time included.
@@ -104,13 +100,6 @@ pub fn words_known()
     laws_of_a_step();
 }
 
-/// The guarded run makes at most one log entry and two repairs a time.
-pub fn guarded_room()
-    ensures { (o : Trial) → IsOpening o.opening → (n : ℕ) → HasRoom n (guarded o n) }
-{
-    laws_of_a_step();
-}
-
 /// A plain run that has not stopped has made as many times as it was asked for.
 pub fn all_times_made()
     ensures { (o : Opening) (n : ℕ) → (run o n).plain.stop ≡ None → (run o n).plain.times ≡ n }
@@ -179,14 +168,3 @@ pub fn idle_keeps()
 pub fn ports_match()
     ensures { PortLaw }
 {}
-
-/// What can be recovered by the machine's own cells and words can be so by definition, wherever these are those of the
-/// plain run: before a step with what was in force in the last one, and in a step that is begun.
-pub fn shown_words()
-    ensures after { (o : Trial) (last : ℕ) (v : Voted) (at : Spot) → HasBank o.opening.banks at → Matches o (suc last) v
-        → is_recovered o.opening.banks at (word_at v.intended at) (λ twin. shows o last v.twins twin at) ≡ is_recoverable_after o (suc last) at }
-    ensures begun { (o : Trial) (n : ℕ) (v : Voted) (at : Spot) → HasBank o.opening.banks at → IsBegun o n v
-        → is_recovered o.opening.banks at (word_at v.intended at) (λ twin. shows o n v.twins twin at) ≡ is_recoverable o n at }
-{
-    read_recovers();
-}

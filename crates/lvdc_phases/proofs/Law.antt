@@ -11,14 +11,14 @@ use Rattle.lvdc_port.specs.Device.{Device}
 use Rattle.lvdc_port.specs.Devices.{exchange_word}
 use Rattle.lvdc_port.specs.declared.requests.PortRequest.TheVariants.{Read}
 use Rattle.lvdc_plain.specs.Plain.{PlainState}
-use Rattle.lvdc_plain.specs.Table.{fetched_instr, operand_place, device_time, step}
+use Rattle.lvdc_plain.specs.Table.{fetched_instr, operand_place, device_time}
 use Rattle.lvdc_plain.specs.Accesses.{fetched_by, operand_by, spot_of}
 use Rattle.lvdc_modules.specs.declared.bus.Bus.{Bus}
 use Rattle.lvdc_modules.specs.declared.wanted.Wanted.{Wanted}
 use Rattle.lvdc_modules.specs.declared.wanted.Wanted.TheVariants.{Fetch, Operand}
 use Rattle.lvdc_modules.specs.Wish.{wish}
-use Rattle.lvdc_phases.specs.Phase.{IsPhase, CarriesWords, after}
 use Rattle.lvdc_phases.specs.Exchanges.{read_wish, made_by, made, IsAnswered}
+use Rattle.lvdc_phases.specs.Standing.{FirstLaw, SecondLaw, ThirdLaw}
 use Rattle.lvdc_phases.specs.Work.{UnitIsRight}
 use Rattle.lvdc_phases.proofs.ByOperation.{reads_port}
 use Rattle.lvdc_phases.proofs.Before.{IsFound, first_by, second_by}
@@ -29,8 +29,7 @@ use Rattle.lvdc_phases.proofs.Wishes.{wishes}
 pub answers : (x y : Wanted) (b : Bus) (p : PlainState) (devices : List Device) → x ≡ y → IsAnswered x b p devices → IsAnswered y b p devices
 answers x y b p devices e = subst (λ (w : Wanted). IsAnswered w b p devices) e
 
-pub first_law : UnitIsRight → (b : Bus) (p : PlainState) (devices : List Device) (memory port : ℕ) → p.stop ≡ None → IsPhase 0 b p → CarriesWords b
-    → IsAnswered (wish b p.banks) b p devices → IsPhase 1 (after b memory port) p
+pub first_law : UnitIsRight → FirstLaw
 first_law right b p devices memory port stop s words answered =
     first_by right p.hold b p memory port refl s words
     (λ z. answers (wish b p.banks) (read_wish Fetch (fetched_by None 0 p)) b p devices
@@ -42,8 +41,7 @@ found (Memory at) b p devices h = h
 found (Saver at) b p devices h = h
 found Pq b p devices h = tt
 
-pub second_law : UnitIsRight → (b : Bus) (p : PlainState) (devices : List Device) (memory port : ℕ) → p.stop ≡ None → IsPhase 1 b p
-    → IsAnswered (wish b p.banks) b p devices → IsPhase 2 (after b memory port) p
+pub second_law : UnitIsRight → SecondLaw
 second_law right b p devices memory port stop s answered =
     second_by right p.hold b p memory port refl s
     (λ z t. found (operand_place p (fetched_instr p).address) b p devices
@@ -57,8 +55,7 @@ read_there : (op : Op) (b : Bus) (p : PlainState) (devices : List Device) (addre
 read_there Pio b p devices address t h = rw t at h
 read_there _ b p devices address t h = absurd (false≢true t)
 
-pub third_law : UnitIsRight → (b : Bus) (p : PlainState) (devices : List Device) (memory port : ℕ) → p.stop ≡ None → IsPhase 2 b p → CarriesWords b
-    → IsAnswered (wish b p.banks) b p devices → IsPhase 0 (after b memory port) (step p devices).plain
+pub third_law : UnitIsRight → ThirdLaw
 third_law right b p devices memory port stop s words answered =
     third_by right b p devices memory port stop s words
     (λ z t. read_there (fetched_instr p).op b p devices (fetched_instr p).address t

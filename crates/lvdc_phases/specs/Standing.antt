@@ -8,12 +8,43 @@ use Rattle.lvdc_plain.specs.Plain.{PlainState}
 use Rattle.lvdc_plain.specs.Table.{device_time, step}
 use Rattle.lvdc_plain.specs.Accesses.{fetched, operand}
 use Rattle.lvdc_plain.specs.View.{ByInstruction}
+use Rattle.lvdc_modules.specs.declared.bus.Bus.{Bus}
 use Rattle.lvdc_modules.specs.Rows.{rows, bus_of}
 use Rattle.lvdc_modules.specs.Wish.{wish}
-use Rattle.lvdc_phases.specs.Phase.{IsPhase, stop_number}
-use Rattle.lvdc_phases.specs.Exchanges.{exchange_in, word_read, PortsFit}
+use Rattle.lvdc_phases.specs.Phase.{IsPhase, CarriesWords, after, stop_number}
+use Rattle.lvdc_phases.specs.Exchanges.{exchange_in, word_read, IsAnswered, PortsFit}
 use Rattle.lvdc_phases.specs.States.{Fits, after_phase, third_phase, ShowsRegisters}
 use Rattle.lvdc_phases.specs.Fits.{PlainFits}
+
+-- ---- over a bus
+
+-- what the latches wish for in a phase is what the plain machine exchanges in it
+abbrev pub WishLaw : Type 0
+WishLaw = (phase : ℕ) (b : Bus) (p : PlainState) → phase < 3 → p.stop ≡ None → IsPhase phase b p → wish b p.banks ≡ exchange_in phase p
+
+-- with the exchange of a phase answered, latches that stand for a running plain state in the first phase stand for it in the second
+abbrev pub FirstLaw : Type 0
+FirstLaw =
+    (b : Bus) (p : PlainState) (devices : List Device) (memory port : ℕ) → p.stop ≡ None → IsPhase 0 b p → CarriesWords b
+    → IsAnswered (wish b p.banks) b p devices → IsPhase 1 (after b memory port) p
+
+-- those in the second stand for it in the third
+abbrev pub SecondLaw : Type 0
+SecondLaw =
+    (b : Bus) (p : PlainState) (devices : List Device) (memory port : ℕ) → p.stop ≡ None → IsPhase 1 b p
+    → IsAnswered (wish b p.banks) b p devices → IsPhase 2 (after b memory port) p
+
+-- and those in the third for the state one instruction time later, stopped or not
+abbrev pub ThirdLaw : Type 0
+ThirdLaw =
+    (b : Bus) (p : PlainState) (devices : List Device) (memory port : ℕ) → p.stop ≡ None → IsPhase 2 b p → CarriesWords b
+    → IsAnswered (wish b p.banks) b p devices → IsPhase 0 (after b memory port) (step p devices).plain
+
+-- an instruction time of words leaves words
+abbrev pub WordsLaw : Type 0
+WordsLaw = (p : PlainState) (devices : List Device) → PortsFit devices (device_time p) → PlainFits p → PlainFits (step p devices).plain
+
+-- ---- over lists of latches
 
 -- the states name this stop, which an instruction is the cause of, and show the registers
 pub record ShowsStop (states : List (List ℕ)) (p : PlainState) (s : Stop) : Type 0 where
