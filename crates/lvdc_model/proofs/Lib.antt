@@ -4,3 +4,6 @@ pub mod LongRows
 pub mod ProgramRows
 pub mod SimplexRows
 pub mod Stuck
+mod CopyRows
+mod MemoryRows
+mod EndRows
