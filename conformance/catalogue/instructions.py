@@ -1,0 +1,120 @@
+"""What each instruction does, one copy after another."""
+from . import SUM_REPORT, Case, deck, sum_deck
+
+TITLE = "instructions"
+SHOWS = """What each of the eighteen instructions does to A, to the place, to the saver and to memory, in `run` or `run --plain`. An
+emulator of one machine without redundancy can take the cases of `run --plain`, and every case here whose report it turns into its
+own form."""
+
+EMPTY = """
+LVDC RUN
+END DONE
+TIMES 0
+PLACE 0 00 0 000
+DATA 0 01
+DUP 1 1
+A 000000000
+PQ 000000000
+SAVER 000000000
+"""
+
+CASES = [
+    Case("the-start-without-a-time", "No time is made: place and data place are those of the start constant 000000016, all else is 0.",
+         "run", deck("Nothing is run, and memory is empty.", run=0), text=EMPTY, worked=True),
+    Case("a-sum-wraps-at-the-sign", "CLA, ADD and STO: sums are modulo 2^26, and the greatest word and 1 make the least.", "run",
+         sum_deck("The greatest positive word plus 1 is the least negative one. STO leaves it at 0 01 002."), text=SUM_REPORT, worked=True),
+    Case("a-sum-on-the-plain-machine", "The same on the plain machine: the title is another, all else is the same.", "run --plain",
+         sum_deck("The greatest positive word plus 1 is the least negative one."), text=SUM_REPORT.replace("RUN", "PLAIN"), worked=True),
+    Case("tra-loads-the-saver", "A transfer loads the saver with the HOP constant of the next location, data place as before.", "run",
+         sum_deck("The fourth instruction, TRA 003 at 003, goes to itself. The saver names 004.", 4),
+         has="TIMES 4\nPLACE 0 00 0 003\nSAVER 000010016", worked=True),
+    Case("hop-of-an-empty-memory", "The syllable 0 is HOP 000. A HOP constant 0 clears the data place and both DUP bits.", "run",
+         deck("Memory is empty: HOP 000 takes the constant 0 from 0 01 000."),
+         has="PLACE 0 00 0 000\nDATA 0 00\nDUP 0 0\nSAVER 000002016", worked=True),
+    Case("hop-to-another-sector-and-syllable", "HOP sets module, sector, syllable, location, data module, data sector and both DUP bits.",
+         "run --plain",
+         deck("The constant 147002652 is instruction module 3, sector 03, syllable 1, location 001, data module 3, data sector 05, DUPIN 0, "
+              "DUPDN 1. With duplex pairs modules 2 and 3 are one bank, 1.", "00000", "147002652", 1),
+         has="PLACE 3 03 1 001\nDATA 3 05\nDUP 0 1\nSAVER 000002016"),
+    Case("hop-drops-the-spare-bit", "The spare bit of a HOP constant is dropped: no later saver has it.", "run",
+         deck("Bit 0 of the constant 000002017 is 1. It goes to 001, where TRA 002 loads the saver.", "00000 10002", "000002017", 2),
+         has="PLACE 0 00 0 002\nDATA 0 01\nDUP 1 1\nSAVER 000004016"),
+    Case("sub-is-a-less-m", "SUB: A becomes A less the operand, modulo 2^26.", "run",
+         deck("3 less 5 is -2.", "17000 02001", "000000003 000000005", 2), has="A 377777776"),
+    Case("rsu-is-m-less-a", "RSU: A becomes the operand less A.", "run",
+         deck("5 less 3 is 2.", "17000 15001", "000000003 000000005", 2), has="A 000000002"),
+    Case("and-has-the-bits-of-both", "AND: bit by bit.", "run",
+         deck("Two words, bit by bit.", "17000 06001", "377000525 125252252", 2), has="A 125000000"),
+    Case("xor-has-the-bits-of-one", "XOR: bit by bit.", "run",
+         deck("Two words, bit by bit.", "17000 11001", "377000525 125252252", 2), has="A 252252777"),
+    Case("tnz-goes-where-a-isnt-0", "TNZ transfers where A isn't 0, and then loads the saver.", "run",
+         deck("A is 1.", "17000 04010", "000000001", 2), has="PLACE 0 00 0 010\nSAVER 000004016"),
+    Case("tnz-stays-where-a-is-0", "TNZ goes on where A is 0, and leaves the saver.", "run",
+         deck("A is 0.", "17000 04010", "", 2), has="PLACE 0 00 0 002\nSAVER 000000000"),
+    Case("tmi-goes-where-a-is-negative", "TMI transfers where bit 25 of A is 1.", "run",
+         deck("A is the least word.", "17000 14010", "200000000", 2), has="PLACE 0 00 0 010\nSAVER 000004016"),
+    Case("tmi-stays-where-a-isnt-negative", "TMI goes on where bit 25 of A is 0.", "run",
+         deck("A is the greatest word.", "17000 14010", "177777777", 2), has="PLACE 0 00 0 002\nSAVER 000000000"),
+    Case("tra-to-syllable-1", "A9 of a transfer is the syllable: code may stand in both syllables of a word.", "run",
+         deck("TRA 400 goes to location 000 of syllable 1, where CLA 001 stands.", "10400", "0 000000007", 2, upper="17001"),
+         has="PLACE 0 00 1 001\nA 000000007\nSAVER 000002016"),
+    Case("a-transfer-to-syllable-0-from-1", "A transfer with A9 0 leaves syllable 1.", "run --plain",
+         deck("The start is in syllable 1. TRA 001 goes to syllable 0, where CLA 000 stands.", "00000 17000", "000000007", 2, upper="10001",
+              start="001000016"),
+         has="PLACE 0 00 0 002\nA 000000007\nSAVER 001002016"),
+    Case("location-000-comes-after-377", "The next location is modulo 256, in the same sector and syllable.", "run",
+         deck("The start is at location 377, whose word is CLA 000. The instruction after it is at 000.", "07001", "000000002 000000003", 2,
+              "0 00 377 000017000", start="000776016"), has="PLACE 0 00 0 001\nA 000000005"),
+    Case("the-residual-sector", "An operand with A9 1 stands in sector 17 of the data module.", "run",
+         deck("CLA 401 takes 0 17 001, STO 402 fills 0 17 002.", "17401 13402", "", 2, "0 17 001 000000123"),
+         has="A 000000123\nMEM 0 17 002 000000123"),
+    Case("the-residual-sector-is-of-the-data-module", "The residual sector is that of the data module, not of the instructions' module.", "run",
+         deck("CDS 041 makes module 2 (bank 1) and sector 01 the data place. CLA 401 takes 1 17 001.", "16041 17401", "", 2,
+              "0 17 001 000000001\n1 17 001 000000002"), has="DATA 2 01\nDUP 1 0\nA 000000002"),
+    Case("sto-775-fills-pq", "Address 775 is PQ: STO puts A there, and operands come from there.", "run",
+         deck("A goes to PQ, and is added from there. The word at 0 17 375 stays.", "17000 13775 07775", "000000007", 3, "0 17 375 000000100"),
+         has="A 000000016\nPQ 000000007\nMEM 0 17 375 000000100"),
+    Case("sto-776-stores-the-saver", "STO 776 and STO 777 store the saver into locations 376 and 377 of the residual sector; A isn't stored.",
+         "run", deck("TRA 002 loads the saver with 000002016. Then it is stored twice.", "10001 13776 13777", "", 3),
+         has="MEM 0 17 376 000002016\nMEM 0 17 377 000002016\nA 000000000"),
+    Case("reading-776-is-memory", "CLA 776 takes the word of memory at 376 of sector 17, whatever the saver is.", "run",
+         deck("The saver is 000002016 after the first time.", "10001 17776", "", 2, "0 17 376 000000055"), has="A 000000055\nSAVER 000002016"),
+    Case("data-sector-17-is-plain-memory", "Where the data sector is 17 and A9 is 0, locations 375 to 377 are plain memory.", "run",
+         deck("CDS 017 makes sector 17 the data sector. STO 375, 376 and 377 store A into memory.", "17000 16017 13375 13376 13377",
+              "000000007", 5), has="PQ 000000000\nMEM 0 17 375 000000007\nMEM 0 17 376 000000007\nMEM 0 17 377 000000007"),
+    Case("cds-changes-the-data-place", "CDS: data module in bits 6 to 4, data sector in bits 3 to 0, DUPDN in A9.", "run",
+         deck("CDS 573 is data module 7, data sector 13, DUPDN 1. HOP and CDS alone change them.", "16573", "", 1,
+              start="000000014"), has="PLACE 0 00 0 001\nDATA 7 13\nDUP 1 1\nSAVER 000000000"),
+    Case("shf-000-clears", "Shift pattern 000: A becomes 0.", "run", deck("A is 5, and then 0.", "17000 16200", "000000005", 2), has="A 000000000"),
+    Case("shf-001-keeps-the-sign", "Shift pattern 001: one place to the right, rounded down.", "run",
+         deck("-3 becomes -2.", "17000 16201", "377777775", 2), has="A 377777776"),
+    Case("shf-002-keeps-the-sign", "Shift pattern 002: two places to the right, rounded down.", "run",
+         deck("-3 becomes -1.", "17000 16202", "377777775", 2), has="A 377777777"),
+    Case("shf-020-loses-the-highest-bit", "Shift pattern 020: one place to the left, modulo 2^26.", "run",
+         deck("The highest bit is lost.", "17000 16220", "300000001", 2), has="A 200000002"),
+    Case("shf-040-loses-two-bits", "Shift pattern 040: two places to the left, modulo 2^26.", "run",
+         deck("The two highest bits are lost.", "17000 16240", "300000001", 2), has="A 000000004"),
+    Case("a-shift-without-meaning-stops", "Every other pattern stops the machine as SHIFT: the place stays, the time counts, status 6.", "run",
+         deck("SHF 203 has the pattern 003. Five times are asked for.", "16203", "", 5), 6,
+         has="END STOPPED 2 SHIFT\nTIMES 1\nPLACE 0 00 0 000", worked=True),
+    Case("exm-stops", "EXM, A8 and A9 both 1, stops the machine as EXM.", "run",
+         deck("Five times are asked for, one is made.", "16600", "", 5), 6,
+         has="END STOPPED 2 EXM\nTIMES 1\nPLACE 0 00 0 000", worked=True),
+    Case("exm-stops-the-plain-machine", "The same on the plain machine, which tells the stop by its step too: three times the time, plus 2.",
+         "run --plain", deck("CLA comes first, so the stop is in time 1.", "17000 16600", "000000005", 5), 6,
+         has="END STOPPED 5 EXM\nTIMES 2\nPLACE 0 00 0 001\nA 000000005"),
+    Case("pio-without-a-device", "PIO at a port without a device: a read answers 0, a write is lost, and both are logged.", "run",
+         deck("PIO 037 writes A to port 037, PIO 437 reads it.", "17000 12037 12437", "000000005", 3),
+         has="A 000000000\nOUT 1 037 000000005\nIN 2 037 000000000"),
+    Case("code-is-data", "A program may store over its own code: what is fetched is what memory holds then.", "run",
+         deck("The data sector is 00 too. CLA 010 takes the word that is SHF 220, and STO 003 puts it where the fourth instruction stands.",
+              "17010 13003 17011 00000", "", 4, "0 00 010 000016220\n0 00 011 000000005", start="000000006"),
+         has="PLACE 0 00 0 004\nDATA 0 00\nA 000000012\nMEM 0 00 003 000016220"),
+    Case("both-syllables-of-a-word", "An instruction in syllable 1 is bits 25 to 13 of its word; the sector's syllables are two rows of 256.",
+         "run --plain", deck("The start is in syllable 1 at 000. Its three instructions stand above others that aren't reached.", "16600 16600 16600",
+                             "000000003 000000004", 3, upper="17000 07001 13002", start="001000016"),
+         has="PLACE 0 00 1 003\nA 000000007\nMEM 0 01 002 000000007"),
+    Case("any-syllable-is-an-instruction", "Decoding never fails: a word of data that is reached is an instruction too.", "run",
+         deck("TRA 410 goes to syllable 1 of location 010, whose word 377777777 is CLA 777 in both syllables.", "10410", "", 2,
+              "0 00 010 377777777\n0 17 377 000000012"), has="PLACE 0 00 1 011\nA 000000012"),
+]

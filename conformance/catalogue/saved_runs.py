@@ -1,0 +1,132 @@
+"""Runs that are saved, and runs that go on."""
+from simulator import answer
+
+from . import SUM_REPORT, Case, deck, sum_deck
+from .faults import TWO_WRONG
+from .memory import READ
+
+TITLE = "saved runs"
+SHOWS = """What `save N` writes after N times, what `resume` makes of such a text, and its refusals. The texts that `resume` is given here
+come from simulator.py, some of them changed by hand. A text may also be any whole state that no run comes to."""
+
+TWO_DAMAGED = deck("Twin 0 first, and two times later twin 1.", READ, "000000005", 3,
+                   faults="DAMAGE 0 0 01 000 0 0000000001\nDAMAGE 1 0 01 000 4 0000000001")
+DEVICES = deck("A tape, a latch, the recorder; another tape is unplugged. A twin is dead while the run is saved.",
+               "12400 12014 12017 12401 10000", "", 12,
+               ports="TAPE 000 1 2 3\nTAPE 001 4 5\nUNPLUG 001 6\nUNPLUG 013 9",
+               faults="DEAD 0 2 0 40\nFLIP 2 3 7 8 0 000000004\nLAG 5 1 11 13\nSTICK 1 0 01 000 10 30 0000000001 0000000001",
+               order="UTSRQPONMLKJIHGFEDCBA\nABCDEFGHIJKLMNOPQRSTU")
+
+
+def saved(given, times):
+    return answer(["save", str(times)], given)[1]
+
+
+def changed(text, old, new):
+    assert text.count(old) == 1, (text, old)
+    return text.replace(old, new)
+
+
+SUM_SAVED = saved(sum_deck("The sum."), 1)
+TWO_SAVED = saved(TWO_DAMAGED, 1)
+DEVICES_SAVED = saved(DEVICES, 5)
+NUMBER = {line: k + 1 for k, line in reversed(list(enumerate(DEVICES_SAVED.splitlines())))}
+
+
+def refused(name, shows, text, line, cause="BadSave"):
+    return Case(name, shows, "resume", text, 2, "REFUSED %s %d" % (cause, line))
+
+
+def number(text, start):
+    """The first line of a text that begins so."""
+    return next(k + 1 for k, line in enumerate(text.splitlines()) if line.startswith(start))
+
+
+STRAY = """
+LVDC SAVE 1
+STEPS 3
+COUNT 2
+COPY 1 1 0 000000000 000000000
+COPY 1 2 0 000000004 000000010
+COPY 1 3 0 000000000 000000000
+COPY 2 1 0 000002004 000000000
+COPY 2 2 0 000002004 000000000
+COPY 2 3 0 377777777 377777777
+COPY 3 1 0 000017000
+COPY 3 2 0 000017000
+COPY 3 3 0 000000000
+COPY 4 1 0 000000012
+COPY 4 2 0 000000012
+COPY 4 3 0 000000012
+COPY 5 1 3 000000005 000000005
+COPY 5 2 0 000000006 000000005
+COPY 5 3 0 000000007 000000005
+COPY 6 1 0 000000001 000000005 000000004 000000000 000000020
+COPY 6 2 0 000000001 000000005 000000004 000000000 000000020
+COPY 6 3 0 000000001 000000005 000000004 000000000 000000020
+COPY 7 1 0 000000000 000000000
+COPY 7 2 0 000000000 000000000
+COPY 7 3 0 000000000 000000000
+SELECT 1 0 1 1
+CELL 0 0 00 001 1000033002
+CELL 1 0 00 001 0000000000
+WORD 0 00 001 000013002
+IN 0 377 000000001
+REPAIR 1 3 17 377 1 SWITCH
+ABCDEFGHIJKLMNOPQRSTU
+END
+"""
+
+CASES = [
+    Case("the-sum-after-one-time", "A saved text: steps, count, 21 copies, selections, cells and words that aren't 0, devices, orders.", "save 1",
+         sum_deck("One time of three."), has="STEPS 3\nCOUNT 3\nCOPY 2 1 0 000002004 000000000\nCOPY 4 1 0 000000012\nCOPY 5 1 0 177777777 177777777",
+         worked=True),
+    Case("the-sum-goes-on", "resume goes on with that text to the report of the whole run.", "resume", SUM_SAVED, text=SUM_REPORT, worked=True),
+    Case("the-sum-at-its-start", "save 0: the start is saved, no step is made.", "save 0", sum_deck("No time."),
+         has="STEPS 0\nCOPY 2 1 0 000000004 000000000\nCOPY 4 3 0 000000012\nSELECT 0 0 0 0\nABCDEFGHIJKLMNOPQRSTU\nEND"),
+    Case("a-repaired-cell-is-saved", "The twin selected and the repairs are saved with the state.", "save 1", TWO_DAMAGED,
+         has="SELECT 1 0 0 0\nREPAIR 1 0 01 000 0 SWITCH\nDAMAGE 1 0 01 000 4 0000000001", worked=True),
+    Case("a-repair-before-and-one-after", "The saved repairs stand in the report before the new ones.", "resume", TWO_SAVED,
+         has="A 000000005\nSAVER 000004016\nREPAIR 1 0 01 000 0 SWITCH\nREPAIR 7 0 01 000 1 SWITCH", worked=True),
+    Case("devices-and-wrong-copies-are-saved", "What devices hold, UNPLUG lines, the script, the orders; copies that are wrong, with their counts.", "save 5",
+         DEVICES, has="STATE 000 000000002\nSTATE 001 000000005\nSTATE 014 000000001\nSTATE 017 000000001\nUNPLUG 001 6\nUNPLUG 013 9\nDEAD 0 2 0 40"),
+    Case("devices-go-on", "A run goes on with its devices, its script and its orders; the device of time 6 is taken away then.", "resume", DEVICES_SAVED,
+         has="IN 0 000 000000001\nIN 5 000 000000002\nIN 8 001 000000000\nIN 10 000 000000003"),
+    Case("devices-in-one-run", "The same deck in one run: the report that resume comes to.", "run", DEVICES,
+         has="IN 0 000 000000001\nIN 5 000 000000002\nIN 8 001 000000000\nIN 10 000 000000003"),
+    Case("after-the-last-time", "A run may be saved at its very end; resume then makes no step.", "save 3", sum_deck("Three of three."), has="STEPS 9\nCOUNT 3"),
+    Case("the-end-comes-first", "Where the run ends in these times save writes the report, with the status of run.", "save 2",
+         sum_deck("Two copies of the decoder in step 4.", faults=TWO_WRONG), 5, has="LVDC RUN\nEND INADMISSIBLE 4 LOGIC 3\nTIMES 1"),
+    Case("an-end-just-after", "The same deck, saved before the step that ends it.", "save 1",
+         sum_deck("Two copies of the decoder in step 4.", faults=TWO_WRONG), has="STEPS 3\nFLIP 3 1 4 4 0 000001000"),
+    Case("more-times-than-the-deck-has", "A number above the deck's count is named at RUN's line.", "save 4", sum_deck("RUN 3."), 2,
+         "REFUSED CountTooLarge %d" % (sum_deck("RUN 3.").count("\n"))),
+    Case("a-state-that-no-run-comes-to", "resume takes any whole state: three copies of A that all differ, PHASE 4 in one, an idle unit's stray latches.", "resume",
+         STRAY.lstrip("\n"), has="END DONE\nTIMES 2\nA 000000007\nIN 0 377 000000001\nMEM 0 01 002 000000007\nREPAIR 1 3 17 377 1 SWITCH\nREPAIR 3 0 00 001 1 SWITCH"),
+    Case("a-word-of-the-state-is-lost", "resume judges by the cells and words of the text: here the next instruction can't be recovered.", "resume",
+         STRAY.lstrip("\n").replace("CELL 0 0 00 001 1000033002\n", "CELL 0 0 00 001 0000000000\n"), 5, has="END INADMISSIBLE 3 MEMORY 0 00 001\nTIMES 1"),
+    refused("a-deck-in-place-of-a-saved-text", "A deck is no saved text.", sum_deck("The sum."), 1),
+    refused("steps-that-are-no-times", "Steps are a multiple of 3.", changed(TWO_SAVED, "STEPS 3", "STEPS 4"), 2),
+    refused("more-steps-than-the-count", "At most three times the count, named at COUNT.", changed(TWO_SAVED, "STEPS 3", "STEPS 12"), 3),
+    refused("a-word-of-a-copy-too-few", "Each copy has the latches of its module.", changed(TWO_SAVED, "COPY 3 1 0 000017000\n", "COPY 3 1 0\n"), number(TWO_SAVED, "COPY 3 1")),
+    refused("a-difference-count-too-large", "No copy differs in more steps than were made.", changed(TWO_SAVED, "COPY 3 1 0 ", "COPY 3 1 4 "), number(TWO_SAVED, "COPY 3 1")),
+    refused("a-vote-of-phase", "PHASE is voted 0 modulo 4 between times: 1 in two copies is named at the second of them.",
+            TWO_SAVED.replace("COPY 1 1 0 000000000", "COPY 1 1 0 000000001").replace("COPY 1 2 0 000000000", "COPY 1 2 0 000000001"), number(TWO_SAVED, "COPY 1 2")),
+    refused("a-vote-of-stop-by-the-third", "The same of STOP, where the third copy makes the majority.",
+            TWO_SAVED.replace("COPY 7 1 0 000000000", "COPY 7 1 0 000000002").replace("COPY 7 3 0 000000000", "COPY 7 3 0 000000002"), number(TWO_SAVED, "COPY 7 3")),
+    refused("a-leading-zero", "Each line has exactly the spelling that is printed.", changed(TWO_SAVED, "COUNT 3", "COUNT 03"), 3),
+    refused("two-blanks", "The words of a line are parted by single spaces.", changed(TWO_SAVED, "COUNT 3", "COUNT  3"), 3),
+    refused("a-cell-of-the-word-0", "A cell of the word 0 has no line.", changed(TWO_SAVED, "SELECT 1 0 0 0\n", "SELECT 1 0 0 0\nCELL 0 0 00 000 1000020000\n"),
+            number(TWO_SAVED, "SELECT") + 1),
+    refused("words-that-dont-rise", "Words rise by address.", changed(TWO_SAVED, "WORD 0 00 001 000010000\n", "WORD 0 00 000 000010000\n"), number(TWO_SAVED, "WORD 0 00 001")),
+    refused("a-log-line-of-a-time-to-come", "Exchanges are of times that were made.", changed(DEVICES_SAVED, "IN 3 001 000000004", "IN 5 001 000000004"), NUMBER["IN 3 001 000000004"]),
+    refused("a-second-word-of-a-latch", "A latch has one line at most.", changed(DEVICES_SAVED, "STATE 014 000000001\n", 2 * "STATE 014 000000001\n"),
+            NUMBER["STATE 014 000000001"] + 1),
+    refused("a-state-of-a-ticker", "A ticker holds nothing.", changed(DEVICES_SAVED, "STATE 017 000000001", "STATE 016 000000001"), NUMBER["STATE 017 000000001"], "NoDevice"),
+    refused("a-state-of-a-device-taken-away", "A device whose UNPLUG line lies before the state has none: the first STATE line of its port is named.",
+            changed(DEVICES_SAVED, "UNPLUG 001 6", "UNPLUG 001 4"), NUMBER["STATE 001 000000005"], "NoDevice"),
+    refused("a-fault-line-as-in-a-deck", "Fault lines have the printed spelling too.", changed(DEVICES_SAVED, "LAG 5 1 11 13", "LAG 5 1 11  13"), NUMBER["LAG 5 1 11 13"]),
+    refused("no-order", "There is at least one order.", changed(TWO_SAVED, "ABCDEFGHIJKLMNOPQRSTU\n", ""), number(TWO_SAVED, "ABC")),
+    refused("no-end", "A text that ends before END is named at one more than its last line.", changed(TWO_SAVED, "\nEND\n", "\n"), number(TWO_SAVED, "END")),
+    refused("a-line-after-end", "END is the last line.", TWO_SAVED + "\n", number(TWO_SAVED, "END") + 1),
+]

@@ -1,0 +1,1 @@
+"""The parts of simulator.py, written from docs/MACHINE.md and docs/FORMATS.md alone."""

@@ -1,0 +1,85 @@
+"""Macros (docs/FORMATS.md, "Macros")."""
+import re
+
+from .assembler import NAME, OPERATIONS, assemble, parted
+from .lines import Refused, is_comment, print_image
+
+MOST_BYTES, MOST_CALLS, MOST_LEVELS = 1_048_576, 999, 16
+
+
+class Expander:
+    def __init__(self, lines):
+        self.lines = lines
+        self.macros, self.calls, self.size = {}, 0, 0
+        self.out, self.origins = [], []
+
+    def refuse(self, cause, origin):
+        raise Refused(cause, origin, 3)
+
+    def expand(self):
+        name, body = None, []
+        for k, line in enumerate(self.lines):
+            label, operation, operand = ("", "", "") if is_comment(line) else parted(line)
+            if name is not None:
+                if operation == "MACRO" or (operation == "MEND" and label):
+                    self.refuse("BadMacro", k + 1)
+                if operation == "MEND":
+                    self.macros[name], name = body, None
+                else:
+                    body.append(line)
+            elif operation == "MACRO":
+                self.check_name(label, k + 1)
+                name, body = label, []
+            else:
+                self.line(line, k + 1, 1)
+        if name is not None:
+            self.refuse("BadMacro", len(self.lines) + 1)
+
+    def check_name(self, label, origin):
+        taken = label in OPERATIONS or label in ("EXM", "MACRO", "MEND") or label in self.macros
+        if not re.fullmatch(NAME, label) or taken:
+            self.refuse("BadMacro", origin)
+
+    def line(self, line, origin, level):
+        """Expands a line outside of definitions; a call in it is on this level."""
+        label, operation, operand = ("", "", "") if is_comment(line) else parted(line)
+        if operation in ("MACRO", "MEND"):
+            self.refuse("BadMacro", origin)
+        if operation in self.macros:
+            self.call(label, self.macros[operation], operand, origin, level)
+            return
+        self.size += len(line) + 1
+        if self.size > MOST_BYTES:
+            self.refuse("ExpansionTooLong", origin)
+        self.out.append(line)
+        self.origins.append(origin)
+
+    def call(self, label, body, operand, origin, level):
+        arguments = operand.split(",") if operand else []
+        if label or len(arguments) > 9:
+            self.refuse("BadMacro", origin)
+        if level > MOST_LEVELS:
+            self.refuse("TooDeep", origin)
+        if self.calls == MOST_CALLS:
+            self.refuse("TooManyCalls", origin)
+        self.calls += 1
+        put = {"&0": "%03d" % self.calls}
+        put.update({"&%d" % k: arguments[k - 1] if k <= len(arguments) else "" for k in range(1, 10)})
+        for line in body:
+            self.line(re.sub("&[0-9]", lambda found: put[found.group()], line), origin, level + 1)
+
+
+def expansion(lines):
+    expander = Expander(lines)
+    expander.expand()
+    return expander
+
+
+def image_of_expansion(lines):
+    """The text of the image of the expansion; a refusal names the line of the source that it came from."""
+    expander = expansion(lines)
+    try:
+        return print_image(assemble(expander.out).image())
+    except Refused as refused:
+        origins = expander.origins + [len(lines) + 1]
+        raise Refused(refused.cause, origins[refused.line - 1], refused.status) from None

@@ -1,0 +1,176 @@
+"""Reports, soak texts and debug sessions (docs/FORMATS.md, "Report", "Soak" and "Debug session")."""
+import re
+
+from .faults import octal, plain_decimal
+from .lines import BLANKS, spot, tokens_of
+from .modules import hold
+from .words import banks, fetch_address, written
+
+STATUS = {None: 0, "INADMISSIBLE": 5, "STOPPED": 6}
+
+
+def status_of(machine):
+    return STATUS[machine.end and machine.end[0]]
+
+
+def end_line(end):
+    if end is None:
+        return "END DONE"
+    line = "END %s %d %s" % (end[0], end[1], end[2])
+    if end[2] == "MEMORY":
+        return line + " " + spot(end[3])
+    return line + " %d" % end[3] if end[2] == "LOGIC" else line
+
+
+def register_lines(machine):
+    hop, a, pq, saver = machine.registers()
+    return ["TIMES %d" % machine.times, "PLACE %o %02o %o %03o" % (hop.imod, hop.isec, hop.syl, hop.loc),
+            "DATA %o %02o" % (hop.dmod, hop.dsec), "DUP %d %d" % (hop.dupin, hop.dupdn), "A %09o" % a, "PQ %09o" % pq,
+            "SAVER %09o" % saver]
+
+
+def log_lines(log):
+    return ["%s %d %03o %09o" % ("IN" if reading else "OUT", time, port, word) for time, port, reading, word in log]
+
+
+def repair_lines(repairs):
+    return ["REPAIR %d %s %d%s" % (step, spot(at), twin, " SWITCH" if switched else "") for step, at, twin, switched in repairs]
+
+
+def addresses(simplex):
+    return [(bank, sector, loc) for bank in banks(simplex) for sector in range(16) for loc in range(256)]
+
+
+def memory_lines(machine):
+    lines = []
+    for at in addresses(machine.opening.simplex):
+        if not machine.is_known(at):
+            lines.append("MEM %s ?" % spot(at))
+        elif machine.intended(at):
+            lines.append("MEM %s %09o" % (spot(at), machine.intended(at)))
+    return lines
+
+
+def wrong_lines(machine):
+    return ["WRONG %d %d %d" % (m + 1, c + 1, count) for m, counts in enumerate(machine.differed) for c, count in enumerate(counts)
+            if count]
+
+
+def text_of(lines):
+    return "".join(line + "\n" for line in lines)
+
+
+def report(title, machine):
+    lines = [title, end_line(machine.end)] + register_lines(machine) + log_lines(machine.log) + memory_lines(machine)
+    if title != "LVDC PLAIN":
+        lines += wrong_lines(machine) + repair_lines(machine.repairs)
+    return text_of(lines)
+
+
+def soak_text(number, machine):
+    return text_of(["LVDC SOAK %d" % number, end_line(machine.end), "TIMES %d" % machine.times, "A %09o" % machine.registers()[1],
+                    "WRONG %d" % sum(map(sum, machine.differed)), "REPAIRS %d" % len(machine.repairs)])
+
+
+# ---- debug sessions
+
+
+class Session:
+    """Answers commands over a guarded machine."""
+
+    def __init__(self, machine, limit):
+        self.machine, self.limit = machine, limit
+        self.breaks = []
+
+    def text(self, commands):
+        lines = ["LVDC DEBUG"]
+        for command in commands:
+            lines += ["> " + command.strip(BLANKS)] + self.answer(tokens_of(command))
+        return text_of(lines)
+
+    def answer(self, tokens):
+        word, rest = tokens[0], tokens[1:]
+        if word == "STEP" and len(rest) == 1:
+            count = plain_decimal(rest[0])
+            if count is not None and 1 <= count <= 1_000_000:
+                return self.steps(count)
+        if word == "GO" and not rest:
+            return self.go()
+        if word == "REGS" and not rest:
+            return register_lines(self.machine)
+        if word == "BREAK" and len(rest) == 4:
+            return self.set_break(self.spot(rest))
+        if word == "MEM" and len(rest) == 4:
+            return self.memory(self.spot(rest[:2] + ["0"] + rest[2:3]), plain_decimal(rest[3]))
+        if word == "DIS" and len(rest) == 5:
+            return self.instructions(self.spot(rest[:4]), plain_decimal(rest[4]))
+        if word == "COPIES" and len(rest) == 1 and re.fullmatch("[1-7]", rest[0]):
+            return self.copies(int(rest[0]))
+        return ["BAD COMMAND"]
+
+    def spot(self, fields):
+        """(bank, sector, location) and syllable of p ss s lll, or None."""
+        p, ss, s, lll = (octal(text, digits, below) for text, digits, below in zip(fields, (1, 2, 1, 3), (4, 16, 2, 256)))
+        return None if None in (p, ss, s, lll) else ((p, ss, lll), s)
+
+    def steps(self, count):
+        asked = self.machine.times + count
+        self.machine.run(min(asked, self.limit))
+        return [self.where_it_went(self.machine.times == asked)]
+
+    def go(self):
+        while self.machine.end is None and self.machine.times < self.limit:
+            self.machine.run(self.machine.times + 1)
+            if self.machine.end is None and not hold(self.machine.votes) and self.at_break():
+                return [self.where_it_went(True)]
+        return [self.where_it_went(False)]
+
+    def at_break(self):
+        hop = self.machine.registers()[0]
+        return (fetch_address(hop, self.machine.opening.simplex), hop.syl) in self.breaks
+
+    def where_it_went(self, all_done):
+        if self.machine.end is not None:
+            return end_line(self.machine.end)
+        if not all_done:
+            return "LIMIT %d" % self.machine.times
+        return "AT %d" % self.machine.times + register_lines(self.machine)[1][len("PLACE"):]
+
+    def set_break(self, where):
+        if where is None:
+            return ["BAD COMMAND"]
+        if where not in self.breaks:
+            if len(self.breaks) == 16:
+                return ["BREAKS FULL"]
+            self.breaks.append(where)
+        return ["BREAKS %d" % len(self.breaks)]
+
+    def range_of(self, where, count):
+        """The addresses of a command, or None where they leave the sector."""
+        if where is None or count is None or not 1 <= count <= 256 or where[0][2] + count > 256:
+            return None
+        return [(where[0][0], where[0][1], where[0][2] + k) for k in range(count)]
+
+    def memory(self, where, count):
+        spots = self.range_of(where, count)
+        if spots is None:
+            return ["BAD COMMAND"]
+        return ["MEM %s %s" % (spot(at), "%09o" % self.machine.intended(at) if self.machine.is_known(at) else "?") for at in spots]
+
+    def instructions(self, where, count):
+        spots = self.range_of(where, count)
+        if spots is None:
+            return ["BAD COMMAND"]
+        return [self.instruction(at, where[1]) for at in spots]
+
+    def instruction(self, at, syl):
+        line = "%o %02o %o %03o " % (at[0], at[1], syl, at[2])
+        if not self.machine.is_known(at):
+            return line + "?"
+        word = self.machine.intended(at)
+        syllable = word >> 13 if syl else word & 0o17777
+        return line + "%05o %s" % (syllable, written(syllable))
+
+    def copies(self, module):
+        return ["COPY %d %d %s" % (module, c + 1, " ".join("%09o" % latch for latch in state))
+                for c, state in enumerate(self.machine.copies[module - 1])]

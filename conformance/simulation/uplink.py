@@ -1,0 +1,117 @@
+"""Uplinks (docs/FORMATS.md, "Uplink")."""
+import re
+
+from .faults import octal
+from .lines import LIMIT, Refused, find_end, is_comment, print_image, read_image, tokens_of
+from .words import WORD
+
+
+def decimal(text, most):
+    """One to six decimal digits with a value from 1 on, or None."""
+    return int(text) if re.fullmatch("[0-9]{1,6}", text) and 1 <= int(text) <= most else None
+
+
+class Link:
+    def __init__(self, image):
+        self.image = image
+        self.open = None  # id, number of frames, the frames that are staged by their numbers
+        self.last = 0, None
+
+    def answer(self, line):
+        if len(line) > LIMIT:
+            return "NAK Form"
+        tokens = tokens_of(line)
+        answer = {"OPEN": self.opened, "FRAME": self.framed, "COMMIT": self.committed, "ABANDON": self.abandoned}
+        told = answer[tokens[0]](tokens[1:]) if tokens and tokens[0] in answer else None
+        return told or "NAK Form"
+
+    def is_open(self, load):
+        return self.open is not None and self.open[0] == load
+
+    def opened(self, rest):
+        load, count = (decimal(rest[0], 999_999), decimal(rest[1], 64)) if len(rest) == 2 else (None, None)
+        if load is None or count is None:
+            return None
+        if self.open is not None:
+            return "ACK OPEN %d" % load if self.open[:2] == (load, count) else "NAK Busy %d" % self.open[0]
+        if load <= self.last[0]:
+            return "NAK Old %d" % self.last[0]
+        self.open = load, count, {}
+        return "ACK OPEN %d" % load
+
+    def framed(self, rest):
+        if not 7 <= len(rest) <= 14:
+            return None
+        load, number = decimal(rest[0], 999_999), decimal(rest[1], 64)
+        at = octal(rest[2], 1, 4), octal(rest[3], 2, 16), octal(rest[4], 3, 256)
+        words = [octal(text, 9, WORD) for text in rest[5:]]
+        if load is None or number is None or None in at or None in words:
+            return None
+        return self.stage(load, number, at, words[:-1], words[-1])
+
+    def stage(self, load, number, at, words, check):
+        if not self.is_open(load):
+            return "NAK NoLoad"
+        if number > self.open[1] or at[2] + len(words) > 256:
+            return "NAK Range"
+        right = (load + number + 4096 * at[0] + 256 * at[1] + at[2] + sum(words)) % WORD
+        if check != right:
+            return "NAK Check %09o" % right
+        staged = self.open[2]
+        if staged.get(number, (at, words)) != (at, words):
+            return "NAK Differs %d" % number
+        staged[number] = at, words
+        return "ACK FRAME %d %d" % (load, number)
+
+    def committed(self, rest):
+        load, check = (decimal(rest[0], 999_999), octal(rest[1], 9, WORD)) if len(rest) == 2 else (None, None)
+        if load is None or check is None:
+            return None
+        if self.last == (load, check):
+            return "ACK COMMIT %d" % load
+        if not self.is_open(load):
+            return "NAK NoLoad"
+        count, staged = self.open[1:]
+        missing = next((number for number in range(1, count + 1) if number not in staged), None)
+        if missing is not None:
+            return "NAK Missing %d" % missing
+        right = sum(load + number + 4096 * at[0] + 256 * at[1] + at[2] + sum(words) for number, (at, words) in staged.items()) % WORD
+        if check != right:
+            return "NAK Check %09o" % right
+        for number in range(1, count + 1):
+            at, words = staged[number]
+            self.image.words.update({(at[0], at[1], at[2] + k): word for k, word in enumerate(words)})
+        self.open, self.last = None, (load, check)
+        return "ACK COMMIT %d" % load
+
+    def abandoned(self, rest):
+        load = decimal(rest[0], 999_999) if len(rest) == 1 else None
+        if load is None:
+            return None
+        if not self.is_open(load):
+            return "NAK NoLoad"
+        self.open = None
+        return "ACK ABANDON %d" % load
+
+
+def heading(lines, start, word, cause):
+    """The index of the first line from here on that isn't skipped, which must be this word."""
+    for k in range(start, len(lines)):
+        if len(lines[k]) > LIMIT:
+            raise Refused("BadLine", k + 1)
+        if not is_comment(lines[k]):
+            if tokens_of(lines[k]) != [word]:
+                raise Refused(cause, k + 1)
+            return k
+    raise Refused(cause, len(lines) + 1)
+
+
+def uplink(lines):
+    begin = heading(lines, 0, "IMAGE", "NoProgram")
+    end = find_end(lines, begin)
+    if end is None:
+        raise Refused("BadSection", begin + 1)
+    messages = heading(lines, end + 1, "UPLINK", "BadSection")
+    link = Link(read_image(lines[begin + 1:end + 1], begin + 2))
+    answers = [link.answer(line) for line in lines[messages + 1:]]
+    return "".join(answer + "\n" for answer in answers) + print_image(link.image)

@@ -1,0 +1,127 @@
+#!/usr/bin/env python3
+"""A simulator of the same machine, with the same command lines and texts, written apart from docs/MACHINE.md and docs/FORMATS.md.
+
+It is slow and proves nothing. The wanted texts of the cases come from it where they don't come from worked examples, so that no
+text comes from the program that the cases try. usage: simulator.py WORDS.. <INPUT"""
+import re
+import sys
+
+from simulation.assembler import assemble, listing
+from simulation.campaign import campaign
+from simulation.decks import read_deck, soak_deck
+from simulation.devices import at_port, of_the_program
+from simulation.lines import Refused, lines_of, print_image
+from simulation.macros import expansion, image_of_expansion
+from simulation.plain import Plain
+from simulation.report import Session, report, soak_text, status_of, text_of
+from simulation.saved import print_saved, read_saved
+from simulation.uplink import uplink
+from simulation.voted import Voted
+
+USAGE = """usage: lvdc run [--plain | --through]
+       lvdc asm [--image]
+       lvdc debug
+       lvdc soak NUMBER
+       lvdc save NUMBER
+       lvdc resume
+       lvdc campaign
+       lvdc uplink
+       lvdc macro [--image]
+"""
+MOST_BYTES, MOST_SAVED_BYTES = 1_048_576, 134_217_728
+
+
+def opened(lines, debugging=False):
+    """A deck, and the program's devices with the words of its TAPE lines."""
+    devices = of_the_program()
+    deck = read_deck(lines, devices, debugging)
+    for port, word in deck.supplies:
+        at_port(devices, port).supply(word)
+    return deck, devices
+
+
+def run_plain(lines):
+    deck, devices = opened(lines)
+    plain = Plain(deck.opening, devices)
+    plain.run(deck.count)
+    return status_of(plain), report("LVDC PLAIN", plain)
+
+
+def run_voted(lines, guarded):
+    deck, devices = opened(lines)
+    machine = Voted(deck.opening, deck.script, devices, guarded)
+    machine.run(deck.count)
+    return status_of(machine), report("LVDC RUN" if guarded else "LVDC THROUGH", machine)
+
+
+def debugged(lines):
+    deck, devices = opened(lines, True)
+    machine = Voted(deck.opening, deck.script, devices, True)
+    text = Session(machine, deck.count).text(deck.commands)
+    return status_of(machine), text
+
+
+def soaked(number):
+    deck = soak_deck(number)
+    machine = Voted(deck.opening, deck.script, of_the_program(), True)
+    machine.run(deck.count)
+    return status_of(machine), soak_text(number, machine)
+
+
+def saved(lines, times):
+    deck, devices = opened(lines)
+    if times > deck.count:
+        raise Refused("CountTooLarge", deck.count_line)
+    machine = Voted(deck.opening, deck.script, devices, True)
+    machine.run(times)
+    if machine.end:
+        return status_of(machine), report("LVDC RUN", machine)
+    return 0, print_saved(machine, deck)
+
+
+def resumed(lines):
+    machine, count = read_saved(lines, of_the_program())
+    machine.run(count)
+    return status_of(machine), report("LVDC RUN", machine)
+
+
+def reader_of(words):
+    """What answers these words over the lines of an input: a status and a text. None for words that are no command line."""
+    commands = {
+        ("run",): lambda lines: run_voted(lines, True),
+        ("run", "--through"): lambda lines: run_voted(lines, False),
+        ("run", "--plain"): run_plain,
+        ("asm",): lambda lines: (0, listing(lines)),
+        ("asm", "--image"): lambda lines: (0, print_image(assemble(lines).image())),
+        ("debug",): debugged,
+        ("resume",): resumed,
+        ("campaign",): lambda lines: (0, campaign(lines)),
+        ("uplink",): lambda lines: (0, uplink(lines)),
+        ("macro",): lambda lines: (0, text_of(expansion(lines).out)),
+        ("macro", "--image"): lambda lines: (0, image_of_expansion(lines)),
+    }
+    if len(words) == 2 and words[0] == "save" and re.fullmatch("[0-9]{1,7}", words[1]):
+        return lambda lines: saved(lines, int(words[1]))
+    return commands.get(tuple(words))
+
+
+def answer(words, text):
+    """The status and the text that are due for these words and this input; of both texts each character is a byte."""
+    if len(words) == 2 and words[0] == "soak" and re.fullmatch("[0-9]{1,10}", words[1]) and int(words[1]) < 2**32:
+        return soaked(int(words[1]))
+    reader = reader_of(words)
+    if reader is None:
+        return 1, USAGE
+    if len(text) > (MOST_SAVED_BYTES if words == ["resume"] else MOST_BYTES):
+        return 11, "REFUSED TooLong\n"
+    try:
+        return reader(lines_of(text))
+    except Refused as refused:
+        return refused.status, refused.text()
+
+
+if __name__ == "__main__":
+    is_read = reader_of(sys.argv[1:]) is not None
+    status, text = answer(sys.argv[1:], sys.stdin.buffer.read().decode("latin-1") if is_read else "")
+    sys.stdout.buffer.write(text.encode("latin-1"))
+    sys.exit(status)
