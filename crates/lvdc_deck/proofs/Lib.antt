@@ -15,5 +15,4 @@ pub mod Alone
 pub mod SessionDecks
 pub mod Apart
 pub mod SaidLines
-pub mod Spans
 mod Rows

@@ -1,5 +1,5 @@
 -- Worked decks.
-use Rattle.std.proofs.Common.{◌≡◌, ℕ, true, false, List, [], ◌∷◌, ◌++◌, replicate, reverse, Ok, Err, None, Some, Result, refl, codes}
+use Rattle.std.proofs.Common.{◌≡◌, ℕ, true, false, List, [], ◌∷◌, ◌++◌, replicate, reverse, length, Ok, Err, None, Some, Result, refl, codes}
 use Rattle.lvdc_map.specs.Hop.{hop_of}
 use Rattle.lvdc_text.specs.Lines.{lines_from, words_from}
 use Rattle.lvdc_text.specs.Numbers.{word_in}
@@ -8,6 +8,7 @@ use Rattle.lvdc_port.specs.declared.device.Kind.TheVariants.{Tape, Latch}
 use Rattle.lvdc_image.specs.Image.{text_of}
 use Rattle.lvdc_image.specs.Reading.{words_from as words_told, entry_in, banks_in, banks_named, image_of}
 use Rattle.lvdc_image.specs.declared.fault.ImageFault.TheVariants.{BadImageLine}
+use Rattle.lvdc_fault.specs.declared.event.Event.{Event}
 use Rattle.lvdc_fault.specs.declared.event.Event.TheVariants.{Lag}
 use Rattle.lvdc_script_lines.specs.Fields.{target_in, span_in, step_in}
 use Rattle.lvdc_orders.specs.Orders.{plain_order}
@@ -18,11 +19,11 @@ use Rattle.lvdc_source.specs.Operations.{operation_of}
 use Rattle.lvdc_source.specs.Source.{meaning_of, items_from}
 use Rattle.lvdc_source.specs.declared.fault.SourceFault.TheVariants.{UnknownOperation}
 use Rattle.lvdc_asm.specs.declared.fault.AsmFault.TheVariants.{UndefinedName, OutOfSector, Source as OfSource}
-use Rattle.lvdc_deck.specs.Sections.{entry_in as entry_point_in}
+use Rattle.lvdc_deck.specs.Sections.{Sections, port_in, time_in, words_in, with_event, entry_in as entry_point_in}
 use Rattle.lvdc_deck.specs.Deck.{commands_from, told_from, constant_by, deck_from, deck_of}
 use Rattle.lvdc_deck.specs.declared.deck.Deck.{Deck}
 use Rattle.lvdc_deck.specs.declared.fault.DeckFault.{DeckFault}
-use Rattle.lvdc_deck.specs.declared.fault.DeckFault.TheVariants.{BadSection, BadLine, NoProgram, NoDevice, CountTooLarge, Image, Asm}
+use Rattle.lvdc_deck.specs.declared.fault.DeckFault.TheVariants.{BadSection, BadLine, NoProgram, NoDevice, TooManyEvents, CountTooLarge, Image, Asm}
 use Rattle.lvdc_deck.specs.declared.entry.EntryPoint.TheVariants.{Constant, Name}
 use Rattle.lvdc_deck.specs.declared.section.ProgramKind.TheVariants as kinds
 
@@ -90,6 +91,10 @@ two_counts = refl
 start_after_run : after_image (codes "RUN 3" ∷ codes "START 16" ∷ []) ≡ Err (BadSection 5)
 unfolding after_image meaning devices lines_from words_from told_from deck_from
 start_after_run = refl
+
+start_alone : after_image (codes "START" ∷ []) ≡ Err (BadLine 4)
+unfolding after_image meaning devices lines_from words_from told_from deck_from
+start_alone = refl
 
 no_start_of_27_bits : after_image (codes "START 400000000" ∷ []) ≡ Err (BadLine 4)
 unfolding word_in after_image meaning devices lines_from words_from told_from deck_from
@@ -204,6 +209,40 @@ tape_taken_away = refl
 needless_zero : after_image (codes "PORTS" ∷ codes "UNPLUG 000 05" ∷ []) ≡ Err (BadLine 5)
 unfolding after_image meaning devices lines_from words_from told_from deck_from
 needless_zero = refl
+
+-- the greatest time of an UNPLUG line
+unplugged_last : (time_in (codes "1000000") ≡ Some 1000000) × (time_in (codes "1000001") ≡ None)
+unplugged_last = (refl, refl)
+
+unplugged_too_late : after_image (codes "PORTS" ∷ codes "UNPLUG 000 1000001" ∷ []) ≡ Err (BadLine 5)
+unfolding after_image meaning devices lines_from words_from told_from deck_from
+unplugged_too_late = refl
+
+-- the greatest port
+greatest_port : (port_in (codes "377") ≡ Some 0o377) × (port_in (codes "400") ≡ None)
+greatest_port = (refl, refl)
+
+port_past_it : after_image (codes "PORTS" ∷ codes "TAPE 400 1" ∷ []) ≡ Err (BadLine 5)
+unfolding word_in after_image meaning devices lines_from words_from told_from deck_from
+port_past_it = refl
+
+-- a word has nine digits at most
+nine_digits : (words_in (codes "377777777" ∷ []) ≡ Some (0o377777777 ∷ [])) × (words_in (codes "0000000001" ∷ []) ≡ None)
+unfolding word_in
+nine_digits = (refl, refl)
+
+-- a comment begins with its `*`
+blank_before_a_comment : after_image (codes " * NOTE" ∷ []) ≡ Err (BadSection 4)
+unfolding after_image meaning devices lines_from words_from told_from deck_from
+blank_before_a_comment = refl
+
+-- the 65,536th event is the last one
+last_event : (s : Sections) (number : ℕ) (event : Event) → length s.script ≡ 65535
+    → with_event s number (Some event) ≡ Ok (record s { script = s.script ++ event ∷ [] })
+last_event s number event few = rw few refl
+
+one_event_too_many : (s : Sections) (number : ℕ) (event : Event) → length s.script ≡ 65536 → with_event s number (Some event) ≡ Err (TooManyEvents number)
+one_event_too_many s number event few = rw few refl
 
 -- the sections are read before the image
 image_last : meaning (codes "IMAGE" ∷ codes "LVDC 3" ∷ codes "END" ∷ codes "RUN 3" ∷ []) ≡ Err (Image (BadImageLine 2))

@@ -1,14 +1,15 @@
--- The UNPLUG lines of a deck name devices, each another one, and it has no more orders than a deck may have.
-use Rattle.std.proofs.Common.{◌≡◌, ◌≢◌, ℕ, ◌+◌, ◌≤◌, ◌==◌, nat_lt, Bool, true, false, List, [], ◌∷◌, ◌++◌, All, codes, length, length-append, drop, take, None, Some, Result, Ok, Err, refl, sym, ap, subst, ◌∙◌, arith}
+-- The UNPLUG lines of a deck name devices, each another one, at times within the limit, and it has no more orders than a deck may
+-- have.
+use Rattle.std.proofs.Common.{◌≡◌, ◌≢◌, ℕ, ◌+◌, ◌<◌, ◌≤◌, ◌==◌, nat_lt, Bool, true, false, List, [], ◌∷◌, ◌++◌, All, codes, length, length-append, drop, take, None, Some, Result, Ok, Err, refl, sym, ap, subst, ◌∙◌, arith}
 use Rattle.std.specs.Bool.{if◌then◌else◌}
 use Rattle.std.specs.List.{list_any}
 use Rattle.std.specs.Str.{bytes_eq}
 use Rattle.std.specs.declared.option.Option.{Option}
 use Rattle.std.proofs.lemmas.Bool.{eqb-false, ltb-true, or_parts}
-use Rattle.std.proofs.lemmas.List.Elements.{All-nil, All-cons, All-append}
+use Rattle.std.proofs.lemmas.List.Elements.{All-nil, All-cons, All-append, All-push}
 use Rattle.std.proofs.lemmas.List.Quantifiers.{all_pairs_push}
 use Rattle.lvdc_text.specs.Lines.{word_texts_of, is_long, is_comment, part_of, lines_of}
-use Rattle.lvdc_text.specs.Numbers.{number_of}
+use Rattle.lvdc_text.specs.Numbers.{number_of, below, plain_number_of}
 use Rattle.lvdc_text.specs.declared.cutting.Line.{Line}
 use Rattle.lvdc_script_lines.specs.Lines.{fault_in, order_in}
 use Rattle.lvdc_fault.specs.declared.event.Event.{Event}
@@ -35,6 +36,7 @@ module _ (devices : List Device) where
   -- what is true of the UNPLUG lines and the orders
   pub record AreLines (unplugs : List Unplug) (orders : List (List ℕ)) : Type 0 where
     pub named : NameDevices devices unplugs
+    pub early : All (λ unplug. unplug.time ≤ MOST_TIMES) unplugs
     pub few : length orders ≤ MOST_ORDERS
 
   -- so of sections that are not refused
@@ -126,9 +128,9 @@ module _ (devices : List Device) where
       let parts = or_parts (line.port == port) (list_any (λ l. l.port == port) lines) none in
       All-cons (λ l. l.port ≢ port) line lines (eqb-false line.port port parts.0) (others port lines parts.1)
 
-  line-more : (s : Sections) (port time : ℕ) (kind : Kind) → AreLines s.unplugs s.orders → is_unplugged s port ≡ false → kind_at (λ device. device) port devices ≡ Some kind
+  line-more : (s : Sections) (port time : ℕ) (kind : Kind) → time ≤ MOST_TIMES → AreLines s.unplugs s.orders → is_unplugged s port ≡ false → kind_at (λ device. device) port devices ≡ Some kind
       → AreLines (s.unplugs ++ record { port = port; time = time } ∷ []) s.orders
-  line-more s port time kind h apart there =
+  line-more s port time kind soon h apart there =
       record {
         named = record {
           there = All-append (λ unplug. kind_at (λ device. device) unplug.port devices ≢ None) s.unplugs (record { port = port; time = time } ∷ []) h.named.there
@@ -137,28 +139,41 @@ module _ (devices : List Device) where
           once = all_pairs_push (λ unplug later. unplug.port ≢ later.port) s.unplugs (record { port = port; time = time }) h.named.once
               (λ k d within. others port s.unplugs apart k d within);
         };
+        early = All-push (λ (unplug : Unplug). unplug.time ≤ MOST_TIMES) s.unplugs (record { port = port; time = time }) h.early soon;
         few = h.few;
       }
 
-  unplug-at : (kind : Option Kind) (s : Sections) (number port time : ℕ) → kind_left devices s port ≡ kind → AreLines s.unplugs s.orders
+  unplug-at : (kind : Option Kind) (s : Sections) (number port time : ℕ) → kind_left devices s port ≡ kind → time ≤ MOST_TIMES → AreLines s.unplugs s.orders
       → Kept (unplug_at kind s number port time)
-  unplug-at None s number port time is h = tt
-  unplug-at (Some kind) s number port time is h = by_lines (is_unplugged s port) refl
+  unplug-at None s number port time is soon h = tt
+  unplug-at (Some kind) s number port time is soon h = by_lines (is_unplugged s port) refl
     where
       by_lines : (t : Bool) → is_unplugged s port ≡ t → AreLines (s.unplugs ++ record { port = port; time = time } ∷ []) s.orders
       by_lines true named = absurd (cc (sym (ap (λ (t : Bool). if t then None else kind_at (λ device. device) port devices) named) ∙ is))
       by_lines false apart =
-          line-more s port time kind h apart (sym (ap (λ (t : Bool). if t then None else kind_at (λ device. device) port devices) apart) ∙ is)
+          line-more s port time kind soon h apart (sym (ap (λ (t : Bool). if t then None else kind_at (λ device. device) port devices) apart) ∙ is)
 
-  unplug-kept : (s : Sections) (number : ℕ) (port time : Option ℕ) → AreLines s.unplugs s.orders → Kept (with_unplug devices s number port time)
-  unplug-kept s number (Some port) (Some time) h = unplug-at (kind_left devices s port) s number port time refl h
-  unplug-kept s number (Some port) None h = tt
-  unplug-kept s number None time h = tt
+  -- a number that is read below a limit
+  below-less : (limit : ℕ) (n : Option ℕ) (k : ℕ) → below limit n ≡ Some k → k < limit
+  below-less limit (Some n) k e = by (nat_lt n limit) refl e
+    where
+      by : (less : Bool) → nat_lt n limit ≡ less → (if less then Some n else None) ≡ Some k → k < limit
+      by true l e = let same : n ≡ k = cc in omega (arith, ltb-true n limit l, same)
+      by false l e = absurd (cc)
+  below-less limit None k e = absurd (cc)
+
+  unplug-kept : (s : Sections) (number : ℕ) (token : List ℕ) (port time : Option ℕ) → time_in token ≡ time → AreLines s.unplugs s.orders
+      → Kept (with_unplug devices s number port time)
+  unplug-kept s number token (Some port) (Some time) is h =
+      let less = below-less (MOST_TIMES + 1) (plain_number_of 7 token) time is in
+      unplug-at (kind_left devices s port) s number port time refl (omega (arith, less)) h
+  unplug-kept s number token (Some port) None is h = tt
+  unplug-kept s number token None time is h = tt
 
   unplug-line : (s : Sections) (number : ℕ) (tokens : List (List ℕ)) → AreLines s.unplugs s.orders → Kept (unplug_line devices s number tokens)
   unplug-line s number [] h = tt
   unplug-line s number (port ∷ []) h = tt
-  unplug-line s number (port ∷ time ∷ []) h = unplug-kept s number (port_in port) (time_in time) h
+  unplug-line s number (port ∷ time ∷ []) h = unplug-kept s number time (port_in port) (time_in time) refl h
   unplug-line s number (port ∷ time ∷ next ∷ tokens) h = tt
 
   port-line : (s : Sections) (number : ℕ) (first : List ℕ) (tokens : List (List ℕ)) → AreLines s.unplugs s.orders → Kept (port_line devices s number first tokens)
@@ -187,7 +202,7 @@ module _ (devices : List Device) where
       by_size : (t : Bool) → nat_lt (length s.orders) MOST_ORDERS ≡ t → Kept (with_order s number (Some order))
       by_size true is =
           let less = ltb-true (length s.orders) MOST_ORDERS is in
-          rw is (record { named = h.named; few = omega (arith, less, length-append s.orders (order ∷ [])) })
+          rw is (record { named = h.named; early = h.early; few = omega (arith, less, length-append s.orders (order ∷ [])) })
       by_size false is = rw is tt
 
   -- ---- one line
@@ -280,6 +295,7 @@ module _ (devices : List Device) where
           there = All-nil (λ unplug. kind_at (λ device. device) unplug.port devices ≢ None);
           once = λ i j d less within. absurd (omega (arith, within));
         };
+        early = All-nil (λ (unplug : Unplug). unplug.time ≤ MOST_TIMES);
         few = omega arith;
       }
 

@@ -1,6 +1,6 @@
 //! What the definition of decks tells, as laws: functions that do nothing.
 
-ghost use Rattle.std.specs.Prelude.{◌≡◌, ◌+◌, ◌-◌, ◌<◌, ◌≤◌, All, AllPairs, ℕ, Bool, true, false, List, ◌∷◌, length, Some, Ok};
+ghost use Rattle.std.specs.Prelude.{◌≡◌, ◌-◌, ◌<◌, ◌≤◌, All, AllPairs, ℕ, Bool, true, false, List, ◌∷◌, length, Some, Ok};
 ghost use Rattle.lvdc_port.specs.Device.{Device};
 ghost use Rattle.lvdc_text.specs.Lines.{NumberedLine, numbered, lines_of};
 ghost use Rattle.lvdc_asm.specs.Assembly.{assembly_of};
@@ -36,25 +36,19 @@ pub fn session_is_run()
         → deck_of bytes devices true ≡ Ok deck → deck_of bytes devices false ≡ Ok deck }
 {}
 
-/// A deck has no more words for tapes and UNPLUG lines, together, than its text has bytes. Each of these lines has a time within the
-/// limit.
-pub fn deck_is_within_its_text()
-    ensures few { (bytes : List ℕ) (devices : List Device) (debugging : Bool) (deck : Deck)
-        → deck_of bytes devices debugging ≡ Ok deck → length deck.supplies + length deck.unplugs ≤ length bytes }
-    ensures times { (bytes : List ℕ) (devices : List Device) (debugging : Bool) (deck : Deck)
-        → deck_of bytes devices debugging ≡ Ok deck → All (λ unplug. unplug.time ≤ MOST_TIMES) deck.unplugs }
-{}
-
 /// Each command of a deck ends before the later ones begin.
 pub fn commands_are_apart()
     ensures { (bytes : List ℕ) (devices : List Device) (debugging : Bool) (deck : Deck)
         → deck_of bytes devices debugging ≡ Ok deck → AllPairs (λ before after. before.end < after.start) deck.commands }
 {}
 
-/// The UNPLUG lines of a deck name devices, each another one, and there are no more lines of ORDER than a deck may have.
+/// The UNPLUG lines of a deck name devices, each another one, at times within the limit, and there are no more lines of ORDER than
+/// a deck may have.
 pub fn unplugs_are_apart()
     ensures unplugs { (bytes : List ℕ) (devices : List Device) (debugging : Bool) (deck : Deck)
         → deck_of bytes devices debugging ≡ Ok deck → NameDevices devices deck.unplugs }
+    ensures times { (bytes : List ℕ) (devices : List Device) (debugging : Bool) (deck : Deck)
+        → deck_of bytes devices debugging ≡ Ok deck → All (λ unplug. unplug.time ≤ MOST_TIMES) deck.unplugs }
     ensures orders { (bytes : List ℕ) (devices : List Device) (debugging : Bool) (deck : Deck)
         → deck_of bytes devices debugging ≡ Ok deck → length deck.orders ≤ MOST_ORDERS }
 {}

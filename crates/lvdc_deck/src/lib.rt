@@ -19,8 +19,7 @@ mod sought;
 pub use deck::Deck;
 pub use fault::DeckFault;
 pub use laws::{
-    commands_are_apart, deck_is_within_its_text, session_is_run, source_is_assembled,
-    source_is_moved, unplugs_are_apart,
+    commands_are_apart, session_is_run, source_is_assembled, source_is_moved, unplugs_are_apart,
 };
 pub use layout::is_alone;
 pub use read::read_deck;

@@ -6,7 +6,7 @@ ghost use Rattle.lvdc_suspend.specs.Halves.{IsSaveOf};
 ghost use Rattle.lvdc_halves.specs.Alike.{AreAlike};
 ghost use Rattle.lvdc_halves.specs.Goes.{TellsRun};
 
-use lvdc_deck::{deck_is_within_its_text, unplugs_are_apart};
+use lvdc_deck::unplugs_are_apart;
 use lvdc_saved_lines::printed_is_read_back;
 
 /// A text that was saved tells the run that it was saved from, over devices of the ports and kinds of those that were handed in,
@@ -16,6 +16,5 @@ pub fn saved_tells_run()
         → TellsRun bytes before now text }
 {
     unplugs_are_apart();
-    deck_is_within_its_text();
     printed_is_read_back();
 }
