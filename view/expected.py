@@ -28,10 +28,10 @@ def end_sentence(line, times):
             return f"At step {step} a read of the word at {' '.join(place)} found no good copy of it. The machine stops there."
         case ["END", "INADMISSIBLE", step, "LOGIC", module]:
             return (f"At step {step} two of the three {MANY[int(module)]} were wrong. "
-                    "The run ends there: the voter can no longer tell which is right.")
+                    "The run ends there: from then on the vote can't be relied on.")
         case ["END", "INADMISSIBLE", step, "MEMORY", *place]:
             return (f"At step {step} the word at {' '.join(place)} was to be read, and it can't be recovered any more. "
-                    "The run ends there: the memories no longer tell what it was.")
+                    "The run ends there: what the memories still show of it can't be relied on.")
     raise ValueError(line)
 
 

@@ -26,9 +26,9 @@ const Telling = (() => {
             return `At step ${end.step} a read of the word at ${end.address} found no good copy of it. The machine stops there.`;
         },
         logic: (end) => `At step ${end.step} two of the three ${many(end.module)} were wrong. `
-            + 'The run ends there: the voter can no longer tell which is right.',
+            + 'The run ends there: from then on the vote can\'t be relied on.',
         memory: (end) => `At step ${end.step} the word at ${end.address} was to be read, and it can't be recovered any more. `
-            + 'The run ends there: the memories no longer tell what it was.',
+            + 'The run ends there: what the memories still show of it can\'t be relied on.',
         device: (end) => `At step ${end.step} the device at port ${end.port} failed. The run ends there.`,
     };
 
@@ -102,7 +102,7 @@ const Telling = (() => {
 
     function repair(it) {
         const selected = it.switched ? '; the other memory is asked first from then on' : '';
-        return `memory ${it.twin}: the cell ${it.address} was found bad at step ${it.step} and rewritten${selected}`;
+        return `memory ${it.twin}: the cell ${it.address} was found bad at step ${it.step} and mended${selected}`;
     }
 
     const exchange = (it) => `port ${it.port}: the word ${it.word} was ${it.reading ? 'read' : 'written'} in instruction time ${it.time}`;
@@ -115,7 +115,7 @@ const Telling = (() => {
         const repairs = report.repairs.length;
         if (copies === 0 && repairs === 0) return 'No copy differed from the vote, and no cell had to be mended.';
         const differed = `${copies === 1 ? 'One' : copies} of the 21 copies differed from the vote at least once.`;
-        const mended = `${repairs === 1 ? 'Once' : `${repairs} times`} a read found a bad cell, took the word from the other memory and rewrote the cell.`;
+        const mended = `${repairs === 1 ? 'Once' : `${repairs} times`} a read found a bad cell, took the word from the other memory and mended the cell.`;
         return [...(copies > 0 ? [differed] : []), ...(repairs > 0 ? [mended] : [])].join(' ');
     }
 

@@ -9,7 +9,7 @@ const MemoriesView = (() => {
         damaged: ['✕', 'damaged: bits turned over'],
         stuck: ['▬', 'stuck: bits held fast'],
         dead: ['▒', 'dead: the memory shows nothing there'],
-        mended: ['●', 'mended: found bad by a read, and rewritten'],
+        mended: ['●', 'mended: found bad by a read, and rewritten, but a dead memory stores nothing'],
         lost: ['?', 'lost: the word can\'t be recovered'],
     };
     const BY_FAULTS = { DAMAGE: 'damaged', STICK: 'stuck', DEAD: 'dead' };
