@@ -6,6 +6,8 @@ text comes from the program that the cases try. usage: simulator.py WORDS.. <INP
 import re
 import sys
 
+sys.dont_write_bytecode = True
+
 from simulation.assembler import assemble, listing
 from simulation.campaign import campaign
 from simulation.decks import read_deck, soak_deck
