@@ -12,11 +12,12 @@ from simulation.words import written
 
 
 class Case:
-    def __init__(self, name, shows, words, given, status=0, text=None, has=(), lacks=(), worked=False, packed=False):
-        self.name, self.shows, self.words, self.given, self.status = name, shows, words.split() if isinstance(words, str) else words, given, status
+    def __init__(self, name, shows, words, given, status=0, text=None, has=(), lacks=(), worked=False):
+        self.name, self.shows, self.given, self.status, self.worked = name, shows, given, status, worked
+        self.words = words.split() if isinstance(words, str) else words
         self.text = None if text is None else block(text)
-        self.has = [line for line in block(has).splitlines()] if isinstance(has, str) else list(has)
-        self.lacks, self.worked, self.packed = list(lacks), worked, packed
+        self.has = block(has).splitlines() if isinstance(has, str) else list(has)
+        self.lacks = list(lacks)
 
     def source(self):
         """Where the wanted text comes from, for the table of cases."""
@@ -58,7 +59,8 @@ def image(code="", words="", more="", upper=""):
     return sorted(lines + [line.strip() for line in block(more).splitlines()])
 
 
-def deck(note, code="", words="", run=1, more="", upper="", simplex="", start="", ports="", faults="", order="", debug="", version=""):
+def deck(note, code="", words="", run=1, more="", upper="", simplex="", start="", ports="", faults="", order="", debug="",
+         version=""):
     """A deck with comments. `version` has the lines START and SIMPLEX of an image of version 2."""
     text = comment(note) + listed(code, 0) + listed(upper, 1) + "IMAGE\n"
     text += "LVDC 2\n" + block(version) if version else "LVDC 1\n"

@@ -3,7 +3,8 @@ from . import Case
 from .sources import unindented
 
 TITLE = "macros"
-SHOWS = """Sources with macros: `macro` writes the expansion, `macro --image` the image of it. A refusal names a line of the source."""
+SHOWS = """Sources with macros: `macro` writes the expansion, `macro --image` the image of it. A refusal names a line of the
+source."""
 
 DOUBLE = """
 DOUBLE  MACRO
@@ -130,19 +131,26 @@ def levels(count):
 CASES = [
     macro("double-with-image", "Arguments are put in for &1 to &9.", DOUBLE % "X,X+1", "macro --image",
           has="0 00 000 000017000\n0 00 001 000007000\n0 00 002 000013001\n0 01 000 000000005", worked=True),
-    refused("a-name-that-a-call-brings", "A refusal of the assembler names the line of the source from which the refused line came.",
+    refused("a-name-that-a-call-brings",
+            "A refusal of the assembler names the line of the source from which the refused line came.",
             (DOUBLE % "X,Y").lstrip("\n"), "UndefinedName 7", "macro --image", True),
     kept("five-times-three", "A macro that calls another one; labels with the number of the call.", TIMES, WRITTEN),
-    kept("nested-calls", "Calls are numbered as they begin; a missing argument is nothing; other & stay; lines after END are expanded too.", NESTED, NESTED_WRITTEN),
-    Case("a-plain-source", "A source without macros is its own expansion.", "macro", "* NOTHING\n CODE\n  CLA\t000   &1\n\n END", text=None,
-         has="* NOTHING\n CODE\n  CLA\t000   &1\n END"),
-    macro("arguments-arent-looked-at-again", "Text that was put in isn't looked at again.", "M       MACRO\n*       &1 &2\n        MEND\n        M     &2,X\n", has="*       &2 X"),
+    kept("nested-calls",
+         "Calls are numbered as they begin; a missing argument is nothing; other & stay; lines after END are expanded too.",
+         NESTED, NESTED_WRITTEN),
+    Case("a-plain-source", "A source without macros is its own expansion.", "macro", "* NOTHING\n CODE\n  CLA\t000   &1\n\n END",
+         text=None, has="* NOTHING\n CODE\n  CLA\t000   &1\n END"),
+    macro("arguments-arent-looked-at-again", "Text that was put in isn't looked at again.",
+          "M       MACRO\n*       &1 &2\n        MEND\n        M     &2,X\n", has="*       &2 X"),
     macro("sixteen-levels", "Calls go sixteen levels deep.", levels(16), text="* DONE"),
     refused("seventeen-levels", "A call on level 17.", levels(17), "TooDeep 52"),
-    refused("a-macro-that-calls-itself", "It is named at the outermost call.", "LOOP    MACRO\n        LOOP\n        MEND\n        LOOP\n        END\n", "TooDeep 4", worked=True),
-    Case("999-calls", "999 calls are allowed: the last has the number 999.", "macro", "M MACRO\n* &0\n MEND\n" + 999 * " M\n", has="* 001\n* 999"),
+    refused("a-macro-that-calls-itself", "It is named at the outermost call.",
+            "LOOP    MACRO\n        LOOP\n        MEND\n        LOOP\n        END\n", "TooDeep 4", worked=True),
+    Case("999-calls", "999 calls are allowed: the last has the number 999.", "macro", "M MACRO\n* &0\n MEND\n" + 999 * " M\n",
+         has="* 001\n* 999"),
     refused("a-thousand-calls", "The thousandth call.", "M MACRO\n MEND\n" + 1000 * " M\n", "TooManyCalls 1002"),
-    refused("an-expansion-too-long", "The line with which the expansion passes 1,048,576 bytes.", "M MACRO\n" + 500 * ("*" + 999 * "X" + "\n") + " MEND\n M\n M\n M\n", "ExpansionTooLong 505"),
+    refused("an-expansion-too-long", "The line with which the expansion passes 1,048,576 bytes.",
+            "M MACRO\n" + 500 * ("*" + 999 * "X" + "\n") + " MEND\n M\n M\n M\n", "ExpansionTooLong 505"),
     refused("a-macro-without-a-name", "MACRO has a label.", "        MACRO\n        MEND\n", "BadMacro 1"),
     refused("a-macro-named-cla", "A macro's name is no operation.", "CLA     MACRO\n        MEND\n", "BadMacro 1"),
     refused("a-macro-twice", "A macro is defined once.", "M MACRO\n MEND\nM MACRO\n MEND\n", "BadMacro 3"),
@@ -152,6 +160,8 @@ CASES = [
     refused("a-call-with-a-label", "A call takes no label.", "M MACRO\n MEND\nX M\n", "BadMacro 3"),
     refused("ten-arguments", "A call has at most nine arguments.", "M MACRO\n MEND\n M 1,2,3,4,5,6,7,8,9,10\n", "BadMacro 3"),
     refused("a-definition-without-mend", "One more than the last line is named.", "M MACRO\n CLA 000\n", "BadMacro 3"),
-    refused("a-mend-that-was-put-in", "MEND in an expanded line, named at the outermost call.", "M MACRO\n &1\n MEND\n M MEND\n", "BadMacro 4"),
-    refused("an-end-that-is-missing", "With --image a missing END is named at one more than the source's last line.", " CODE\n CLA 000\n", "MissingEnd 3", "macro --image"),
+    refused("a-mend-that-was-put-in", "MEND in an expanded line, named at the outermost call.", "M MACRO\n &1\n MEND\n M MEND\n",
+            "BadMacro 4"),
+    refused("an-end-that-is-missing", "With --image a missing END is named at one more than the source's last line.",
+            " CODE\n CLA 000\n", "MissingEnd 3", "macro --image"),
 ]

@@ -1,13 +1,13 @@
 """Decks that are refused, and decks that only look so."""
-from . import SUM_REPORT, Case, deck, sum_deck
+from . import SUM_CODE, SUM_REPORT, SUM_WORDS, Case, deck, image as image_lines, sum_deck
 
 TITLE = "refusals"
-SHOWS = """Decks that are refused, by the first fault in the order of the lines; and a few that look wrong and aren't. Status 2 is the
-deck's own, 3 and 4 that of its program."""
+SHOWS = """Decks that are refused, by the first fault in the order of the lines; and a few that look wrong and aren't. Status 2 is
+the deck's own, 3 and 4 that of its program."""
 
 HEAD = "IMAGE\nLVDC 1\nEND\n"
 # Row by row the deck of the sum without comments, so that its line 10 is RUN.
-PLAIN = "IMAGE\nLVDC 1\n0 00 000 000017000\n0 00 001 000007001\n0 00 002 000013002\n0 00 003 000010003\n0 01 000 177777777\n0 01 001 000000001\nEND\n"
+PLAIN = "IMAGE\nLVDC 1\n" + "".join(line + "\n" for line in image_lines(SUM_CODE, SUM_WORDS)) + "END\n"
 
 
 def refused(name, shows, given, cause, status=2, words="run", worked=False):
@@ -21,27 +21,38 @@ def tenth(name, shows, lines, cause, worked=True):
 
 CASES = [
     refused("nothing", "An input without a byte.", "", "NoProgram 1", worked=True),
-    refused("comments-alone", "A deck of comments and blank lines: one more than the last line is named.", "* A COMMENT\n\n \t\n", "NoProgram 4"),
+    refused("comments-alone", "A deck of comments and blank lines: one more than the last line is named.", "* A COMMENT\n\n \t\n",
+            "NoProgram 4"),
     refused("an-image-without-its-heading", "An image by itself is no deck.", "LVDC 1\nEND\n", "NoProgram 1"),
     refused("a-heading-with-more-on-its-line", "IMAGE stands alone on its line.", "IMAGE X\nLVDC 1\nEND\nRUN 1\n", "NoProgram 1"),
-    refused("a-byte-order-mark", "A byte-order mark is part of the first word.", "\xef\xbb\xbfIMAGE\nLVDC 1\nEND\nRUN 1\n", "NoProgram 1"),
+    refused("a-byte-order-mark", "A byte-order mark is part of the first word.", "\xef\xbb\xbfIMAGE\nLVDC 1\nEND\nRUN 1\n",
+            "NoProgram 1"),
     refused("lone-crs", "Lines that end with CR alone are one line.", "IMAGE\rLVDC 1\rEND\rRUN 1\r", "NoProgram 1"),
-    refused("a-long-first-comment", "A comment above 120 bytes is BadLine, before the program too.", "*" + 120 * "X" + "\n" + HEAD + "RUN 1\n", "BadLine 1"),
-    Case("a-comment-of-120-bytes", "A line of 120 bytes isn't too long.", "run", "*" + 119 * "X" + "\n" + HEAD + "RUN 0\n", has="END DONE"),
+    refused("a-long-first-comment", "A comment above 120 bytes is BadLine, before the program too.",
+            "*" + 120 * "X" + "\n" + HEAD + "RUN 1\n", "BadLine 1"),
+    Case("a-comment-of-120-bytes", "A line of 120 bytes isn't too long.", "run", "*" + 119 * "X" + "\n" + HEAD + "RUN 0\n",
+         has="END DONE"),
     refused("an-image-without-end", "The section that isn't closed is named.", "IMAGE\nLVDC 1\n", "BadSection 1", worked=True),
-    refused("a-source-without-end", "The same after SOURCE, with comments before it.", "* A SOURCE\n\nSOURCE\n        CODE\n", "BadSection 3"),
+    refused("a-source-without-end", "The same after SOURCE, with comments before it.", "* A SOURCE\n\nSOURCE\n        CODE\n",
+            "BadSection 3"),
     refused("no-run", "RUN must be there: one more than the last line is named.", HEAD, "BadSection 4", worked=True),
     refused("no-debug", "For the command debug DEBUG must be there too.", HEAD + "RUN 1\n", "BadSection 5", words="debug"),
     refused("run-and-a-letter", "A count out of form.", HEAD + "RUN 1x\n", "BadLine 4", worked=True),
     refused("run-and-a-byte-above-127", "The same with another byte.", HEAD + "RUN \xc3\n", "BadLine 4", worked=True),
-    refused("run-above-a-million", "A count too large has a cause of its own.", HEAD + "RUN 1000001\n", "CountTooLarge 4", worked=True),
+    refused("run-above-a-million", "A count too large has a cause of its own.", HEAD + "RUN 1000001\n", "CountTooLarge 4",
+            worked=True),
     refused("run-with-ten-digits", "A count has at most nine digits.", HEAD + "RUN 1000000000\n", "BadLine 4"),
-    Case("run-with-leading-zeros", "A number with a said count of digits may begin with zeros.", "run", PLAIN + "RUN 000000003\n", text=SUM_REPORT),
-    refused("a-cr-at-the-end", "A CR at the end of a last line without LF is part of the last word.", HEAD + "RUN 1\r", "BadLine 4"),
-    Case("cr-lf", "A CR just before an LF is dropped.", "run", PLAIN.replace("\n", "\r\n") + "RUN 3\r\n", text=SUM_REPORT, worked=True),
+    Case("run-with-leading-zeros", "A number with a said count of digits may begin with zeros.", "run", PLAIN + "RUN 000000003\n",
+         text=SUM_REPORT),
+    refused("a-cr-at-the-end", "A CR at the end of a last line without LF is part of the last word.", HEAD + "RUN 1\r",
+            "BadLine 4"),
+    Case("cr-lf", "A CR just before an LF is dropped.", "run", PLAIN.replace("\n", "\r\n") + "RUN 3\r\n", text=SUM_REPORT,
+         worked=True),
     Case("no-last-line-end", "The last line may lack its LF.", "run", PLAIN + "RUN 3", text=SUM_REPORT, worked=True),
     Case("blanks-and-tabs", "Words of a deck are parted by any run of spaces and tabs, also at both ends.", "run",
-         PLAIN.replace("IMAGE", " \tIMAGE ") + "\t \n  START\t 16 \n\tPORTS \nTAPE \t 0   1\n FAULTS\n\tLAG  2  2 2\t2\nRUN\t3  \n", text=SUM_REPORT + "WRONG 2 2 1\n"),
+         PLAIN.replace("IMAGE",
+         " \tIMAGE ") + "\t \n  START\t 16 \n\tPORTS \nTAPE \t 0   1\n FAULTS\n\tLAG  2  2 2\t2\nRUN\t3  \n",
+         text=SUM_REPORT + "WRONG 2 2 1\n"),
     tenth("run-with-two-numbers", "One number alone follows RUN.", "RUN 3 4", "BadLine 10"),
     tenth("an-unknown-word", "A line outside of PORTS, FAULTS and ORDER that is no section.", "GO", "BadSection 10"),
     tenth("a-section-after-run", "START comes before RUN.", "RUN 3\nSTART 16", "BadSection 11"),
@@ -57,12 +68,14 @@ CASES = [
     tenth("a-mask-of-27-bits", "Masks of latches are below 2^26.", "FAULTS\nFLIP 5 1 0 0 0 400000000", "BadLine 11", False),
     tenth("a-mask-of-29-bits", "Masks of cells are below 2^28.", "FAULTS\nDAMAGE 0 0 0 0 0 2000000000", "BadLine 11", False),
     tenth("damage-in-bank-4", "Fault lines name physical places: pairs 0 to 3.", "FAULTS\nDAMAGE 0 4 0 0 0 1", "BadLine 11", False),
-    tenth("a-fault-line-with-a-comment", "Nothing follows the last field, no comment either.", "FAULTS\nLAG 1 1 0 0 * A LAG", "BadLine 11", False),
+    tenth("a-fault-line-with-a-comment", "Nothing follows the last field, no comment either.", "FAULTS\nLAG 1 1 0 0 * A LAG",
+          "BadLine 11", False),
     tenth("a-blank-before-a-comment", "A blank before the * makes it no comment.", "FAULTS\n * A LAG", "BadLine 11", False),
     tenth("a-tape-without-words", "TAPE has one word at least.", "PORTS\nTAPE 000", "BadLine 11"),
     tenth("a-tape-word-of-27-bits", "Words are below 2^26.", "PORTS\nTAPE 000 400000000", "BadLine 11", False),
     tenth("a-tape-that-is-a-ticker", "TAPE wants a tape.", "PORTS\nTAPE 016 1", "NoDevice 11"),
-    tenth("a-tape-that-is-unplugged", "An earlier line unplugs it, whatever its time.", "PORTS\nUNPLUG 000 5\nTAPE 000 1", "NoDevice 12"),
+    tenth("a-tape-that-is-unplugged", "An earlier line unplugs it, whatever its time.", "PORTS\nUNPLUG 000 5\nTAPE 000 1",
+          "NoDevice 12"),
     tenth("unplug-where-nothing-is", "UNPLUG wants a device.", "PORTS\nUNPLUG 020 0", "NoDevice 11"),
     tenth("the-form-before-the-device", "On one line the form comes first.", "PORTS\nTAPE 377 8", "BadLine 11", False),
     tenth("an-order-with-a-letter-twice", "Each of A to U stands once.", "ORDER\nAACDEFGHIJKLMNOPQRSTU", "BadLine 11", False),
@@ -70,16 +83,23 @@ CASES = [
     tenth("simplex-pairs-that-fall", "The pairs of SIMPLEX rise.", "SIMPLEX 2 1", "BadLine 10", False),
     tenth("a-start-of-ten-digits", "A start constant has one to nine octal digits.", "START 0000000016", "BadLine 10", False),
     tenth("a-name-after-an-image", "An image has no names.", "START MAIN", "BadLine 10", False),
-    refused("too-many-events", "The 65,537th fault line.", HEAD + "FAULTS\n" + 65537 * "LAG 1 1 0 0\n" + "RUN 1\n", "TooManyEvents 65541", worked=True),
+    refused("too-many-events", "The 65,537th fault line.", HEAD + "FAULTS\n" + 65537 * "LAG 1 1 0 0\n" + "RUN 1\n",
+            "TooManyEvents 65541", worked=True),
     Case("an-empty-script", "FAULTS may have no line.", "run", HEAD + "FAULTS\nRUN 0\n", has="END DONE\nTIMES 0", worked=True),
     refused("too-long", "An input of 1,048,577 blanks: one byte too many.", 1048577 * " ", "TooLong", 11, worked=True),
-    refused("as-long-as-may-be", "An input of 1,048,576 line ends is read, and has no program.", 1048576 * "\n", "NoProgram 1048577"),
-    refused("sections-before-the-program", "The program is read after all sections: its faults come last.", "IMAGE\nLVDC 3\nEND\nRUN 1x\n", "BadLine 4"),
-    refused("a-start-that-isnt-defined", "The name of START is looked at last, and its line is named.", "SOURCE\n CODE\nA CLA 0\n END\nSTART B\nRUN 1\n",
-            "UndefinedName 5", 3, worked=True),
-    refused("a-start-that-is-data", "START names a line of code.", "SOURCE\n WORDS 0,01\nA OCT 1\n END\nSTART A\nRUN 1\n", "OutOfSector 5", 3, worked=True),
-    refused("exm-in-a-source", "EXM has a refusal of its own.", "SOURCE\n CODE\n EXM 000\n END\nRUN 1\n", "ExecuteModified 3", 3, worked=True),
-    Case("debug-lines-in-another-command", "Every command but debug reads DEBUG's lines and ignores what they say; section words there are commands.",
-         "run", PLAIN + "RUN 3\nDEBUG\nNONSENSE\nRUN 4\nFAULTS\n", text=SUM_REPORT),
-    refused("a-long-debug-line", "A line above 120 bytes is BadLine in DEBUG too.", HEAD + "RUN 3\nDEBUG\n" + 121 * "X" + "\n", "BadLine 6"),
+    refused("as-long-as-may-be", "An input of 1,048,576 line ends is read, and has no program.", 1048576 * "\n",
+            "NoProgram 1048577"),
+    refused("sections-before-the-program", "The program is read after all sections: its faults come last.",
+            "IMAGE\nLVDC 3\nEND\nRUN 1x\n", "BadLine 4"),
+    refused("a-start-that-isnt-defined", "The name of START is looked at last, and its line is named.",
+            "SOURCE\n CODE\nA CLA 0\n END\nSTART B\nRUN 1\n", "UndefinedName 5", 3, worked=True),
+    refused("a-start-that-is-data", "START names a line of code.", "SOURCE\n WORDS 0,01\nA OCT 1\n END\nSTART A\nRUN 1\n",
+            "OutOfSector 5", 3, worked=True),
+    refused("exm-in-a-source", "EXM has a refusal of its own.", "SOURCE\n CODE\n EXM 000\n END\nRUN 1\n", "ExecuteModified 3", 3,
+            worked=True),
+    Case("debug-lines-in-another-command",
+         "Every command but debug reads DEBUG's lines and ignores what they say; section words there are commands.", "run",
+         PLAIN + "RUN 3\nDEBUG\nNONSENSE\nRUN 4\nFAULTS\n", text=SUM_REPORT),
+    refused("a-long-debug-line", "A line above 120 bytes is BadLine in DEBUG too.", HEAD + "RUN 3\nDEBUG\n" + 121 * "X" + "\n",
+            "BadLine 6"),
 ]

@@ -2,7 +2,8 @@
 from . import Case, block, comment
 
 TITLE = "sources"
-SHOWS = """Sources and their images, by `asm --image`: where blocks stand, what operands come to; and each refusal of the assembler, status 3."""
+SHOWS = """Sources and their images, by `asm --image`: where blocks stand, what operands come to; and each refusal of the
+assembler, status 3."""
 
 
 def unindented(text):
@@ -15,7 +16,8 @@ def unindented(text):
 
 def source(name, shows, text, image, worked=False):
     """A source, and the word lines of its image."""
-    return Case(name, shows, "asm --image", comment(shows) + unindented(text), text="LVDC 1\n" + block(image) + "END\n", worked=worked)
+    return Case(name, shows, "asm --image", comment(shows) + unindented(text), text="LVDC 1\n" + block(image) + "END\n",
+                worked=worked)
 
 
 def refused(name, shows, text, cause, worked=False):
@@ -50,7 +52,9 @@ def lines(count, line):
 
 
 CASES = [
-    source("blocks-at-fixed-places", "ORG and WORDS with a location say where a block stands; BSS is room and no part of the image.", FIXED % "000", """
+    source("blocks-at-fixed-places",
+           "ORG and WORDS with a location say where a block stands; BSS is room and no part of the image.",
+           FIXED % "000", """
         0 00 000 000017000
         0 00 001 000007001
         0 00 002 000013002
@@ -58,7 +62,8 @@ CASES = [
         0 01 000 177777777
         0 01 001 000000001
         """, True),
-    source("floating-blocks", "CODE and WORDS without a location take the least place; a literal's word comes after them.", SHORT, """
+    source("floating-blocks", "CODE and WORDS without a location take the least place; a literal's word comes after them.",
+           SHORT, """
         0 00 000 000017000
         0 00 001 000007001
         0 00 002 000010000
@@ -88,14 +93,16 @@ CASES = [
                 END
         """, "\n".join("0 00 %03o 0000%s" % (k, code) for k, code in enumerate(
             "00001 01001 02001 03001 04001 05001 06001 07001 10001 11001 12001 13001 14001 15001 16401 16201 17001".split()))),
-    source("a-syllable-1-block", "A block of code in syllable 1 fills the upper half of its words; a syllable without code is 0.", """
+    source("a-syllable-1-block", "A block of code in syllable 1 fills the upper half of its words; a syllable without code is 0.",
+           """
                 ORG   1,02,1,003
                 CLA   777
                 ORG   1,02,0,004
                 CLA   001
                 END
         """, "1 02 003 377760000\n1 02 004 000017001"),
-    source("constants", "OCT, DEC with both signs, and HOPC: IM is twice the pair, DM and DS are of the USE in force at the named line.", """
+    source("constants",
+           "OCT, DEC with both signs, and HOPC: IM is twice the pair, DM and DS are of the USE in force at the named line.", """
                 USE   1,02
                 ORG   2,03,1,004
         MAIN    TRA   MAIN
@@ -106,8 +113,16 @@ CASES = [
                 DEC   +10
                 HOPC  MAIN
                 END
-        """, "1 02 000 377777777\n1 02 001 177777777\n1 02 002 200000000\n1 02 003 000000012\n1 02 004 207010426\n2 03 004 210100000"),
-    source("the-residual-sector-and-use", "A name in the sector in use has A9 0, one in sector 17 of the pair A9 1; USE says which sector that is.", """
+        """, """
+        1 02 000 377777777
+        1 02 001 177777777
+        1 02 002 200000000
+        1 02 003 000000012
+        1 02 004 207010426
+        2 03 004 210100000
+        """),
+    source("the-residual-sector-and-use",
+           "A name in the sector in use has A9 0, one in sector 17 of the pair A9 1; USE says which sector that is.", """
                 ORG   0,00,0,000
                 CLA   FAR        SECTOR 17, FROM SECTOR 01
                 CLA   NEAR
@@ -119,8 +134,16 @@ CASES = [
                 WORDS 0,01,006
         NEAR    OCT   2
                 END
-        """, "0 00 000 000017405\n0 00 001 000017006\n0 00 002 000016417\n0 00 003 000017005\n0 01 006 000000002\n0 17 005 000000001"),
-    source("literals-are-pooled", "=O5 and =D5 are one word of a sector; after a USE the word stands again in the other sector.", """
+        """, """
+        0 00 000 000017405
+        0 00 001 000017006
+        0 00 002 000016417
+        0 00 003 000017005
+        0 01 006 000000002
+        0 17 005 000000001
+        """),
+    source("literals-are-pooled", "=O5 and =D5 are one word of a sector; after a USE the word stands again in the other sector.",
+           """
                 ORG   0,00,0,000
                 CLA   =O5
                 ADD   =D5
@@ -128,7 +151,15 @@ CASES = [
                 USE   0,02
                 ADD   =O5
                 END
-        """, "0 00 000 000017000\n0 00 001 000007000\n0 00 002 000002001\n0 00 003 000007000\n0 01 000 000000005\n0 01 001 377777777\n0 02 000 000000005"),
+        """, """
+        0 00 000 000017000
+        0 00 001 000007000
+        0 00 002 000002001
+        0 00 003 000007000
+        0 01 000 000000005
+        0 01 001 377777777
+        0 02 000 000000005
+        """),
     source("a-literal-of-a-hop-constant", "=H makes the HOP constant of a line of code.", """
                 ORG   0,00,0,000
                 HOP   =HNEXT
@@ -156,9 +187,10 @@ CASES = [
         ONE     CLA   ONE
                 END
         """, "0 00 000 000017000"),
-    source("the-second-block-in-syllable-1", "250 instructions leave six slots in syllable 0; a block of ten isn't split, and stands in syllable 1.",
-           " CODE\n" + lines(250, " CLA 000") + " CODE\n" + lines(10, " CLA 001") + " END\n",
-           "\n".join("0 00 %03o %09o" % (k, (0o17001 << 13 if k < 10 else 0) | 0o17000) for k in range(250)), True),
+    source("the-second-block-in-syllable-1",
+           "250 instructions leave six slots in syllable 0; a block of ten isn't split, and stands in syllable 1.",
+           " CODE\n" + lines(250, " CLA 000") + " CODE\n" + lines(10, " CLA 001") + " END\n", "\n".join("0 00 %03o %09o" % (k,
+           (0o17001 << 13 if k < 10 else 0) | 0o17000) for k in range(250)), True),
     source("words-around-code", "Words want both slots of a location: they pass over those that code has.", """
                 ORG   0,01,1,000
                 CLA   000
@@ -166,21 +198,30 @@ CASES = [
                 OCT   7
                 END
         """, "0 01 000 360000000\n0 01 001 000000007"),
-    source("a-full-residual-sector", "375 of sector 17 is never free, 376 and 377 are for fixed blocks alone: 253 words fill the rest.", " WORDS 0,17\n"
-           + " BSS 252\n OCT 1\n WORDS 0,17,376\n OCT 2\n END\n", "0 17 374 000000001\n0 17 376 000000002"),
+    source("a-full-residual-sector",
+           "375 of sector 17 is never free, 376 and 377 are for fixed blocks alone: 253 words fill the rest.",
+           " WORDS 0,17\n" + " BSS 252\n OCT 1\n WORDS 0,17,376\n OCT 2\n END\n", "0 17 374 000000001\n0 17 376 000000002"),
     source("an-empty-source", "END alone is a source; its image has no word.", "        END", ""),
-    source("comments-of-any-bytes", "What follows the operand is comment, of any bytes; so is what follows an operation without one.",
+    source("comments-of-any-bytes",
+           "What follows the operand is comment, of any bytes; so is what follows an operation without one.",
            "* \xff\n CODE \x01 X\n CLA 000 \xe9\n END ALL THIS\n* AND THIS", "0 00 000 000017000"),
     refused("too-long-a-block", "A fixed block that runs past location 377.", FIXED % "376", "NoRoom 1", True),
-    refused("257-instructions", "No sector has room for 257 instructions in one syllable.", " CODE\n" + lines(257, " CLA 000") + " END\n", "NoRoom 1", True),
-    refused("too-many-words", "254 words don't fit beside the reserved locations of sector 17.", " WORDS 0,17\n BSS 254\n END\n", "NoRoom 1"),
-    refused("overlap", "Two fixed blocks want one slot.", " ORG 0,00,0,000\n CLA 000\n CLA 000\n WORDS 0,00,001\n OCT 1\n END\n", "Overlap 4"),
+    refused("257-instructions", "No sector has room for 257 instructions in one syllable.", " CODE\n" + lines(257,
+            " CLA 000") + " END\n", "NoRoom 1", True),
+    refused("too-many-words", "254 words don't fit beside the reserved locations of sector 17.", " WORDS 0,17\n BSS 254\n END\n",
+            "NoRoom 1"),
+    refused("overlap", "Two fixed blocks want one slot.", " ORG 0,00,0,000\n CLA 000\n CLA 000\n WORDS 0,00,001\n OCT 1\n END\n",
+            "Overlap 4"),
     refused("at-375-of-sector-17", "Nothing stands where the address means PQ.", " WORDS 0,17,375\n OCT 1\n END\n", "Overlap 1"),
     refused("no-room-for-a-literal", "The sector in use is full.", " CODE\n CLA =O1\n WORDS 0,01\n BSS 256\n END\n", "NoRoom 2"),
-    refused("out-of-sector", "Data of another sector can't be named.", "        CODE\n        CLA   X\n        WORDS 0,02\nX       OCT   5\n        END\n", "OutOfSector 2", True),
-    refused("a-transfer-to-another-sector", "A transfer stays in its sector.", " ORG 0,00,0,000\n TRA Y\n ORG 0,02,0,000\nY CLA 000\n END\n", "OutOfSector 2"),
-    refused("a-transfer-to-data", "A transfer goes to an instruction.", " ORG 0,01,0,000\n TRA X\n WORDS 0,01\nX OCT 1\n END\n", "OutOfSector 2"),
-    refused("a-name-that-would-be-775", "An address that would be 775 means PQ, and no name.", " CODE\n CLA X+253\n WORDS 0,17,000\nX OCT 1\n END\n", "OutOfSector 2"),
+    refused("out-of-sector", "Data of another sector can't be named.",
+            "        CODE\n        CLA   X\n        WORDS 0,02\nX       OCT   5\n        END\n", "OutOfSector 2", True),
+    refused("a-transfer-to-another-sector", "A transfer stays in its sector.",
+            " ORG 0,00,0,000\n TRA Y\n ORG 0,02,0,000\nY CLA 000\n END\n", "OutOfSector 2"),
+    refused("a-transfer-to-data", "A transfer goes to an instruction.", " ORG 0,01,0,000\n TRA X\n WORDS 0,01\nX OCT 1\n END\n",
+            "OutOfSector 2"),
+    refused("a-name-that-would-be-775", "An address that would be 775 means PQ, and no name.",
+            " CODE\n CLA X+253\n WORDS 0,17,000\nX OCT 1\n END\n", "OutOfSector 2"),
     refused("hopc-of-data", "HOPC is of a line of code.", " WORDS 0,01\nX OCT 1\n HOPC X\n END\n", "OutOfSector 3"),
     refused("a-name-twice", "A line defines a name again.", " CODE\nA CLA 000\nA CLA 000\n END\n", "DuplicateName 3"),
     refused("a-name-that-isnt-there", "No line defines the name.", " CODE\n CLA NOWHERE\n END\n", "UndefinedName 2"),
@@ -189,15 +230,19 @@ CASES = [
     refused("a-decimal-too-large", "DEC is at most 33,554,431.", " WORDS 0,01\n DEC 33554432\n END\n", "OutOfRange 2"),
     refused("a-pattern-without-meaning", "SHF has five patterns.", " CODE\n SHF 003\n END\n", "OutOfRange 2"),
     refused("cds-of-pair-4", "CDS of a pair that isn't there is out of range.", " CODE\n CDS 4,00\n END\n", "OutOfRange 2"),
-    refused("past-location-377", "name+n past location 377 never goes on in the next sector.", " CODE\n CLA X+1\n WORDS 0,01,377\nX OCT 1\n END\n", "OutOfRange 2"),
-    refused("a-long-line", "Lines of a source have at most 120 bytes, comments too.", " CODE\n*" + 120 * "-" + "\n END\n", "LineTooLong 2"),
+    refused("past-location-377", "name+n past location 377 never goes on in the next sector.",
+            " CODE\n CLA X+1\n WORDS 0,01,377\nX OCT 1\n END\n", "OutOfRange 2"),
+    refused("a-long-line", "Lines of a source have at most 120 bytes, comments too.", " CODE\n*" + 120 * "-" + "\n END\n",
+            "LineTooLong 2"),
     refused("a-label-of-nine-characters", "A name has at most eight characters.", " CODE\nABCDEFGHI CLA 000\n END\n", "BadLabel 2"),
     refused("a-label-on-code", "CODE takes no label.", "X CODE\n END\n", "BadLabel 1"),
     refused("end-in-the-first-column", "What begins in the first column is a label.", " CODE\nEND\n", "UnknownOperation 2"),
-    refused("exm", "EXM is no operation of this profile, wherever it stands.", " CODE\n EXM 000\n END\n", "ExecuteModified 2", True),
+    refused("exm", "EXM is no operation of this profile, wherever it stands.", " CODE\n EXM 000\n END\n", "ExecuteModified 2",
+            True),
     refused("an-instruction-without-a-block", "Instructions stand in a block of code.", " CLA 000\n END\n", "BadDirective 1"),
     refused("a-constant-in-code", "Constants stand in a block of words.", " CODE\n OCT 1\n END\n", "BadDirective 2"),
-    refused("org-of-pair-4", "A directive's numbers are in range, or it is BadDirective.", " ORG 4,00,0,000\n END\n", "BadDirective 1"),
+    refused("org-of-pair-4", "A directive's numbers are in range, or it is BadDirective.", " ORG 4,00,0,000\n END\n",
+            "BadDirective 1"),
     refused("bss-of-257", "BSS is 1 to 256.", " WORDS 0,01\n BSS 257\n END\n", "BadDirective 2"),
     refused("an-operand-that-is-missing", "CLA takes an operand.", " CODE\n CLA\n END\n", "BadOperand 2"),
     refused("a-literal-after-sto", "STO takes an address.", " CODE\n STO =O1\n END\n", "BadOperand 2"),

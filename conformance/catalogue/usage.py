@@ -2,8 +2,8 @@
 from . import Case
 
 TITLE = "usage"
-SHOWS = """Words that are no command line: the usage text and status 1. And `soak`, which makes its own deck from a number and reads nothing:
-200,000 times of a loop under 4,096 faults."""
+SHOWS = """Words that are no command line: the usage text and status 1. And `soak`, which makes its own deck from a number and
+reads nothing: 200,000 times of a loop under 4,096 faults."""
 
 USAGE = """
 usage: lvdc run [--plain | --through]
@@ -36,7 +36,9 @@ CASES = [
     usage("soak-of-2-32", "The number of soak is below 2^32.", "soak 4294967296"),
     usage("soak-with-a-sign", "A number has no sign.", "soak -1"),
     usage("an-empty-word", "A word may be empty; it is no command.", [""]),
-    Case("soak-1", "The deck of the number 1. The three counts were counted on the deck's rules.", "soak 1", "", text=SOAK % 1, worked=True),
-    Case("soak-2", "Another number draws other words and bits, and comes to the same counts.", "soak 2", "", text=SOAK % 2, worked=True),
+    Case("soak-1", "The deck of the number 1. The three counts were counted on the deck's rules.", "soak 1", "", text=SOAK % 1,
+         worked=True),
+    Case("soak-2", "Another number draws other words and bits, and comes to the same counts.", "soak 2", "", text=SOAK % 2,
+         worked=True),
     Case("soak-0001", "Leading zeros are allowed, and aren't printed.", "soak 0001", "", text=SOAK % 1),
 ]

@@ -18,7 +18,8 @@ def find_campaign(lines):
     end = find_end(lines, begin)
     if end is None:
         return len(lines)
-    return next((k for k in range(end + 1, len(lines)) if lines[k].strip(BLANKS) == "CAMPAIGN" and len(lines[k]) <= LIMIT), len(lines))
+    found = (k for k in range(end + 1, len(lines)) if lines[k].strip(BLANKS) == "CAMPAIGN" and len(lines[k]) <= LIMIT)
+    return next(found, len(lines))
 
 
 def read_campaign(lines):

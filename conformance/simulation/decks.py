@@ -187,7 +187,8 @@ def soak_deck(number):
     for k in range(2048):
         step = 292 * k
         deck.script.append(Event("FLIP", k % 7 + 1, k // 7 % 3 + 1, None, None, step, step, 0, 1 + draw() % (2**26 - 1)))
-        deck.script.append(Event("DAMAGE", None, None, k // 20 % 2, spots[k % 20], step + 146, step + 146, None, 2 ** (draw() % 28)))
+        step += 146
+        deck.script.append(Event("DAMAGE", None, None, k // 20 % 2, spots[k % 20], step, step, None, 2 ** (draw() % 28)))
     deck.count = 200_000
     deck.opening = Opening(words, frozenset(), DEFAULT_START, [])
     return deck

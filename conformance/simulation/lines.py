@@ -19,7 +19,7 @@ class Refused(Exception):
 
 
 def lines_of(text):
-    """The lines: each ends with LF, and one CR just before it is dropped. What follows the last LF is a line where it isn't empty."""
+    """The lines: each ends with LF, and one CR just before it is dropped. What follows the last LF is a line unless it is empty."""
     pieces = text.split("\n")
     last = pieces.pop()
     lines = [piece[:-1] if piece.endswith("\r") else piece for piece in pieces]

@@ -11,6 +11,11 @@ def decimal(text, most):
     return int(text) if re.fullmatch("[0-9]{1,6}", text) and 1 <= int(text) <= most else None
 
 
+def check_of(load, number, at, words):
+    """The check word of a frame."""
+    return (load + number + 4096 * at[0] + 256 * at[1] + at[2] + sum(words)) % WORD
+
+
 class Link:
     def __init__(self, image):
         self.image = image
@@ -54,7 +59,7 @@ class Link:
             return "NAK NoLoad"
         if number > self.open[1] or at[2] + len(words) > 256:
             return "NAK Range"
-        right = (load + number + 4096 * at[0] + 256 * at[1] + at[2] + sum(words)) % WORD
+        right = check_of(load, number, at, words)
         if check != right:
             return "NAK Check %09o" % right
         staged = self.open[2]
@@ -75,7 +80,7 @@ class Link:
         missing = next((number for number in range(1, count + 1) if number not in staged), None)
         if missing is not None:
             return "NAK Missing %d" % missing
-        right = sum(load + number + 4096 * at[0] + 256 * at[1] + at[2] + sum(words) for number, (at, words) in staged.items()) % WORD
+        right = sum(check_of(load, number, *frame) for number, frame in staged.items()) % WORD
         if check != right:
             return "NAK Check %09o" % right
         for number in range(1, count + 1):

@@ -1,8 +1,8 @@
 """The voted machine: 21 copies, their votes and two twins (docs/MACHINE.md, "The voted machine")."""
 from .devices import read_port, unplug, write_port
 from .faults import LOGIC, Script, wrong_module
-from .modules import (KINDS, Accumulator, Decoder, Exchange, Locator, Multiplier, Selector, Timer, data_fields, here, hold, instruction,
-                      next_states, phase, place_fields)
+from .modules import (KINDS, Accumulator, Decoder, Exchange, Locator, Multiplier, Selector, Timer, data_fields, here, hold,
+                      instruction, next_states, phase, place_fields)
 from .twins import Twins
 from .words import PQ, TAKES_OPERAND, bank_of, fetch_address, operand_address, operand_kind
 

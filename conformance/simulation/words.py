@@ -64,7 +64,8 @@ Hop = namedtuple("Hop", "imod isec syl loc dmod dsec dupin dupdn")
 
 
 def hop_of(word):
-    return Hop(word >> 23, word >> 19 & 15, word >> 18 & 1, word >> 10 & 255, word >> 7 & 7, word >> 3 & 15, word >> 2 & 1, word >> 1 & 1)
+    return Hop(imod=word >> 23, isec=word >> 19 & 15, syl=word >> 18 & 1, loc=word >> 10 & 255, dmod=word >> 7 & 7,
+               dsec=word >> 3 & 15, dupin=word >> 2 & 1, dupdn=word >> 1 & 1)
 
 
 def word_of(hop):
