@@ -30,7 +30,7 @@ not_hit : (number copy first last step m c : ℕ) → is_within first last step 
 not_hit number copy first last step m c h = no_third (number == m) (copy == c) (is_within first last step) h
 
 -- and hurts nothing
-idle_hurts : (step m c : ℕ) (e : Event) → is_active step e ≡ false → hurts_by step m c e ≡ []
+pub idle_hurts : (step m c : ℕ) (e : Event) → is_active step e ≡ false → hurts_by step m c e ≡ []
 idle_hurts step m c (Flip number copy first last index mask) h = rw (not_hit number copy first last step m c h) refl
 idle_hurts step m c (Force number copy first last index mask value) h = rw (not_hit number copy first last step m c h) refl
 idle_hurts step m c (Lag number copy first last) h = rw (not_hit number copy first last step m c h) refl

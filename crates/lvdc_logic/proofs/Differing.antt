@@ -1,6 +1,7 @@
 -- How far counts rise in a step.
-use Rattle.std.proofs.Common.{◌≡◌, ℕ, zero, suc, ◌+◌, ◌-◌, ◌≤◌, Bool, true, false, List, [], ◌∷◌, subst, arith}
+use Rattle.std.proofs.Common.{◌≡◌, ℕ, zero, suc, ◌+◌, ◌-◌, ◌≤◌, Bool, true, false, not, ◌&&◌, List, [], ◌∷◌, length, refl, add-zero, subst, arith}
 use Rattle.std.specs.Prelude.{slice_index, slice_index_or}
+use Rattle.std.proofs.lemmas.Bool.{false≢true}
 use Rattle.lvdc_word.specs.Word.{bit_of}
 use Rattle.lvdc_vote.specs.Copies.{Copies, differs_of}
 use Rattle.lvdc_model.specs.Voted.{counted, counted_three}
@@ -36,3 +37,20 @@ all_at_most most (t ∷ ts) (three ∷ counts) h (suc i) k = all_at_most most ts
 -- a step raises each count by at most one
 pub counted_at_most : (most : ℕ) (ts : List Copies) (counts : List (List ℕ)) → DifferedAtMost most counts → DifferedAtMost (most + 1) (counted ts counts)
 counted_at_most most ts counts h number copy = all_at_most most ts counts (at_most most counts h) (number - 1) (copy - 1)
+
+-- three false conditions
+all_false : (a b c : Bool) → (not a && not b && not c) ≡ true → (a ≡ false) × ((b ≡ false) × (c ≡ false))
+all_false false false false h = (refl, (refl, refl))
+all_false true b c h = absurd (false≢true h)
+all_false false true c h = absurd (false≢true h)
+all_false false false true h = absurd (false≢true h)
+
+-- where no copy of a module differs, its counts stay
+pub unanimous_counted : (t : Copies) (counts : List ℕ) → length counts ≡ 3 → (not (differs_of t 0) && not (differs_of t 1) && not (differs_of t 2)) ≡ true → counts ≡ counted_three t counts
+unanimous_counted t (a ∷ b ∷ c ∷ []) size h =
+    let none = all_false (differs_of t 0) (differs_of t 1) (differs_of t 2) h in
+    rw (none.0, none.1.0, none.1.1, add-zero a, add-zero b, add-zero c) refl
+unanimous_counted t [] size h = absurd (omega (arith, size))
+unanimous_counted t (a ∷ []) size h = absurd (omega (arith, size))
+unanimous_counted t (a ∷ b ∷ []) size h = absurd (omega (arith, size))
+unanimous_counted t (a ∷ b ∷ c ∷ d ∷ counts) size h = absurd (omega (arith, size))

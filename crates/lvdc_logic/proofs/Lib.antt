@@ -1,4 +1,5 @@
 pub mod ActiveEvents
+pub mod Untouched
 pub mod Differing
 pub mod Listed
 pub mod Numbers

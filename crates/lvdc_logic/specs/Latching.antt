@@ -1,5 +1,5 @@
 -- Seven triples whose copies, numbered from 0 to 20, latch one after another.
-use Rattle.std.specs.Prelude.{ℕ, ◌+◌, ◌/◌, ◌%◌, List, [], ◌∷◌, ◌==◌, if◌then◌else◌, IsSome}
+use Rattle.std.specs.Prelude.{◌≡◌, ℕ, ◌+◌, ◌/◌, ◌%◌, Bool, true, List, [], ◌∷◌, ◌==◌, if◌then◌else◌, IsSome}
 use Rattle.lvdc_vote.specs.Copies.{Copies, copy_of, after_latch, after_latches, after_commit, IsFresh, IsSized}
 use Rattle.lvdc_modules.specs.Timer.{timer_row}
 use Rattle.lvdc_modules.specs.Locator.{locator_row}
@@ -10,18 +10,14 @@ use Rattle.lvdc_modules.specs.Multiplier.{multiplier_row}
 use Rattle.lvdc_modules.specs.Exchange.{exchange_row}
 use Rattle.lvdc_modules.specs.declared.bus.Bus.{Bus}
 use Rattle.lvdc_fault.specs.declared.event.Event.{Event}
-use Rattle.lvdc_model.specs.Voted.{next_copy}
+use Rattle.lvdc_model.specs.Voted.{next_copy, thrice}
+use Rattle.lvdc_logic.specs.Seven.{of_seven}
+use Rattle.lvdc_logic.specs.declared.hit_modules.HitModules.{HitModules}
 use Rattle.lvdc_logic.specs.declared.triples.Triples.{Triples}
 
 -- the copies of the modules, in order
 abbrev pub copies_in : Triples → List Copies
 copies_in t = t.timer ∷ t.locator ∷ t.decoder ∷ t.selector ∷ t.accumulator ∷ t.multiplier ∷ t.exchange ∷ []
-
--- that of seven which the number 0 to 6 names
-abbrev pub of_seven : {A : Type 0} → A → A → A → A → A → A → A → ℕ → A
-of_seven a b c d e f g number =
-    if number == 0 then a else (if number == 1 then b else (if number == 2 then c else (if number == 3 then d else
-    (if number == 4 then e else (if number == 5 then f else g)))))
 
 -- what the latches of a module become, the modules counted from 0
 abbrev pub row_of : ℕ → Bus → List ℕ
@@ -65,30 +61,38 @@ after_number t n words =
       exchange = latched_at t.exchange 6 n words;
     }
 
--- the copies of a list of numbers have latched, each its words
-abbrev pub after_numbers : Triples → List ℕ → (ℕ → List ℕ) → Triples
-after_numbers t order words =
+-- a list, where it is wanted
+abbrev pub list_if : Bool → List ℕ → List ℕ
+list_if wanted order = if wanted then order else []
+
+-- of the copies of a list of numbers those of the modules that are hit have latched, each its words
+abbrev pub after_numbers : Triples → HitModules → List ℕ → (ℕ → List ℕ) → Triples
+after_numbers t hit order words =
     record {
-      timer = after_latches t.timer order 0 words;
-      locator = after_latches t.locator order 3 words;
-      decoder = after_latches t.decoder order 6 words;
-      selector = after_latches t.selector order 9 words;
-      accumulator = after_latches t.accumulator order 12 words;
-      multiplier = after_latches t.multiplier order 15 words;
-      exchange = after_latches t.exchange order 18 words;
+      timer = after_latches t.timer (list_if hit.timer order) 0 words;
+      locator = after_latches t.locator (list_if hit.locator order) 3 words;
+      decoder = after_latches t.decoder (list_if hit.decoder order) 6 words;
+      selector = after_latches t.selector (list_if hit.selector order) 9 words;
+      accumulator = after_latches t.accumulator (list_if hit.accumulator order) 12 words;
+      multiplier = after_latches t.multiplier (list_if hit.multiplier order) 15 words;
+      exchange = after_latches t.exchange (list_if hit.exchange order) 18 words;
     }
 
--- what was latched takes the place of the copies
-abbrev pub after_commits : Triples → Triples
-after_commits t =
+-- the copies of a module in the next step: what they latched, or where it isn't hit three times the same
+abbrev pub after_step : Bool → Copies → List ℕ → Copies
+after_step hit t next = if hit then after_commit t else thrice next
+
+-- those of all modules
+abbrev pub after_steps : Triples → HitModules → Bus → Triples
+after_steps t hit voted =
     record {
-      timer = after_commit t.timer;
-      locator = after_commit t.locator;
-      decoder = after_commit t.decoder;
-      selector = after_commit t.selector;
-      accumulator = after_commit t.accumulator;
-      multiplier = after_commit t.multiplier;
-      exchange = after_commit t.exchange;
+      timer = after_step hit.timer t.timer (timer_row voted);
+      locator = after_step hit.locator t.locator (locator_row voted);
+      decoder = after_step hit.decoder t.decoder (decoder_row voted);
+      selector = after_step hit.selector t.selector (selector_row voted);
+      accumulator = after_step hit.accumulator t.accumulator (accumulator_row voted);
+      multiplier = after_step hit.multiplier t.multiplier (multiplier_row voted);
+      exchange = after_step hit.exchange t.exchange (exchange_row voted);
     }
 
 -- no copy has latched since the last commit
@@ -107,15 +111,15 @@ pub record HasLatched (t : Copies) : Type 0 where
   pub two : IsSome t.shadow_two
   pub three : IsSome t.shadow_three
 
--- each copy of each module has latched
-pub record AllLatched (t : Triples) : Type 0 where
-  pub timer : HasLatched t.timer
-  pub locator : HasLatched t.locator
-  pub decoder : HasLatched t.decoder
-  pub selector : HasLatched t.selector
-  pub accumulator : HasLatched t.accumulator
-  pub multiplier : HasLatched t.multiplier
-  pub exchange : HasLatched t.exchange
+-- each copy of each module that is hit has latched
+pub record AllLatched (hit : HitModules) (t : Triples) : Type 0 where
+  pub timer : hit.timer ≡ true → HasLatched t.timer
+  pub locator : hit.locator ≡ true → HasLatched t.locator
+  pub decoder : hit.decoder ≡ true → HasLatched t.decoder
+  pub selector : hit.selector ≡ true → HasLatched t.selector
+  pub accumulator : hit.accumulator ≡ true → HasLatched t.accumulator
+  pub multiplier : hit.multiplier ≡ true → HasLatched t.multiplier
+  pub exchange : hit.exchange ≡ true → HasLatched t.exchange
 
 -- each copy has as many latches as its module
 pub record AllSized (t : Triples) : Type 0 where

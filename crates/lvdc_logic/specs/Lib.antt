@@ -1,4 +1,6 @@
 pub mod Counts
+pub mod HitModules
 pub mod Latching
 pub mod Listing
 pub mod Logic
+pub mod Seven

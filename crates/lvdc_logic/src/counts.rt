@@ -72,6 +72,9 @@ fn counted_three<M: LogicModule>(triple: &Triple<M>, counts: [u64; 3]) -> [u64; 
     requires { (c : ℕ) → slice_index counts c ≤ 2 ^ 63 }
     ensures { result ≡ counted_three triple.now counts }
 {
+    if triple.is_unanimous() {
+        return counts;
+    }
     [
         counts[0] + u64::from(triple.differs(0)),
         counts[1] + u64::from(triple.differs(1)),

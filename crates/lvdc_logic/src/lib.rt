@@ -3,6 +3,7 @@
 #![tactic(auto)]
 
 mod counts;
+mod hit_modules;
 mod hits;
 mod listing;
 mod logic;

@@ -8,6 +8,7 @@ ghost use Rattle.lvdc_orders.specs.Events.{IsEvent};
 ghost use Rattle.lvdc_logic.specs.Logic.{latch_of, count_of, DifferedAtMost};
 
 use crate::counts::Counts;
+use crate::hit_modules::HitModules;
 use crate::triples::Triples;
 use lvdc_fault::{Active, Script};
 use lvdc_map::Hop;
@@ -76,9 +77,10 @@ impl Logic {
         ensures differed { DifferedAtMost (step + 1) self.new.counts }
         ensures room { self.new.room ≡ self.old.room }
     {
+        let hit = HitModules::of_active(script, active, step);
         self.triples
-            .latch_all(order, &mut self.hurts, script, active, step, voted);
-        self.triples.commit();
+            .latch_all(order, &mut self.hurts, script, active, step, voted, hit);
+        self.triples.commit(hit, voted);
         self.counts.count(&self.triples);
     }
 

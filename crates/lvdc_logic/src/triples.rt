@@ -1,13 +1,14 @@
-ghost use Rattle.std.specs.Prelude.{◌≡◌, ◌<◌, ◌+◌, ◌/◌, ◌%◌, ◌≤◌, All, None, length, map};
-ghost use Rattle.lvdc_vote.specs.Copies.{copy_of, shadow_of, vote_of, IsFullOrder};
+ghost use Rattle.std.specs.Prelude.{◌≡◌, ◌<◌, ◌+◌, ◌/◌, ◌%◌, ◌≤◌, All, None, true, length, map};
+ghost use Rattle.lvdc_vote.specs.Copies.{copy_of, shadow_of, vote_of, IsFullOrder, IsSized};
 ghost use Rattle.lvdc_vote.specs.Latches.{latched_by, FitsLatches};
 ghost use Rattle.lvdc_modules.specs.Rows.{bus_of, start_latches};
 ghost use Rattle.lvdc_modules.specs.States.{latches_of};
 ghost use Rattle.lvdc_fault.specs.Script.{active_at};
 ghost use Rattle.lvdc_model.specs.Voted.{inputs, thrice};
 ghost use Rattle.lvdc_orders.specs.Events.{IsEvent};
-ghost use Rattle.lvdc_logic.specs.Latching.{copies_in, row_of, latches_in, triple_in, new_latches, after_number, after_numbers, after_commits, AllFresh, AllLatched, AllSized};
+ghost use Rattle.lvdc_logic.specs.Latching.{copies_in, row_of, latches_in, triple_in, new_latches, after_number, after_numbers, after_step, after_steps, AllFresh, AllLatched, AllSized, HasLatched};
 
+use crate::hit_modules::HitModules;
 use crate::hits::{Turn, is_deaf, list_hurts};
 use lvdc_fault::{Active, Script};
 use lvdc_map::Hop;
@@ -17,7 +18,7 @@ use lvdc_modules::{
     data_word, place_word,
 };
 use lvdc_orders::Order;
-use lvdc_vote::{Hurt, Triple};
+use lvdc_vote::{Hurt, LogicModule, Triple};
 use lvdc_word::Word;
 use smallvec::SmallVec;
 
@@ -138,8 +139,8 @@ impl Triples {
         }
     }
 
-    /// The copies latch in this order, each from what it reads and with what the active events do to it. What comes of it
-    /// doesn't depend on the order. The list of hurts is only a place to put them.
+    /// The copies of the modules that are hit latch in this order, each from what it reads and with what the active events do
+    /// to it. What comes of it doesn't depend on the order. The list of hurts is only a place to put them.
     pub fn latch_all(
         &mut self,
         order: &Order,
@@ -148,35 +149,56 @@ impl Triples {
         active: &Active,
         step: u64,
         voted: &Bus,
+        hit: HitModules,
     )
         requires fresh { AllFresh self.old }
         requires active { active.now.held ≡ active_at script.now step }
         requires events { All IsEvent script.now }
         requires room { length script.now ≤ hurts.old.capacity }
-        ensures value { self.new ≡ after_numbers self.old order.now (new_latches script.now step self.old voted.now) }
+        ensures value { self.new ≡ after_numbers self.old hit order.now (new_latches script.now step self.old voted.now) }
         ensures full { IsFullOrder 21 order.now }
         ensures capacity { hurts.new.capacity ≡ hurts.old.capacity }
     {
-        for number in order.copies() {
-            let turn = Turn::of(*number, step);
-            let bus = self.heard_by(is_deaf(script, active, turn), *number % 3, voted);
-            list_hurts(hurts, script, active, turn);
-            self.latch(*number, &bus, hurts.as_slice());
+        let numbers = order.copies();
+        if hit.is_empty() {
+            return;
+        }
+        for number in numbers {
+            if hit.has(*number / 3) {
+                let turn = Turn::of(*number, step);
+                let bus = self.heard_by(is_deaf(script, active, turn), *number % 3, voted);
+                list_hurts(hurts, script, active, turn);
+                self.latch(*number, &bus, hurts.as_slice());
+            }
         }
     }
 
-    /// What the copies latched takes their place.
-    pub fn commit(&mut self)
-        requires { AllLatched self.old }
-        ensures value { self.new ≡ after_commits self.old }
+    /// What the copies of the modules that are hit latched takes their place. What the three of another module latch is worked
+    /// out once, from the votes.
+    pub fn commit(&mut self, hit: HitModules, voted: &Bus)
+        requires { AllLatched hit self.old }
+        ensures value { self.new ≡ after_steps self.old hit voted.now }
         ensures sized { AllSized self.new }
     {
-        self.timer.commit();
-        self.locator.commit();
-        self.decoder.commit();
-        self.selector.commit();
-        self.accumulator.commit();
-        self.multiplier.commit();
-        self.exchange.commit();
+        settle(&mut self.timer, hit.timer, voted);
+        settle(&mut self.locator, hit.locator, voted);
+        settle(&mut self.decoder, hit.decoder, voted);
+        settle(&mut self.selector, hit.selector, voted);
+        settle(&mut self.accumulator, hit.accumulator, voted);
+        settle(&mut self.multiplier, hit.multiplier, voted);
+        settle(&mut self.exchange, hit.exchange, voted);
+    }
+}
+
+/// The next copies of a module: what they latched, where it is hit, or three times the state that follows from the votes.
+fn settle<M: LogicModule>(triple: &mut Triple<M>, hit: bool, voted: &M::Bus)
+    requires { hit ≡ true → HasLatched triple.old }
+    ensures value { triple.new ≡ after_step hit triple.old (M.next_of voted.now) }
+    ensures sized { IsSized M.State.LATCHES triple.new }
+{
+    if hit {
+        triple.commit();
+    } else {
+        *triple = Triple::new(M::next(voted));
     }
 }

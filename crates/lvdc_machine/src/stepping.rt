@@ -1,12 +1,12 @@
 //! One step of the voted machine.
 
-ghost use Rattle.std.specs.Prelude.{◌≡◌, ℕ, ◌+◌, ◌-◌, ◌*◌, ◌/◌, ◌%◌, ◌≤◌, ◌<◌, ◌==◌, ◌≢◌, if◌then◌else◌, List, map, true, false, IsSome, OnOk, OnErr, IfErr, IfSome, Option, Some, None};
+ghost use Rattle.std.specs.Prelude.{◌≡◌, ℕ, ◌+◌, ◌-◌, ◌*◌, ◌/◌, ◌%◌, ◌≤◌, ◌<◌, ◌==◌, ◌≢◌, if◌then◌else◌, List, map, true, false, ◌↔◌, IsSome, IsNone, OnOk, OnErr, IfErr, IfSome, Option, Some, None};
 ghost use Rattle.lvdc_map.specs.Banks.{is_there};
 ghost use Rattle.lvdc_port.specs.Device as device;
 ghost use Rattle.lvdc_port.specs.Devices.{has_port, HasSpare, AreDistinct};
 ghost use Rattle.lvdc_modules.specs.Wish.{wish, IsThereFor};
 ghost use Rattle.lvdc_plain.specs.Lists.{Since};
-ghost use Rattle.lvdc_fault.specs.Script.{two_wrong};
+ghost use Rattle.lvdc_fault.specs.Script.{active_at, two_wrong, wrong_module, NoneWrong};
 ghost use Rattle.lvdc_fault.specs.declared.verdict.Verdict.{Verdict};
 ghost use Rattle.lvdc_fault.specs.declared.verdict.Verdict.TheVariants.{Admissible};
 ghost use Rattle.lvdc_model.specs.Exchanges.{damages, stop_of, latches, exchanges, reading, storing, port_reading, port_writing, wished};
@@ -28,7 +28,7 @@ use crate::answers::answer;
 use crate::kept_end::KeptEnd;
 use crate::notes::{log_line, note_repair};
 use crate::{Machine, Mode, Order};
-use lvdc_fault::{Verdict, wrong_now};
+use lvdc_fault::{Active, Script, Verdict, active_suffice, wrong_now};
 use lvdc_map::Address;
 use lvdc_model::{Outcome, Repair};
 use lvdc_modules::{Bus, Wanted, wish};
@@ -90,6 +90,19 @@ fn repair_of(step: u64, at: Address, read: &ReadOut) -> Option<Repair>
             switched: read.switched,
         }),
     }
+}
+
+/// The lowest module with two or more wrong copies at the step, by the events that are active. Where none is, nothing is asked.
+fn wrong_if_any(script: &Script, active: &Active, step: u64) -> Option<u8>
+    requires { active.now.held ≡ active_at script.now step }
+    ensures value { result ≡ wrong_module script.now step }
+    ensures none { IsNone result ↔ NoneWrong script.now step }
+{
+    active_suffice(script, step);
+    if active.positions().is_empty() {
+        return None;
+    }
+    wrong_now(script, active, step)
 }
 
 /// The address that is to be read.
@@ -167,7 +180,7 @@ impl Machine {
             → result ≡ found o v }
         ensures right { result ≡ Admissible → two_wrong self.now.script self.now.steps 1 ≡ false }
     {
-        match wrong_now(&self.script, &self.active, self.steps) {
+        match wrong_if_any(&self.script, &self.active, self.steps) {
             Some(number) => Verdict::Logic {
                 step: self.steps,
                 module: number,

@@ -4,7 +4,7 @@ use Rattle.std.specs.Prelude.{if◌then◌else◌, is_some, unwrap_or, IsSome}
 use Rattle.std.specs.Bool.{Decides}
 use Rattle.std.proofs.lemmas.Bool.{false≢true}
 use Rattle.lvdc_vote.specs.Latches.{same_words, majority_of}
-use Rattle.lvdc_vote.proofs.Votes.{same_words-Decides, same_tests}
+use Rattle.lvdc_vote.proofs.Votes.{same_words-Decides, same_tests, majority_of-first}
 use Rattle.std.specs.Option.{option_map}
 use Rattle.lvdc_vote.specs.Copies.{differs_of, after_latch, settled}
 use Rattle.lvdc_vote.specs.Differences.{Kept, kept_of, shadow_by, copies_by, OnlyDifferent, IsSound}
@@ -162,3 +162,19 @@ sound_nothing_latched xs ys zs =
 -- nothing is kept of the base itself
 pub kept_same : (words : List ℕ) → None ≡ kept_of words words
 kept_same words = let none : Option (List ℕ) = None in rw (kept_by true words words (λ e. refl, λ e. refl)) refl
+
+-- nothing is kept beside the vote of three equal lists
+pub sound_equal : (xs : List ℕ) → IsSound (record { voted = xs; one = None; two = None; three = None; first = None; shadow_one = None; shadow_two = None; shadow_three = None; latched_one = false; latched_two = false; latched_three = false })
+sound_equal xs =
+    record {
+      vote = sym (majority_of-first xs xs refl);
+      different_one = λ ws e. cc;
+      different_two = λ ws e. cc;
+      different_three = λ ws e. cc;
+      marked_one = λ e. absurd (false≢true e);
+      marked_two = λ e. absurd (false≢true e);
+      marked_three = λ e. absurd (false≢true e);
+      shadow_one = λ e. absurd (false≢true e);
+      shadow_two = λ e. absurd (false≢true e);
+      shadow_three = λ e. absurd (false≢true e);
+    }

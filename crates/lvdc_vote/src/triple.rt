@@ -1,4 +1,4 @@
-ghost use Rattle.std.specs.Prelude.{◌≡◌, ℕ, ◌<◌, List, slice_get, Some, None, true, IsSome, All, is_some, unwrap_or};
+ghost use Rattle.std.specs.Prelude.{◌≡◌, ℕ, ◌<◌, List, slice_get, Some, None, true, not, ◌&&◌, IsSome, All, is_some, unwrap_or};
 ghost use Rattle.std.specs.Option.{option_map};
 ghost use Rattle.lvdc_vote.specs.Bits.{TwoAre};
 ghost use Rattle.lvdc_vote.specs.Latches.{latched_by, FitsLatches, IsMajority};
@@ -86,7 +86,19 @@ impl<M: LogicModule> Triple<M> {
         ensures value { result ≡ settled (M.State.latches state) (M.State.latches state) (M.State.latches state) }
         ensures sized { IsSized M.State.LATCHES result }
     {
-        Triple::from_copies(state.copied(), state.copied(), state)
+        Triple {
+            voted: state,
+            one: None,
+            two: None,
+            three: None,
+            first: None,
+            shadow_one: None,
+            shadow_two: None,
+            shadow_three: None,
+            latched_one: false,
+            latched_two: false,
+            latched_three: false,
+        }
     }
 
     /// These copies, of which none has latched.
@@ -186,6 +198,13 @@ impl<M: LogicModule> Triple<M> {
             1 => self.two.is_some(),
             _ => self.three.is_some(),
         }
+    }
+
+    /// Has each copy the vote?
+    pub fn is_unanimous(&self) -> bool
+        ensures { result ≡ (not (differs_of self.now 0) && not (differs_of self.now 1) && not (differs_of self.now 2)) }
+    {
+        !self.differs(0) && !self.differs(1) && !self.differs(2)
     }
 
     /// The word of one latch of a copy.

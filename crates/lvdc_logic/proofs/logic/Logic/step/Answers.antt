@@ -1,8 +1,9 @@
 use Rattle.std.proofs.Common.{◌+◌, sym, ◌∙◌, ap, subst, arith}
 use Rattle.lvdc_logic.specs.Logic.{DifferedAtMost}
-use Rattle.lvdc_logic.specs.Latching.{copies_in, after_commits}
+use Rattle.lvdc_logic.specs.Latching.{copies_in, after_steps, AllFresh}
 use Rattle.lvdc_logic.specs.Counts.{counts_in}
-use Rattle.lvdc_logic.proofs.Commits.{commits_are}
+use Rattle.lvdc_logic.specs.declared.triples.Triples.{Triples}
+use Rattle.lvdc_logic.proofs.Commits.{steps_are, steps_fresh}
 use Rattle.lvdc_logic.proofs.Differing.{counted_at_most}
 use Rattle.lvdc_logic.proofs.logic.Logic.step.Goals as goal
 
@@ -19,11 +20,15 @@ returns-clause-copies c =
     let t = c.self.inside.triples in
     let voted = c.args.voted.now in
     rw (← c.self.view_is)
-    (ap copies_in (c.commit.ensures.value ∙ ap after_commits c.latch_all.ensures.value)
-    ∙ commits_are script step t order voted c.latch_all.ensures.full.all)
+    (ap copies_in (c.commit.ensures.value ∙ ap (λ (t : Triples). after_steps t c.of_active-hit.result voted) c.latch_all.ensures.value)
+    ∙ steps_are script step t c.of_active-hit.result order voted c.latch_all.ensures.full.all c.of_active-hit.ensures.others)
 
 pub returns-clause-differed : goal.returns-clause-differed
 returns-clause-differed c =
     let before = subst (DifferedAtMost c.args.step) (ap (λ v. v.counts) (sym c.self.view_is)) c.requires.differed in
     subst (DifferedAtMost (c.args.step + 1)) (sym c.count.ensures)
     (counted_at_most c.args.step (copies_in c.commit.new.self) (counts_in c.self.inside.counts) before)
+
+pub invariant_of-self : goal.invariant_of-self
+invariant_of-self c =
+    (subst AllFresh (sym c.commit.ensures.value) (steps_fresh c.latch_all.new.self c.of_active-hit.result c.args.voted.now), c.commit.ensures.sized)
