@@ -50,6 +50,11 @@ falling_pairs : meaning (codes "LVDC 2" ∷ codes "START 000000016" ∷ codes "S
 unfolding meaning from words_from entry_in banks_in banks_named image_of
 falling_pairs = refl
 
+-- the line that isn't there is the next one
+start_missing : meaning (codes "LVDC 2" ∷ []) ≡ Err (BadImageLine 3)
+unfolding meaning from words_from entry_in banks_in banks_named image_of
+start_missing = refl
+
 end_missing : meaning (codes "LVDC 1" ∷ codes "0 00 000 000017000" ∷ []) ≡ Err (BadImageLine 4)
 unfolding meaning from words_from entry_in banks_in banks_named image_of
 end_missing = refl

@@ -4,3 +4,4 @@ pub mod Differing
 pub mod Listed
 pub mod Numbers
 pub mod Commits
+mod Rows

@@ -15,3 +15,4 @@ pub mod Starting
 pub mod Following
 pub mod Exchanged
 pub mod Plainly
+mod Rows

@@ -2,3 +2,4 @@ mod Begins
 mod Carrying
 mod Positions
 mod Releasing
+mod Rows
