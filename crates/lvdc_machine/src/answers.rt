@@ -1,17 +1,11 @@
-ghost use Rattle.std.specs.Prelude.{◌≡◌, ℕ, ◌+◌, ◌/◌, ◌%◌, ◌^◌, map, OnOk, OnErr, IfOk, IfErr};
+ghost use Rattle.std.specs.Prelude.{◌≡◌, ℕ, ◌+◌, map, OnOk, OnErr, IfOk, IfErr};
+ghost use Rattle.lvdc_port.specs.Device.{word_of_time};
 ghost use Rattle.lvdc_port.specs.Devices.{has_port, port_of, exchange_word, after_exchange, HasSpare, AreDistinct};
 ghost use Rattle.lvdc_plain.specs.Lists.{Since};
 ghost use Rattle.lvdc_machine.specs.Causes.{Fails};
 
-use lvdc_port::{PortDevice, PortRequest, exchange};
+use lvdc_port::{PortDevice, PortRequest, exchange, word_of_time};
 use lvdc_word::Word;
-
-/// The time as a device is told it: modulo 2^26.
-fn device_time(time: u64) -> Word
-    ensures { result ≡ time % 2 ^ 26 }
-{
-    Word::within((time % u64::from(Word::LIMIT)) as u32)
-}
 
 /// Makes a port exchange in this instruction time. A write answers 0. An error is the port of the device that failed.
 pub fn answer(
@@ -21,7 +15,7 @@ pub fn answer(
 ) -> Result<Word, u8>
     requires distinct { AreDistinct (map device_of devices.old.items) }
     requires room { HasSpare spare 1 devices.old.items }
-    ensures word { IfOk result (λ word. word ≡ exchange_word request (time % 2 ^ 26) (map device_of devices.old.items)) }
+    ensures word { IfOk result (λ word. word ≡ exchange_word request (word_of_time time) (map device_of devices.old.items)) }
     ensures ok { OnOk result (map device_of devices.new.items ≡ after_exchange request (map device_of devices.old.items)) }
     ensures since { OnOk result (Since device_of faults devices.old.items devices.new.items) }
     ensures named { IfErr result (λ port. port ≡ port_of request) }
@@ -32,7 +26,7 @@ pub fn answer(
     ensures spare { (n : ℕ) → HasSpare spare (n + 1) devices.old.items → HasSpare spare n devices.new.items }
     ensures spare_err { (n : ℕ) → OnErr result (HasSpare spare n devices.old.items → HasSpare spare n devices.new.items) }
 {
-    match exchange(devices, device_time(time), request) {
+    match exchange(devices, word_of_time(time), request) {
         Ok(word) => Ok(word),
         Err(fault) => Err(fault.port),
     }

@@ -7,7 +7,9 @@ ghost use Rattle.lvdc_port.specs.Device as device;
 ghost use Rattle.lvdc_model.specs.Exchanges.{prepared, wished};
 ghost use Rattle.lvdc_model.specs.Runs.{guarded};
 ghost use Rattle.lvdc_model.specs.Trial.{Trial, plain_in};
+ghost use Rattle.lvdc_phases.specs.Standing.{Standing};
 ghost use Rattle.lvdc_laws.specs.Ends.{IsOpening};
+ghost use Rattle.lvdc_laws.specs.Relation.{Kept};
 ghost use Rattle.lvdc_machine.specs.Guarded.{IsExchanged, GuardedBy, UnhurtBy, is_recoverable_by};
 ghost use Rattle.lvdc_machine.specs.Stands.{Stands, state_by, shown_by, shown_of};
 ghost use Rattle.lvdc_machine.specs.Steps.{NamesPort};
@@ -26,6 +28,17 @@ pub fn guarded_follows()
     lvdc_laws::judges_alone();
     lvdc_laws::guarded_times();
     lvdc_laws::step_begun();
+}
+
+/// A law, which does nothing when it runs: as long as no end has come, a guarded machine that stands where its run is keeps the
+/// whole relation to the plain run, step by step. The copies of a module that weren't wrong in the last step are one state, and
+/// these states stand for the plain run in the phase of the next step.
+pub fn guarded_keeps()
+    ensures { (o : Trial) (n : ℕ) (m : View) (ds : List device.Device) → IsOpening o.opening → m.mode ≡ Guarded → m.end ≡ None
+        → Stands o n m ds → Kept Standing o n (state_by m.end m.mode o n) }
+{
+    lvdc_laws::guarded_run();
+    lvdc_laws::judges_alone();
 }
 
 /// A law, which does nothing when it runs: where a guarded run goes on and wishes an exchange with a port, the plain run makes

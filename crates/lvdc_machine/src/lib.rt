@@ -14,7 +14,7 @@ mod snapshot;
 mod stepping;
 mod views;
 
-pub use laws::{failed_exchange, guarded_follows, guarded_words, unhurt_follows};
+pub use laws::{failed_exchange, guarded_follows, guarded_keeps, guarded_words, unhurt_follows};
 pub use lvdc_model::{Outcome, Repair};
 pub use lvdc_orders::{Order, Orders, OrdersFull};
 pub use machine::Machine;

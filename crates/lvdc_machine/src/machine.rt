@@ -8,7 +8,9 @@ ghost use Rattle.lvdc_model.specs.Trial.{Trial};
 ghost use Rattle.lvdc_model.specs.Voted.{Voted};
 ghost use Rattle.lvdc_model.specs.declared.outcome.Outcome.TheVariants.{Inadmissible};
 ghost use Rattle.lvdc_orders.specs.Events.{IsEvent};
+ghost use Rattle.lvdc_phases.specs.Standing.{Standing};
 ghost use Rattle.lvdc_laws.specs.Ends.{IsOpening};
+ghost use Rattle.lvdc_laws.specs.Relation.{Kept};
 ghost use Rattle.lvdc_machine.specs.declared.mode.Mode.TheVariants.{Guarded, Through};
 ghost use Rattle.lvdc_machine.specs.Guarded.{GuardedBy, UnhurtBy};
 ghost use Rattle.lvdc_machine.specs.Causes.{HasCause};
@@ -19,7 +21,7 @@ ghost use Rattle.lvdc_machine.specs.Steps.{Keeps};
 ghost use Rattle.lvdc_machine.specs.View.{answer_of_end};
 
 use crate::kept_end::KeptEnd;
-use crate::laws::{guarded_follows, is_hop_constant, places_words, unhurt_follows};
+use crate::laws::{guarded_follows, guarded_keeps, is_hop_constant, places_words, unhurt_follows};
 use crate::{Mode, Order, Orders, Pace};
 use lvdc_fault::{Active, Script};
 use lvdc_logic::Logic;
@@ -179,6 +181,13 @@ impl Machine {
             → Stands o t self.old (map device_of devices.old.items)
             → GuardedBy self.new.end o (t + 1) (state_by self.new.end self.new.mode o (t + 1)) }
 
+        // As long as no end has come it keeps the whole relation to the plain run: the copies of a module that weren't wrong in this
+        // step are one state, these states stand for the plain run in the phase of the next step, and cells, intended words, log and
+        // devices are the plain run's.
+        ensures relation { self.old.mode ≡ Guarded → self.new.end ≡ None → (o : Trial) (t : ℕ) → IsOpening o.opening
+            → Stands o t self.old (map device_of devices.old.items)
+            → Kept Standing o (t + 1) (state_by self.new.end self.new.mode o (t + 1)) }
+
         // Through every fault no step is judged.
         ensures through { self.old.mode ≡ Through → IsNone self.old.end → (verdict : Verdict) → result ≢ Inadmissible verdict }
 
@@ -198,6 +207,7 @@ impl Machine {
             → has_port device_of port devices.old.items ≡ true }
     {
         guarded_follows();
+        guarded_keeps();
         if let Some(end) = self.ended() {
             return end;
         }

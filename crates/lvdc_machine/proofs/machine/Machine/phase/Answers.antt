@@ -27,3 +27,15 @@ returns-in-Some-advance-clause-guarded g c = λ mode o t opens h.
 pub returns-in-None-clause-guarded : goal.returns-in-None-clause-guarded
 returns-in-None-clause-guarded g c = λ mode o t opens h.
     c.guarded_follows.ensures o _ _ _ opens (c.in-None.ensures.keeps.mode ∙ mode) (returns-in-None-clause-stands g c o t h)
+
+pub returns-in-Some-clause-relation : goal.returns-in-Some-clause-relation
+returns-in-Some-clause-relation g c = λ mode none o t opens h.
+    c.guarded_keeps.ensures o _ _ _ opens mode none (returns-in-Some-clause-stands g c o t h)
+
+pub returns-in-Some-advance-clause-relation : goal.returns-in-Some-advance-clause-relation
+returns-in-Some-advance-clause-relation g c = λ mode none o t opens h.
+    c.guarded_keeps.ensures o _ _ _ opens (c.in-Some-advance.ensures.keeps.mode ∙ mode) none (returns-in-Some-advance-clause-stands g c o t h)
+
+pub returns-in-None-clause-relation : goal.returns-in-None-clause-relation
+returns-in-None-clause-relation g c = λ mode none o t opens h.
+    c.guarded_keeps.ensures o _ _ _ opens (c.in-None.ensures.keeps.mode ∙ mode) none (returns-in-None-clause-stands g c o t h)
