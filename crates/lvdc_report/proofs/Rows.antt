@@ -1,14 +1,18 @@
 -- Worked lines of a report.
 use Rattle.std.proofs.Common.{◌≡◌, refl}
-use Rattle.std.specs.Prelude.{true, false, List, [], ◌∷◌, ◌++◌, codes}
+use Rattle.std.specs.Prelude.{true, false, [], ◌∷◌, ◌++◌, codes}
 use Rattle.std.specs.Fmt.{digits}
+use Rattle.std.specs.declared.option.Option.TheVariants.{Some}
+use Rattle.lvdc_model.specs.Trial.{Trial}
+use Rattle.lvdc_model.specs.Voted.{voted_start}
 use Rattle.lvdc_map.specs.Hop.{hop_of}
+use Rattle.lvdc_vote.specs.Bits.{majority}
 use Rattle.lvdc_text.specs.Numbers.{octal_text}
 use Rattle.lvdc_plain.specs.declared.records.Stop.TheVariants as stops
 use Rattle.lvdc_fault.specs.declared.verdict.Verdict.TheVariants as verdicts
 use Rattle.lvdc_model.specs.declared.outcome.Outcome.TheVariants.{Done, Stopped, Inadmissible, Device}
-use Rattle.lvdc_report.specs.Report.{lines_of, title_line, end_text, registers_text, log_text, memory_line, told_line}
-use Rattle.lvdc_report.specs.Voted.{wrong_lines, repairs_text, number_line}
+use Rattle.lvdc_report.specs.Report.{lines_of, title_line, end_text, registers_text, log_text, told_line}
+use Rattle.lvdc_report.specs.Voted.{wrong_lines, repairs_text, number_line, counts_below, soak_text}
 use Rattle.lvdc_report.specs.declared.title.Title.TheVariants.{Run, Plain, Through}
 
 titles : title_line Run ++ title_line Through ++ title_line Plain ≡ codes "LVDC RUN\nLVDC THROUGH\nLVDC PLAIN\n"
@@ -87,3 +91,17 @@ repairs_told = refl
 soak_number : number_line (codes "LVDC SOAK") 1 ++ number_line (codes "REPAIRS") 1816 ≡ codes "LVDC SOAK 1\nREPAIRS 1816\n"
 unfolding digits
 soak_number = refl
+
+-- the whole text of a soak run that has made no step, and that of one that has stopped
+abbrev idle : Trial
+idle = record { opening = record { image = []; banks = 0; start = hop_of 0o16; unplugs = []; devices = [] }; script = [] }
+
+soak_of_no_step : soak_text 12 (voted_start idle) ≡ codes "LVDC SOAK 12\nEND DONE\nTIMES 0\nA 000000000\nWRONG 0\nREPAIRS 0\n"
+unfolding digits octal_text counts_below majority
+soak_of_no_step = refl
+
+soak_that_stopped :
+    soak_text 12 (record (voted_start idle) { end = Some (Stopped 8 stops.Shift); steps = 9; counts = (1 ∷ 0 ∷ 2 ∷ []) ∷ [] })
+    ≡ codes "LVDC SOAK 12\nEND STOPPED 8 SHIFT\nTIMES 3\nA 000000000\nWRONG 3\nREPAIRS 0\n"
+unfolding digits octal_text counts_below majority
+soak_that_stopped = refl

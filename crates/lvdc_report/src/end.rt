@@ -1,4 +1,4 @@
-ghost use Rattle.std.specs.Prelude.{◌≡◌, ◌+◌, ◌≤◌, ◌++◌, length, OnOk};
+ghost use Rattle.std.specs.Prelude.{◌≡◌, ◌+◌, ◌≤◌, ◌++◌, length, OnOk, OnErr};
 ghost use Rattle.lvdc_report.specs.Report.{spot_text, stop_text, verdict_text, end_text, outcome_of};
 
 use lvdc_fault::Verdict;
@@ -99,9 +99,8 @@ pub(crate) fn outcome_of(end: PlainEnd) -> Outcome
     }
 }
 
-/// Adds the END line. Steps and modules are decimal, ports octal. After a want of memory `out` may have grown by a part of
-/// the line.
-pub fn put_end(out: &mut Vec<u8>, end: Outcome) -> Result<(), NoMemory>
+/// Adds the END line, piece by piece. After a want of memory `out` may have grown by a part of it.
+fn put_end_line(out: &mut Vec<u8>, end: Outcome) -> Result<(), NoMemory>
     ensures text { OnOk result (out.new.items ≡ out.old.items ++ end_text end) }
     ensures short { OnOk result (length out.new.items ≤ length out.old.items + 65) }
 {
@@ -111,5 +110,17 @@ pub fn put_end(out: &mut Vec<u8>, end: Outcome) -> Result<(), NoMemory>
         Outcome::Inadmissible(verdict) => put_inadmissible(out, verdict)?,
         Outcome::Device { step, port } => put_device(out, step, port)?,
     }
+    Ok(())
+}
+
+/// Adds the END line. Steps and modules are decimal, ports octal. After a want of memory `out` is as before.
+pub fn put_end(out: &mut Vec<u8>, end: Outcome) -> Result<(), NoMemory>
+    ensures text { OnOk result (out.new.items ≡ out.old.items ++ end_text end) }
+    ensures short { OnOk result (length out.new.items ≤ length out.old.items + 65) }
+    ensures err { OnErr result (out.new.items ≡ out.old.items) }
+{
+    let mut line = Vec::new(*out.allocator());
+    put_end_line(&mut line, end)?;
+    out.extend_from_slice(&line)?;
     Ok(())
 }

@@ -1,4 +1,4 @@
-ghost use Rattle.std.specs.Prelude.{◌≡◌, ◌+◌, ◌≤◌, ◌++◌, length, OnOk};
+ghost use Rattle.std.specs.Prelude.{◌≡◌, ◌+◌, ◌≤◌, ◌++◌, length, OnOk, OnErr};
 ghost use Rattle.lvdc_report.specs.Report.{times_line, place_line, data_line, bit_digit, dup_line, word_line, registers_text};
 
 use lvdc_map::Hop;
@@ -71,9 +71,8 @@ pub(crate) fn put_word_line(out: &mut Vec<u8>, name: &[u8], word: Word) -> Resul
     Ok(())
 }
 
-/// Adds the lines of the registers: TIMES, PLACE, DATA, DUP, A, PQ and SAVER. After a want of memory `out` may have grown
-/// by a part of these lines.
-pub fn put_registers(out: &mut Vec<u8>, visible: &Visible) -> Result<(), NoMemory>
+/// Adds the lines of the registers, one after the other. After a want of memory `out` may have grown by a part of them.
+fn put_register_lines(out: &mut Vec<u8>, visible: &Visible) -> Result<(), NoMemory>
     ensures text { OnOk result (out.new.items ≡ out.old.items ++ registers_text visible.now) }
     ensures short { OnOk result (length out.new.items ≤ length out.old.items + 120) }
 {
@@ -84,5 +83,17 @@ pub fn put_registers(out: &mut Vec<u8>, visible: &Visible) -> Result<(), NoMemor
     put_word_line(out, b"A", visible.a)?;
     put_word_line(out, b"PQ", visible.pq)?;
     put_word_line(out, b"SAVER", visible.saver)?;
+    Ok(())
+}
+
+/// Adds the lines of the registers: TIMES, PLACE, DATA, DUP, A, PQ and SAVER. After a want of memory `out` is as before.
+pub fn put_registers(out: &mut Vec<u8>, visible: &Visible) -> Result<(), NoMemory>
+    ensures text { OnOk result (out.new.items ≡ out.old.items ++ registers_text visible.now) }
+    ensures short { OnOk result (length out.new.items ≤ length out.old.items + 120) }
+    ensures err { OnErr result (out.new.items ≡ out.old.items) }
+{
+    let mut lines = Vec::new(*out.allocator());
+    put_register_lines(&mut lines, visible)?;
+    out.extend_from_slice(&lines)?;
     Ok(())
 }

@@ -3,6 +3,8 @@
 ghost use Rattle.std.specs.Prelude.{◌≡◌, ◌+◌, ◌*◌, ◌≤◌, ◌++◌, ℕ, List, length, OnOk, IfOk};
 ghost use Rattle.lvdc_port.specs.Device.{Device};
 ghost use Rattle.lvdc_model.specs.Trial.{Trial};
+ghost use Rattle.lvdc_model.specs.Voted.{Voted};
+ghost use Rattle.lvdc_machine.specs.Resumed.{state_from, StandsFrom};
 ghost use Rattle.lvdc_machine.specs.Stands.{Stands, state_by};
 ghost use Rattle.lvdc_machine.specs.View.{answer_of_end};
 ghost use Rattle.lvdc_report.specs.Voted.{three_counts, all_counts, number_line, soak_text};
@@ -59,6 +61,10 @@ pub fn report_soak(
     requires { end ≡ answer_of_end machine.now.end }
     ensures text { IfOk result (λ text. (o : Trial) (t : ℕ) (ds : List Device) → Stands o t machine.now ds
         → text.items ≡ soak_text number (state_by machine.now.end machine.now.mode o t)) }
+
+    // The same of a run from a given state.
+    ensures resumed { IfOk result (λ text. (o : Trial) (first : Voted) (n : ℕ) (ds : List Device) → StandsFrom o first n machine.now ds
+        → text.items ≡ soak_text number (state_from machine.now.end machine.now.mode o first n)) }
     ensures size { IfOk result (λ text. length text.items ≤ LONGEST_REPORT) }
 {
     let visible = machine.visible();
