@@ -1,5 +1,6 @@
 #!/usr/bin/env python3
-"""A simulator of the same machine, with the same command lines and texts, written apart from docs/MACHINE.md and docs/FORMATS.md.
+"""A simulator of the same machine, with the same command lines and texts, written from docs/MACHINE.md and docs/FORMATS.md and
+apart from the program.
 
 It is slow and proves nothing. The wanted texts of the cases come from it where they don't come from worked examples, so that no
 text comes from the program that the cases try. usage: simulator.py WORDS.. <INPUT"""

@@ -91,7 +91,7 @@ CASES = [
     Case("a-repair-before-and-one-after", "The saved repairs stand in the report before the new ones.", "resume", TWO_SAVED,
          has="A 000000005\nSAVER 000004016\nREPAIR 1 0 01 000 0 SWITCH\nREPAIR 7 0 01 000 1 SWITCH", worked=True),
     Case("devices-and-wrong-copies-are-saved",
-         "What devices hold, UNPLUG lines, the script, the orders; copies that are wrong, with their counts.", "save 5", DEVICES,
+         "What devices hold, UNPLUG lines, the script, the orders; copies that differ, with their counts.", "save 5", DEVICES,
          has="STATE 000 000000002\nSTATE 001 000000005\nSTATE 014 000000001\nSTATE 017 000000001\nUNPLUG 001 6\nUNPLUG 013 "
          "9\nDEAD 0 2 0 40"),
     Case("devices-go-on", "A run goes on with its devices, its script and its orders; the device of time 6 is taken away then.",

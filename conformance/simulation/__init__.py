@@ -1,1 +1,1 @@
-"""The parts of simulator.py, written from docs/MACHINE.md and docs/FORMATS.md alone."""
+"""The parts of simulator.py, written from docs/MACHINE.md and docs/FORMATS.md, without a look at the code."""
