@@ -1,11 +1,14 @@
 -- Worked examples, by computing.
 use Rattle.std.proofs.Common.{◌≡◌, ℕ, ◌+◌, refl, false, List, [], ◌∷◌, ◌++◌}
-use Rattle.std.specs.declared.option.Option.TheVariants.{Some}
+use Rattle.std.specs.declared.option.Option.TheVariants.{None, Some}
+use Rattle.lvdc_map.specs.Address.{Spot}
 use Rattle.lvdc_map.specs.Hop.{hop_of}
 use Rattle.lvdc_map.specs.Memory as memory
 use Rattle.lvdc_map.specs.declared.placed.Placed.{Placed}
+use Rattle.lvdc_plain.specs.Accesses.{fetched, operand, store}
 use Rattle.lvdc_plain.specs.Plain.{PlainState}
 use Rattle.lvdc_plain.specs.Run.{run}
+use Rattle.lvdc_plain.specs.Table.{step}
 use Rattle.lvdc_plain.specs.declared.records.Stop.TheVariants as stops
 
 -- words from a location of bank 0 and a sector on
@@ -92,3 +95,41 @@ zero_syllable_hops = (refl, refl, refl)
 
 store_wins : (ran (0o17000 ∷ 0o01000 ∷ 0o17000 ∷ 0o17000 ∷ 0o17000 ∷ 0o13775 ∷ []) (0o100000000 ∷ []) 6).pq ≡ 0o100000000
 store_wins = refl
+
+-- ---- what a time fetches, reads and stores
+
+-- the machine at its start, before this instruction
+abbrev before : ℕ → PlainState
+before code = ran (code ∷ []) [] 0
+
+-- a word of the saver in the residual sector
+abbrev saved : Spot
+saved = record { pair = 0; sector = 15; loc = 0o376 }
+
+a_time_fetches_and_reads : (fetched (before 0o17000) ≡ Some (record { pair = 0; sector = 0; loc = 0 }))
+    × (operand (before 0o17000) ≡ Some (record { pair = 0; sector = 1; loc = 0 })) × (store (before 0o17000) ≡ None)
+a_time_fetches_and_reads = (refl, refl, refl)
+
+a_store_reads_nothing : (operand (before 0o13002) ≡ None)
+    × (store (record (before 0o13002) { a = 5 }) ≡ Some (record { at = record { pair = 0; sector = 1; loc = 2 }; word = 5 }))
+a_store_reads_nothing = (refl, refl)
+
+nothing_after_a_stop : (fetched (record (before 0o17000) { stop = Some stops.Shift }) ≡ None)
+    × (operand (record (before 0o17000) { stop = Some stops.Shift }) ≡ None)
+    × (store (record (before 0o13002) { stop = Some stops.Exm }) ≡ None)
+nothing_after_a_stop = (refl, refl, refl)
+
+nothing_in_a_hold : (fetched (record (before 0o17000) { hold = 1 }) ≡ None) × (operand (record (before 0o17000) { hold = 1 }) ≡ None)
+    × (store (record (before 0o13002) { hold = 1 }) ≡ None)
+nothing_in_a_hold = (refl, refl, refl)
+
+-- CLA 776 reads memory, and not the saver
+an_operand_at_776 : (operand (before 0o17776) ≡ Some saved)
+    × ((step (record (before 0o17776) { saver = 0o77; memory = memory.stored (before 0o17776).memory saved 5 }) []).plain.a ≡ 5)
+an_operand_at_776 = (refl, refl)
+
+a_store_at_776 : store (record (before 0o13776) { a = 5; saver = 0o77 }) ≡ Some (record { at = saved; word = 0o77 })
+a_store_at_776 = refl
+
+pq_is_no_address : (operand (before 0o17775) ≡ None) × (store (before 0o13775) ≡ None)
+pq_is_no_address = (refl, refl)

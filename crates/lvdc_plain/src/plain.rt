@@ -70,17 +70,21 @@ fn answer(
     request: Option<PortRequest>,
 ) -> Result<Word, DeviceFault>
     requires { HasSpare spare 1 devices.old.items }
-    ensures word { IfOk result (λ word. word ≡ answered request (word_of_time times) (map device_of devices.old.items)) }
-    ensures ok { OnOk result (map device_of devices.new.items ≡ exchanged request (map device_of devices.old.items)) }
+    ensures word { IfOk result (λ word. word
+        ≡ answered request (word_of_time times) (map device_of devices.old.items)) }
+    ensures ok { OnOk result (map device_of devices.new.items
+        ≡ exchanged request (map device_of devices.old.items)) }
     ensures err { OnErr result (map device_of devices.new.items ≡ map device_of devices.old.items) }
-    ensures spare { (n : ℕ) → HasSpare spare (n + 1) devices.old.items → HasSpare spare n devices.new.items }
+    ensures spare { (n : ℕ) → HasSpare spare (n + 1) devices.old.items
+        → HasSpare spare n devices.new.items }
     ensures spare_err { OnErr result (map spare devices.new.items ≡ map spare devices.old.items) }
     ensures faults { OnOk result (map faults devices.new.items ≡ map faults devices.old.items) }
     ensures fault { IfErr result (λ fault. Names request fault.port
         × Rose (count_at device_of faults fault.port devices.old.items)
         (count_at device_of faults fault.port devices.new.items)) }
     ensures others { IfErr result (λ fault. (port : ℕ) → port ≢ fault.port
-        → count_at device_of faults port devices.new.items ≡ count_at device_of faults port devices.old.items) }
+        → count_at device_of faults port devices.new.items
+        ≡ count_at device_of faults port devices.old.items) }
 {
     match request {
         None => Ok(Word::ZERO),
@@ -180,7 +184,8 @@ impl Plain {
     fn wait(&mut self)
         requires hold { 0 < self.old.hold }
         requires left { self.old.times < self.old.limit }
-        ensures shows { (p : PlainState) → Shows self.old p → Shows self.new (waits (self.old.hold - 1) p) }
+        ensures shows { (p : PlainState) → Shows self.old p
+            → Shows self.new (waits (self.old.hold - 1) p) }
         ensures times { self.new.times ≡ self.old.times + 1 }
         ensures banks { self.new.banks ≡ self.old.banks }
         ensures limit { self.new.limit ≡ self.old.limit }
@@ -195,8 +200,10 @@ impl Plain {
     fn execute(&mut self, instr: Instr, m: Word) -> Option<PlainEnd>
         requires small { instr.address < 512 }
         requires left { self.old.times < self.old.limit }
-        ensures shows { (p : PlainState) → Shows self.old p → p.stop ≡ None → Shows self.new (makes instr p m) }
-        ensures end { (p : PlainState) → p.stop ≡ None → self.new.end ≡ end_of self.old.times (makes instr p m).stop }
+        ensures shows { (p : PlainState) → Shows self.old p → p.stop ≡ None
+            → Shows self.new (makes instr p m) }
+        ensures end { (p : PlainState) → p.stop ≡ None
+            → self.new.end ≡ end_of self.old.times (makes instr p m).stop }
         ensures answer { result ≡ self.new.end }
         ensures plain { IsPlainEnd (answer_of_end result) }
         ensures times { self.new.times ≡ self.old.times + 1 }
@@ -214,7 +221,8 @@ impl Plain {
     /// Keeps the end that a failed device is. The state is that before the time.
     fn fail(&mut self, port: u8) -> Option<PlainEnd>
         requires { self.old.times < self.old.limit }
-        ensures new { self.new ≡ record self.old { end = Some (Device (3 * self.old.times + 2) port) } }
+        ensures new { self.new
+            ≡ record self.old { end = Some (Device (3 * self.old.times + 2) port) } }
         ensures answer { result ≡ self.new.end }
         ensures plain { IsPlainEnd (answer_of_end result) }
     {
@@ -231,7 +239,8 @@ impl Plain {
         requires left { self.old.times < self.old.limit }
         requires distinct { AreDistinct (map device_of devices.old.items) }
         requires room { HasSpare spare (self.old.limit - self.old.times) devices.old.items }
-        ensures stands { (o : Opening) (t : ℕ) → Stands o t self.old (map device_of devices.old.items)
+        ensures stands { (o : Opening) (t : ℕ)
+            → Stands o t self.old (map device_of devices.old.items)
             → Stands o (t + 1) self.new (map device_of devices.new.items) }
         ensures answer { result ≡ self.new.end }
         ensures plain { IsPlainEnd (answer_of_end result) }
@@ -271,13 +280,15 @@ impl Plain {
         requires room { HasSpare spare (self.old.limit - self.old.times) devices.old.items }
 
         // It goes on by one time of the plain run, for each opening for which it stood, and answers the end that it keeps.
-        ensures stands { (o : Opening) (t : ℕ) → Stands o t self.old (map device_of devices.old.items)
+        ensures stands { (o : Opening) (t : ℕ)
+            → Stands o t self.old (map device_of devices.old.items)
             → Stands o (t + 1) self.new (map device_of devices.new.items) }
         ensures answer { result ≡ answer_of_end self.new.end }
         ensures plain { IsPlainEnd result }
 
         // An end that has come is kept, and nothing is changed.
-        ensures kept { IsSome self.old.end → (self.new ≡ self.old) × (devices.new.items ≡ devices.old.items) }
+        ensures kept { IsSome self.old.end
+            → (self.new ≡ self.old) × (devices.new.items ≡ devices.old.items) }
 
         // A failed device has failed in this call, and no other that is left has; every other end comes only where no device
         // that is left has failed.
@@ -313,13 +324,15 @@ impl Plain {
 
         // It goes on by so many times of the plain run, for each opening for which it stood, and answers the end that it
         // keeps.
-        ensures stands { (o : Opening) (t : ℕ) → Stands o t self.old (map device_of devices.old.items)
+        ensures stands { (o : Opening) (t : ℕ)
+            → Stands o t self.old (map device_of devices.old.items)
             → Stands o (t + times) self.new (map device_of devices.new.items) }
         ensures answer { result ≡ answer_of_end self.new.end }
         ensures plain { IsPlainEnd result }
 
         // An end that has come is kept, and nothing is changed.
-        ensures kept { IsSome self.old.end → (self.new ≡ self.old) × (devices.new.items ≡ devices.old.items) }
+        ensures kept { IsSome self.old.end
+            → (self.new ≡ self.old) × (devices.new.items ≡ devices.old.items) }
 
         // A failed device has failed in this call, and no other that is left has; every other end comes only where no device
         // that is left has failed.

@@ -59,7 +59,8 @@ impl Processor {
     /// What an instruction asks of the ports.
     pub fn request(&self, instr: Instr) -> Option<PortRequest>
         requires { instr.address < 512 }
-        ensures { (p : PlainState) → Holds self.now p → result ≡ request_by instr.op p instr.address }
+        ensures { (p : PlainState) → Holds self.now p
+            → result ≡ request_by instr.op p instr.address }
     {
         match instr.op {
             Op::Pio => {
@@ -77,7 +78,8 @@ impl Processor {
     /// The word at the place that an address names.
     fn operand(&self, address: u16) -> Word
         requires { address < 512 }
-        ensures { (p : PlainState) → Holds self.now p → result ≡ word_of_place p (operand_place p address) }
+        ensures { (p : PlainState) → Holds self.now p
+            → result ≡ word_of_place p (operand_place p address) }
     {
         match operand_place(self.place, address, self.banks) {
             Place::Memory(at) => self.words.word(at),
@@ -90,7 +92,8 @@ impl Processor {
     pub fn taken(&self, instr: Instr, answer: Word) -> Word
         requires { instr.address < 512 }
         ensures { (p : PlainState) → Holds self.now p → result ≡
-            (if takes_operand instr.op then word_of_place p (operand_place p instr.address) else answer) }
+            (if takes_operand instr.op then word_of_place p (operand_place p instr.address)
+            else answer) }
     {
         if instr.op.takes_operand() {
             self.operand(instr.address)
@@ -116,7 +119,8 @@ impl Processor {
 
     /// Goes to a place, and saves the place after this instruction with the data place as it was.
     fn go_to(&mut self, place: Hop)
-        ensures { self.new ≡ record self.old { place = place; saver = word_of_hop (after self.old.place) } }
+        ensures { self.new
+            ≡ record self.old { place = place; saver = word_of_hop (after self.old.place) } }
     {
         self.saver = self.place.after().to_word();
         self.place = place;
@@ -132,7 +136,8 @@ impl Processor {
 
     /// Transfers where a condition is met, and else goes on.
     fn transfer_where(&mut self, met: bool, address: u16)
-        ensures holds { (p : PlainState) → Holds self.old p → Holds self.new (if met then transfers p address else goes_on p) }
+        ensures holds { (p : PlainState) → Holds self.old p
+            → Holds self.new (if met then transfers p address else goes_on p) }
         ensures results { LeavesResults self.old self.new }
     {
         if met {
@@ -152,7 +157,8 @@ impl Processor {
     /// Stores by place. What is stored in PQ has to wait for the landing.
     fn store(&mut self, address: u16)
         requires { address < 512 }
-        ensures holds { (p : PlainState) → Holds self.old p → Holds self.new (stores p (operand_place p address)) }
+        ensures holds { (p : PlainState) → Holds self.old p
+            → Holds self.new (stores p (operand_place p address)) }
         ensures results { LeavesResults self.old self.new }
     {
         match operand_place(self.place, address, self.banks) {
@@ -166,8 +172,10 @@ impl Processor {
     /// Does what an instruction does before the landing, its word taken. Answers why it stops, where it does.
     fn make(&mut self, instr: Instr, m: Word) -> Option<Stop>
         requires { instr.address < 512 }
-        ensures holds { (p : PlainState) → Holds self.old p → Holds self.new (effect instr.op p instr.address m) }
-        ensures stop { (p : PlainState) → p.stop ≡ None → result ≡ (effect instr.op p instr.address m).stop }
+        ensures holds { (p : PlainState) → Holds self.old p
+            → Holds self.new (effect instr.op p instr.address m) }
+        ensures stop { (p : PlainState) → p.stop ≡ None
+            → result ≡ (effect instr.op p instr.address m).stop }
         ensures cause { ByInstruction result }
         ensures results { LeavesResults self.old self.new }
     {
@@ -236,10 +244,11 @@ impl Processor {
     fn finish(&mut self, instr: Instr, a: Word, place: Hop, m: Word)
         requires { instr.address < 512 }
         ensures banks { self.new.banks ≡ self.old.banks }
-        ensures finished { (p : PlainState) → p.banks ≡ self.old.banks → p.place ≡ place → p.a ≡ a → self.new ≡ record self.old {
-          pq = pq_after instr.op p instr.address self.old.pq;
-          pending = pending_after instr.op p instr.address m self.old.pending;
-        } }
+        ensures finished { (p : PlainState) → p.banks ≡ self.old.banks → p.place ≡ place → p.a ≡ a
+            → self.new ≡ record self.old {
+              pq = pq_after instr.op p instr.address self.old.pq;
+              pending = pending_after instr.op p instr.address m self.old.pending;
+            } }
     {
         match instr.op {
             Op::Mpy => self.issue(4, product(a, m), false),
@@ -273,7 +282,8 @@ impl Processor {
     /// Waits for one time of a hold.
     pub fn wait(&mut self)
         requires { 0 < self.old.hold }
-        ensures holds { (p : PlainState) → Holds self.old p → Holds self.new (waits (self.old.hold - 1) p) }
+        ensures holds { (p : PlainState) → Holds self.old p
+            → Holds self.new (waits (self.old.hold - 1) p) }
         ensures banks { self.new.banks ≡ self.old.banks }
     {
         self.land();

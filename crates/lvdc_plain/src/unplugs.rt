@@ -23,11 +23,13 @@ fn unplug_lines(unplugs: &[Unplug], time: u64, devices: &mut Vec<Box<dyn PortDev
 pub fn unplug_all(unplugs: &[Unplug], time: u64, devices: &mut Vec<Box<dyn PortDevice>>)
     requires distinct { AreDistinct (map device_of devices.old.items) }
     ensures left { Left device_of unplugs.now time devices.old.items devices.new.items }
-    ensures devices { map device_of devices.new.items ≡ plugged unplugs.now time (map device_of devices.old.items) }
+    ensures devices { map device_of devices.new.items
+        ≡ plugged unplugs.now time (map device_of devices.old.items) }
 
     // What stays of ports, room and counts of faults.
     ensures distinct { AreDistinct (map device_of devices.new.items) }
-    ensures spare { (n : ℕ) → HasSpare spare n devices.old.items → HasSpare spare n devices.new.items }
+    ensures spare { (n : ℕ) → HasSpare spare n devices.old.items
+        → HasSpare spare n devices.new.items }
     ensures since { Since device_of faults devices.old.items devices.new.items }
 {
     unplug_lines(unplugs, time, devices);

@@ -76,7 +76,8 @@ impl<D: PortDevice> PortDevice for Failing<D> {
     }
 
     fn supply(&mut self, word: Word) -> Result<(), NoMemory>
-        ensures ok { OnOk result (D.device_of self.new.inner ≡ after_supply (D.device_of self.old.inner) word) }
+        ensures ok { OnOk result (D.device_of self.new.inner
+            ≡ after_supply (D.device_of self.old.inner) word) }
         ensures err { OnErr result (D.device_of self.new.inner ≡ D.device_of self.old.inner) }
         ensures spare { D.spare self.new.inner ≡ D.spare self.old.inner }
         ensures faults { self.new.faults ≡ self.old.faults }
@@ -106,13 +107,15 @@ impl<D: PortDevice> PortDevice for Failing<D> {
 
     fn read(&mut self, time: Word) -> Result<Word, Failed>
         ensures word { IfOk result (λ word. word ≡ read_word (D.device_of self.old.inner) time) }
-        ensures ok { OnOk result (D.device_of self.new.inner ≡ after_read (D.device_of self.old.inner)) }
+        ensures ok { OnOk result (D.device_of self.new.inner
+            ≡ after_read (D.device_of self.old.inner)) }
         ensures err { OnErr result (D.device_of self.new.inner ≡ D.device_of self.old.inner) }
         ensures spare { D.spare self.new.inner ≡ D.spare self.old.inner }
         ensures cause { HasCause self.old.faults self.new.faults result }
 
         // A call of the list fails, and the device inside is not asked. Another fails where that device fails.
-        ensures due { Contains self.old.fails.items self.new.calls → IsErr result × (self.new.inner ≡ self.old.inner) }
+        ensures due { Contains self.old.fails.items self.new.calls
+            → IsErr result × (self.new.inner ≡ self.old.inner) }
         ensures passed { ¬ Contains self.old.fails.items self.new.calls →
             HasCause (D.faults self.old.inner) (D.faults self.new.inner) result }
         ensures calls { self.new.calls ≡ min (self.old.calls + 1) (2 ^ 64 - 1) }
@@ -129,14 +132,16 @@ impl<D: PortDevice> PortDevice for Failing<D> {
 
     fn write(&mut self, time: Word, word: Word) -> Result<(), Failed>
         requires { 1 ≤ D.spare self.old.inner }
-        ensures ok { OnOk result (D.device_of self.new.inner ≡ after_write (D.device_of self.old.inner) word) }
+        ensures ok { OnOk result (D.device_of self.new.inner
+            ≡ after_write (D.device_of self.old.inner) word) }
         ensures err { OnErr result (D.device_of self.new.inner ≡ D.device_of self.old.inner) }
         ensures spare { D.spare self.old.inner ≤ D.spare self.new.inner + 1 }
         ensures spare_err { OnErr result (D.spare self.new.inner ≡ D.spare self.old.inner) }
         ensures cause { HasCause self.old.faults self.new.faults result }
 
         // A call of the list fails, and the device inside is not asked. Another fails where that device fails.
-        ensures due { Contains self.old.fails.items self.new.calls → IsErr result × (self.new.inner ≡ self.old.inner) }
+        ensures due { Contains self.old.fails.items self.new.calls
+            → IsErr result × (self.new.inner ≡ self.old.inner) }
         ensures passed { ¬ Contains self.old.fails.items self.new.calls →
             HasCause (D.faults self.old.inner) (D.faults self.new.inner) result }
         ensures calls { self.new.calls ≡ min (self.old.calls + 1) (2 ^ 64 - 1) }

@@ -15,7 +15,8 @@ pub struct Latch {
 impl Latch {
     /// A latch that holds 0.
     pub fn new(port: u8) -> Self
-        ensures { ⟦<Latch as PortDevice>⟧.device_of result ≡ record { port = port; kind = LatchKind; state = 0 ∷ [] } }
+        ensures { ⟦<Latch as PortDevice>⟧.device_of result
+            ≡ record { port = port; kind = LatchKind; state = 0 ∷ [] } }
     {
         Latch {
             port,

@@ -17,7 +17,8 @@ pub struct Recorder {
 impl Recorder {
     /// A recorder without words, and with no room until it is prepared.
     pub fn new(alloc: Global, port: u8) -> Self
-        ensures { ⟦<Recorder as PortDevice>⟧.device_of result ≡ record { port = port; kind = RecorderKind; state = [] } }
+        ensures { ⟦<Recorder as PortDevice>⟧.device_of result
+            ≡ record { port = port; kind = RecorderKind; state = [] } }
     {
         Recorder {
             port,

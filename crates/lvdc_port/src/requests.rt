@@ -68,7 +68,8 @@ fn prepare(device: &mut Box<dyn PortDevice>, writes: u64) -> Result<(), NoMemory
 }
 
 pub(crate) fn place_of(devices: &[Box<dyn PortDevice>], port: u8) -> Option<usize>
-    ensures { MatchOption result (Lacks device_of port devices.now) (IsFirstAt device_of port devices.now) }
+    ensures { MatchOption result (Lacks device_of port devices.now)
+        (IsFirstAt device_of port devices.now) }
 {
     for (at, device) in devices.iter().enumerate() {
         if is_at(device, port) {
@@ -85,7 +86,8 @@ fn serve(
 ) -> Result<Word, Failed>
     requires { RoomFor request.now (spare device.old) }
     ensures word { IfOk result (λ word. word ≡ answer_of request.now time (device_of device.old)) }
-    ensures ok { OnOk result (device_of device.new ≡ after_request request.now (device_of device.old)) }
+    ensures ok { OnOk result (device_of device.new
+        ≡ after_request request.now (device_of device.old)) }
     ensures err { OnErr result (device_of device.new ≡ device_of device.old) }
     ensures spare { spare device.old ≤ spare device.new + 1 }
     ensures spare_err { OnErr result (spare device.new ≡ spare device.old) }
@@ -110,8 +112,10 @@ pub fn exchange(
     requires { RoomAt device_of spare request devices.old.items }
 
     // The device at the port does what its kind says, or fails and stays.
-    ensures word { IfOk result (λ word. word ≡ exchange_word request time (map device_of devices.old.items)) }
-    ensures ok { OnOk result (map device_of devices.new.items ≡ after_exchange request (map device_of devices.old.items)) }
+    ensures word { IfOk result (λ word. word
+        ≡ exchange_word request time (map device_of devices.old.items)) }
+    ensures ok { OnOk result (map device_of devices.new.items
+        ≡ after_exchange request (map device_of devices.old.items)) }
     ensures err { OnErr result (map device_of devices.new.items ≡ map device_of devices.old.items) }
 
     // Every other device is the same object as before.
@@ -120,7 +124,8 @@ pub fn exchange(
     // Room falls at the port alone, by one at most, and not where the device failed.
     ensures spare_at { count_at device_of spare (port_of request) devices.old.items
         ≤ count_at device_of spare (port_of request) devices.new.items + 1 }
-    ensures spare { (n : ℕ) → HasSpare spare (n + 1) devices.old.items → HasSpare spare n devices.new.items }
+    ensures spare { (n : ℕ) → HasSpare spare (n + 1) devices.old.items
+        → HasSpare spare n devices.new.items }
     ensures spare_err { OnErr result (map spare devices.new.items ≡ map spare devices.old.items) }
 
     // No count of faults grows but that of the device that the fault names.
@@ -193,7 +198,10 @@ pub fn prepare_all(devices: &mut Vec<Box<dyn PortDevice>>, writes: u64) -> Resul
 /// Plain devices that hold words answer words to a time that is one, and hold words after an exchange and without one of
 /// them.
 pub fn words_stay()
-    ensures answer { (request : PortRequest) (time : ℕ) (devices : List Device) → HoldWords devices → time < 2 ^ 26 → exchange_word request time devices < 2 ^ 26 }
-    ensures exchange { (request : PortRequest) (devices : List Device) → HoldWords devices → CarriesWord request → HoldWords (after_exchange request devices) }
-    ensures unplug { (port : ℕ) (devices : List Device) → HoldWords devices → HoldWords (without (λ device. device) port devices) }
+    ensures answer { (request : PortRequest) (time : ℕ) (devices : List Device) → HoldWords devices
+        → time < 2 ^ 26 → exchange_word request time devices < 2 ^ 26 }
+    ensures exchange { (request : PortRequest) (devices : List Device) → HoldWords devices
+        → CarriesWord request → HoldWords (after_exchange request devices) }
+    ensures unplug { (port : ℕ) (devices : List Device) → HoldWords devices
+        → HoldWords (without (λ device. device) port devices) }
 {}

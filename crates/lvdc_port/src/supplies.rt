@@ -37,11 +37,13 @@ pub fn kind_at(devices: &Vec<Box<dyn PortDevice>>, port: u8) -> Option<Kind>
 }
 
 fn supply_one(devices: &mut Vec<Box<dyn PortDevice>>, supply: &Supply) -> Result<(), NoMemory>
-    ensures ok { OnOk result (map device_of devices.new.items ≡ after_supply_of supply.now (map device_of devices.old.items)) }
+    ensures ok { OnOk result (map device_of devices.new.items
+        ≡ after_supply_of supply.now (map device_of devices.old.items)) }
     ensures err { OnErr result (map device_of devices.new.items ≡ map device_of devices.old.items) }
     ensures spare { map spare devices.new.items ≡ map spare devices.old.items }
     ensures faults { map faults devices.new.items ≡ map faults devices.old.items }
-    ensures want { OnErr result (kind_at (λ device. device) supply.now.port (map device_of devices.old.items) ≡ Some Tape) }
+    ensures want { OnErr result (kind_at (λ device. device) supply.now.port
+        (map device_of devices.old.items) ≡ Some Tape) }
 {
     let Some(at) = place_of(devices, supply.port) else {
         return Ok(());
@@ -61,13 +63,18 @@ pub fn supply_all(
 ) -> Result<(), NoMemory>
     // Every list meets this. A call that is lent the devices and has no condition counts as one that may make a box.
     requires { length supplies.now < 2 ^ 64 }
-    ensures ok { OnOk result (map device_of devices.new.items ≡ supplied supplies.now (map device_of devices.old.items)) }
-    ensures err { OnErr result (IsSuppliedInPart supplies.now (map device_of devices.old.items) (map device_of devices.new.items)) }
+    ensures ok { OnOk result (map device_of devices.new.items
+        ≡ supplied supplies.now (map device_of devices.old.items)) }
+    ensures err { OnErr result (IsSuppliedInPart supplies.now
+        (map device_of devices.old.items) (map device_of devices.new.items)) }
 
     // Each device keeps its place, its port and its kind, its room and its count of faults.
-    ensures ports { ports_of (map device_of devices.new.items) ≡ ports_of (map device_of devices.old.items) }
-    ensures kinds { kinds_of (map device_of devices.new.items) ≡ kinds_of (map device_of devices.old.items) }
-    ensures distinct { AreDistinct (map device_of devices.old.items) → AreDistinct (map device_of devices.new.items) }
+    ensures ports { ports_of (map device_of devices.new.items)
+        ≡ ports_of (map device_of devices.old.items) }
+    ensures kinds { kinds_of (map device_of devices.new.items)
+        ≡ kinds_of (map device_of devices.old.items) }
+    ensures distinct { AreDistinct (map device_of devices.old.items)
+        → AreDistinct (map device_of devices.new.items) }
     ensures spare { map spare devices.new.items ≡ map spare devices.old.items }
     ensures faults { map faults devices.new.items ≡ map faults devices.old.items }
 {

@@ -19,7 +19,8 @@ pub struct Tape {
 impl Tape {
     /// A tape without words.
     pub fn new(alloc: Global, port: u8) -> Self
-        ensures { ⟦<Tape as PortDevice>⟧.device_of result ≡ record { port = port; kind = TapeKind; state = [] } }
+        ensures { ⟦<Tape as PortDevice>⟧.device_of result
+            ≡ record { port = port; kind = TapeKind; state = [] } }
     {
         Tape {
             port,

@@ -13,7 +13,8 @@ pub struct Ticker {
 impl Ticker {
     /// A ticker, which holds no words.
     pub fn new(port: u8) -> Self
-        ensures { ⟦<Ticker as PortDevice>⟧.device_of result ≡ record { port = port; kind = TickerKind; state = [] } }
+        ensures { ⟦<Ticker as PortDevice>⟧.device_of result
+            ≡ record { port = port; kind = TickerKind; state = [] } }
     {
         Ticker { port }
     }
