@@ -9,6 +9,7 @@ import sys
 
 sys.dont_write_bytecode = True
 
+from simulation.account import Account
 from simulation.assembler import assemble, listing
 from simulation.campaign import campaign
 from simulation.decks import read_deck, soak_deck
@@ -16,7 +17,7 @@ from simulation.devices import at_port, of_the_program
 from simulation.lines import Refused, lines_of, print_image
 from simulation.macros import expansion, image_of_expansion
 from simulation.plain import Plain
-from simulation.report import Session, report, soak_text, status_of, text_of
+from simulation.report import Session, front, report, soak_text, status_of, text_of
 from simulation.saved import print_saved, read_saved
 from simulation.uplink import uplink
 from simulation.voted import Voted
@@ -47,14 +48,31 @@ def run_plain(lines):
     deck, devices = opened(lines)
     plain = Plain(deck.opening, devices)
     plain.run(deck.count)
-    return status_of(plain), report("LVDC PLAIN", plain)
+    return status_of(plain), front("LVDC PLAIN", plain)
 
 
-def run_voted(lines, guarded):
+def run_through(lines):
     deck, devices = opened(lines)
-    machine = Voted(deck.opening, deck.script, devices, guarded)
+    machine = Voted(deck.opening, deck.script, devices, False)
     machine.run(deck.count)
-    return status_of(machine), report("LVDC RUN" if guarded else "LVDC THROUGH", machine)
+    return status_of(machine), report("LVDC THROUGH", machine)
+
+
+def held(devices):
+    return [(device.port, device.words) for device in devices]
+
+
+def run_guarded(lines):
+    """The report of a guarded run. All but its last two parts is found twice: by the votes, and by the plain run and the script."""
+    deck, devices = opened(lines)
+    machine = Voted(deck.opening, deck.script, devices, True)
+    machine.run(deck.count)
+    account = Account(deck.opening, deck.script, opened(lines)[1])
+    account.run(deck.count)
+    text = report("LVDC RUN", machine)
+    assert text.startswith(front("LVDC RUN", account)), "the votes come to another report than the plain run and the script"
+    assert held(devices) == held(account.plain.devices), "the devices hold something else"
+    return status_of(machine), text
 
 
 def debugged(lines):
@@ -91,8 +109,8 @@ def resumed(lines):
 def reader_of(words):
     """What answers these words over the lines of an input: a status and a text. None for words that are no command line."""
     commands = {
-        ("run",): lambda lines: run_voted(lines, True),
-        ("run", "--through"): lambda lines: run_voted(lines, False),
+        ("run",): run_guarded,
+        ("run", "--through"): run_through,
         ("run", "--plain"): run_plain,
         ("asm",): lambda lines: (0, listing(lines)),
         ("asm", "--image"): lambda lines: (0, print_image(assemble(lines).image())),

@@ -60,11 +60,14 @@ def text_of(lines):
     return "".join(line + "\n" for line in lines)
 
 
+def front(title, machine):
+    """A report without its last two parts."""
+    return text_of([title, end_line(machine.end)] + register_lines(machine) + log_lines(machine.log) + memory_lines(machine))
+
+
 def report(title, machine):
-    lines = [title, end_line(machine.end)] + register_lines(machine) + log_lines(machine.log) + memory_lines(machine)
-    if title != "LVDC PLAIN":
-        lines += wrong_lines(machine) + repair_lines(machine.repairs)
-    return text_of(lines)
+    """The report of a voted machine."""
+    return front(title, machine) + text_of(wrong_lines(machine) + repair_lines(machine.repairs))
 
 
 def soak_text(number, machine):
