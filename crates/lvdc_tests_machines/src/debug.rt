@@ -1,3 +1,4 @@
+use crate::same::same;
 use lvdc_debug::{Breaks, Command, Spot2, parse_command};
 use lvdc_map::Address;
 use std::test::Fail;
@@ -33,7 +34,7 @@ fn each_kind_of_command_is_read(rt: HostRuntime) -> Result<(), Fail> {
         (b"REGS", Command::Regs),
     ];
     for (text, command) in table {
-        assert_eq!(rt; parse_command(text).ok(), Some(command));
+        same(&rt, parse_command(text).ok(), Some(command));
     }
     Ok(())
 }
@@ -59,7 +60,7 @@ fn what_is_no_command(rt: HostRuntime) -> Result<(), Fail> {
         b"REGS REGS",
     ];
     for text in table {
-        assert_eq!(rt; parse_command(text).is_err(), true);
+        same(&rt, parse_command(text).is_err(), true);
     }
     Ok(())
 }
@@ -69,10 +70,10 @@ fn sixteen_breakpoints_are_room_for_no_other(rt: HostRuntime) -> Result<(), Fail
     let mut breaks = Breaks::new();
     for loc in 0..16u8 {
         let at = Address::new(1, 2, loc).ok_or("an address")?;
-        assert_eq!(rt; breaks.set(Spot2 { at, syl: 0 }).is_ok(), true);
+        same(&rt, breaks.set(Spot2 { at, syl: 0 }).is_ok(), true);
     }
     let first = Address::new(1, 2, 0).ok_or("an address")?;
-    assert_eq!(rt; breaks.set(Spot2 { at: first, syl: 0 }).ok(), Some(16));
-    assert_eq!(rt; breaks.set(Spot2 { at: first, syl: 1 }).is_err(), true);
+    same(&rt, breaks.set(Spot2 { at: first, syl: 0 }).ok(), Some(16));
+    same(&rt, breaks.set(Spot2 { at: first, syl: 1 }).is_err(), true);
     Ok(())
 }

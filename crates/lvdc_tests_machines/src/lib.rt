@@ -1,8 +1,6 @@
-//! Tests of the modules, the plain and the voted machine, reports, campaigns and the debugger, over the public calls of their crates.
+//! Tests of the modules, the voted machine and the commands of the debugger, over the public calls of their crates.
 #![tactic(auto)]
 
-#[cfg(test)]
-mod campaign;
 #[cfg(test)]
 mod debug;
 #[cfg(test)]
@@ -14,6 +12,4 @@ mod memory;
 #[cfg(test)]
 mod modules;
 #[cfg(test)]
-mod plain;
-#[cfg(test)]
-mod report;
+mod same;

@@ -1,6 +1,7 @@
 ghost use Rattle.std.specs.Prelude.{◌≡◌, ◌<◌, ◌≤◌, All, IfOk};
 ghost use Rattle.lvdc_orders.specs.Events.{IsEvent};
 
+use crate::same::same;
 use lvdc_fault::{Active, Event, Script};
 use lvdc_logic::Logic;
 use lvdc_map::{Address, Banks, Hop};
@@ -96,15 +97,6 @@ fn flip(copy: u8, step: u64) -> Event
 }
 
 #[test]
-fn two_wrong_copies_outvote_the_third(rt: HostRuntime) -> Result<(), Fail> {
-    let events = [flip(1, 4), flip(2, 4)];
-    let logic = run(rt.alloc(), &events, &Order::default(), 9)?;
-    assert_eq!(rt; shown(&logic, 3), [1, 0, 0, 1]);
-    assert_eq!(rt; shown(&logic, 5), [1, 0, 0, 0]);
-    Ok(())
-}
-
-#[test]
 fn a_deaf_copy_hears_the_copies_of_its_number(rt: HostRuntime) -> Result<(), Fail> {
     let deaf = Event::Deaf {
         module: 5,
@@ -114,11 +106,11 @@ fn a_deaf_copy_hears_the_copies_of_its_number(rt: HostRuntime) -> Result<(), Fai
     };
     let events = [flip(1, 1), deaf];
     let early = run(rt.alloc(), &events, &Order::default(), 3)?;
-    assert_eq!(rt; early.copy_word(5, 1, 0).value(), 0);
-    assert_eq!(rt; early.copy_word(5, 2, 0).value(), 0o177777777);
+    same(&rt, early.copy_word(5, 1, 0).value(), 0);
+    same(&rt, early.copy_word(5, 2, 0).value(), 0o177777777);
     let late = run(rt.alloc(), &events, &Order::default(), 9)?;
-    assert_eq!(rt; shown(&late, 3), [0o200000000, 1, 0, 0]);
-    assert_eq!(rt; shown(&late, 5), [0o200000000, 1, 0, 0]);
+    same(&rt, shown(&late, 3), [0o200000000, 1, 0, 0]);
+    same(&rt, shown(&late, 5), [0o200000000, 1, 0, 0]);
     Ok(())
 }
 
@@ -164,42 +156,9 @@ fn lag_and_force() -> [Event; 4]
 #[test]
 fn hurts_act_in_the_order_of_the_script_on_what_a_lag_left(rt: HostRuntime) -> Result<(), Fail> {
     let logic = run(rt.alloc(), &lag_and_force(), &Order::default(), 3)?;
-    assert_eq!(rt; logic.copy_word(5, 1, 0).value(), 0o177777777);
-    assert_eq!(rt; logic.copy_word(5, 2, 0).value(), 1);
-    assert_eq!(rt; logic.copy_word(5, 3, 0).value(), 0o177777774);
-    assert_eq!(rt; shown(&logic, 5), [0o177777775, 1, 1, 1]);
-    Ok(())
-}
-
-#[test]
-fn the_order_leaves_no_trace(rt: HostRuntime) -> Result<(), Fail> {
-    let numbers: [u8; 21] = [
-        20, 3, 7, 0, 19, 12, 5, 1, 18, 4, 17, 2, 16, 6, 15, 8, 14, 9, 13, 10, 11,
-    ];
-    let order = Order::new(&numbers).ok_or("no order")?;
-    let first = run(rt.alloc(), &lag_and_force(), &Order::default(), 9)?;
-    let second = run(rt.alloc(), &lag_and_force(), &order, 9)?;
-    for number in 1..=7u8 {
-        assert_eq!(rt; shown(&first, number), shown(&second, number));
-    }
-    for copy in 1..=3u8 {
-        assert_eq!(rt; first.copy_word(5, copy, 0), second.copy_word(5, copy, 0));
-    }
-    Ok(())
-}
-
-#[test]
-fn a_logic_is_made_again_of_its_latches(rt: HostRuntime) -> Result<(), Fail> {
-    let logic = run(rt.alloc(), &lag_and_force(), &Order::default(), 3)?;
-    let latches = logic.latches(rt.alloc())?;
-    let counts = logic.counts(rt.alloc())?;
-    assert_eq!(rt; latches[20].value(), 1);
-    assert_eq!(rt; counts[13], 1);
-    let again = Logic::from_latches(rt.alloc(), &latches, &counts, 4)?;
-    for number in 1..=7u8 {
-        assert_eq!(rt; shown(&again, number), shown(&logic, number));
-    }
-    assert_eq!(rt; again.copy_word(5, 3, 0), logic.copy_word(5, 3, 0));
-    assert_eq!(rt; again.latches(rt.alloc())?.as_slice(), latches.as_slice());
+    same(&rt, logic.copy_word(5, 1, 0).value(), 0o177777777);
+    same(&rt, logic.copy_word(5, 2, 0).value(), 1);
+    same(&rt, logic.copy_word(5, 3, 0).value(), 0o177777774);
+    same(&rt, shown(&logic, 5), [0o177777775, 1, 1, 1]);
     Ok(())
 }

@@ -3,6 +3,7 @@ ghost use Rattle.lvdc_map.specs.Banks.{is_there};
 ghost use Rattle.lvdc_fault.specs.Activity.{Fits};
 ghost use Rattle.lvdc_memory.specs.Faults.{NamesMemory};
 
+use crate::same::{holds, same};
 use lvdc_fault::{Active, Event, Script};
 use lvdc_map::{Address, Banks, Placed};
 use lvdc_memory::VotedMemory;
@@ -93,56 +94,20 @@ fn stuck(mask: u32, value: u32) -> Event
 }
 
 #[test]
-fn each_twin_is_damaged_and_mended_from_the_other(rt: HostRuntime) -> Result<(), Fail> {
-    let script = two(&rt, damage(0, HERE, 0), damage(1, HERE, 4))?;
-    let mut active = Active::for_script(rt.alloc(), &script)?;
-    let mut memory = five(&rt, HERE, Banks::DUPLEX)?;
-    go_to(&mut memory, &script, &mut active, 0);
-    assert!(rt; memory.recoverable(HERE));
-    assert_eq!(rt; memory.read(HERE), found(Some(0), true));
-    go_to(&mut memory, &script, &mut active, 4);
-    assert!(rt; memory.recoverable(HERE));
-    assert_eq!(rt; memory.read(HERE), found(Some(1), true));
-    assert_eq!(rt; memory.read(HERE), found(None, false));
-    Ok(())
-}
-
-#[test]
-fn a_dead_twin_misses_a_store(rt: HostRuntime) -> Result<(), Fail> {
-    let dead = Event::Dead {
-        twin: 0,
-        pair: 1,
-        first: 5,
-        last: 5,
-    };
-    let script = two(&rt, dead, damage(1, HERE, 9))?;
-    let mut active = Active::for_script(rt.alloc(), &script)?;
-    let mut memory = five(&rt, HERE, Banks::DUPLEX)?;
-    go_to(&mut memory, &script, &mut active, 5);
-    memory.store(HERE, Word::within(7));
-    assert_eq!(rt; memory.intended(HERE), Word::within(7));
-    assert!(rt; memory.recoverable(HERE));
-    go_to(&mut memory, &script, &mut active, 6);
-    assert!(rt; !memory.recoverable(HERE));
-    assert_eq!(rt; memory.read(HERE), found(None, false));
-    Ok(())
-}
-
-#[test]
 fn where_stuck_bits_meet_the_later_ones_count(rt: HostRuntime) -> Result<(), Fail> {
     let right_last = two(&rt, stuck(3, 0), stuck(1, 1))?;
     let mut active = Active::for_script(rt.alloc(), &right_last)?;
     let mut memory = five(&rt, HERE, Banks::DUPLEX)?;
     go_to(&mut memory, &right_last, &mut active, 2);
-    assert_eq!(rt; memory.read(HERE), found(None, false));
+    same(&rt, memory.read(HERE), found(None, false));
     let wrong_last = two(&rt, stuck(1, 1), stuck(3, 0))?;
     let mut active = Active::for_script(rt.alloc(), &wrong_last)?;
     let mut memory = five(&rt, HERE, Banks::DUPLEX)?;
     go_to(&mut memory, &wrong_last, &mut active, 2);
-    assert_eq!(rt; memory.read(HERE), found(Some(0), true));
-    assert_eq!(rt; memory.read(HERE), found(Some(0), false));
+    same(&rt, memory.read(HERE), found(Some(0), true));
+    same(&rt, memory.read(HERE), found(Some(0), false));
     go_to(&mut memory, &wrong_last, &mut active, 3);
-    assert_eq!(rt; memory.read(HERE), found(None, false));
+    same(&rt, memory.read(HERE), found(None, false));
     Ok(())
 }
 
@@ -154,46 +119,13 @@ fn a_bank_of_a_simplex_pair_stands_alone(rt: HostRuntime) -> Result<(), Fail> {
     let banks = Banks::new(2).ok_or("pair 1")?;
     let mut memory = five(&rt, other, banks)?;
     go_to(&mut memory, &script, &mut active, 0);
-    assert!(rt; !memory.recoverable(HERE));
-    assert!(rt; memory.recoverable(other));
-    assert_eq!(rt; memory.read(HERE), Err(BothBad));
-    assert_eq!(rt; memory.read(other), found(None, false));
+    holds(&rt, !memory.recoverable(HERE));
+    holds(&rt, memory.recoverable(other));
+    same(&rt, memory.read(HERE), Err(BothBad));
+    same(&rt, memory.read(other), found(None, false));
     go_to(&mut memory, &script, &mut active, 1);
-    assert_eq!(rt; memory.read(other), Err(BothBad));
+    same(&rt, memory.read(other), Err(BothBad));
     memory.store(other, Word::within(7));
-    assert!(rt; memory.recoverable(other));
-    Ok(())
-}
-
-#[test]
-fn a_memory_goes_on_from_its_cells_and_words(rt: HostRuntime) -> Result<(), Fail> {
-    let mut memory = five(&rt, HERE, Banks::DUPLEX)?;
-    let dead = Event::Dead {
-        twin: 0,
-        pair: 1,
-        first: 3,
-        last: 4,
-    };
-    let damage = Event::Damage {
-        twin: 1,
-        at: HERE,
-        step: 3,
-        mask: Cell::within(1),
-    };
-    let script = two(&rt, dead, damage)?;
-    let mut active = Active::for_script(rt.alloc(), &script)?;
-    let held = memory.held(rt.alloc())?;
-    let words = memory.placed(rt.alloc())?;
-    let mut again = VotedMemory::from_cells(rt.alloc(), &held, &[0; 4], &words, Banks::DUPLEX)?;
-    script.active(3, &mut active);
-    again.put_in_force(&script, &active, 3);
-    assert_eq!(rt; again.read(HERE), found(Some(0), true));
-    assert_eq!(rt;
-        again.selected(rt.alloc())?.as_slice(),
-        [0, 1, 0, 0].as_slice()
-    );
-    assert_eq!(rt; again.intended(HERE).value(), 5);
-    memory.begin(&script, &active, 3);
-    assert_eq!(rt; memory.read(HERE), Err(BothBad));
+    holds(&rt, memory.recoverable(other));
     Ok(())
 }
