@@ -32,12 +32,13 @@ makes_wrong_in (Some e) step m c = makes_wrong step m c e
 abbrev pub is_wrong : List Event → ℕ → ℕ → ℕ → Bool
 is_wrong script step m c = list_any (makes_wrong step m c) script
 
+-- are two of the three copies wrong?
+abbrev pub are_two : (ℕ → Bool) → Bool
+are_two wrong = (wrong 1 && wrong 2) || (wrong 1 && wrong 3) || (wrong 2 && wrong 3)
+
 -- does a module have two wrong copies?
 abbrev pub two_wrong : List Event → ℕ → ℕ → Bool
-two_wrong script step m =
-    (is_wrong script step m 1 && is_wrong script step m 2)
-    || (is_wrong script step m 1 && is_wrong script step m 3)
-    || (is_wrong script step m 2 && is_wrong script step m 3)
+two_wrong script step m = are_two (is_wrong script step m)
 
 -- the lowest module with two wrong copies
 abbrev pub wrong_module : List Event → ℕ → Option ℕ
