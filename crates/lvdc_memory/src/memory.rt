@@ -46,7 +46,8 @@ impl VotedMemory {
     /// The memory that an image makes, with 0 where it has no word. Nothing is damaged, stuck or dead.
     pub fn new(alloc: Global, image: &[Placed], banks: Banks) -> Result<VotedMemory, NoMemory>
         requires { AllThere banks image.now }
-        ensures holds { IfOk result (λ m. (o : Trial) → o.opening.image ≡ image.now → o.opening.banks ≡ banks
+        ensures holds { IfOk result (λ m. (o : Trial) → o.opening.image ≡ image.now
+            → o.opening.banks ≡ banks
             → Holds o None m (twins_at_start o) (memory_of o.opening.image)) }
         ensures banks { IfOk result (λ m. m.twins.banks ≡ banks) }
     {
@@ -61,9 +62,12 @@ impl VotedMemory {
     pub fn release(&mut self, script: &Script, active: &Active)
         requires names { All NamesMemory script.now }
         requires within { All (λ position. position < length script.now) active.now.held }
-        ensures released { (o : Trial) (step : ℕ) (t : model.Twins) (i : Memory) → o.script ≡ script.now
-            → active.now.held ≡ active_at script.now step → Holds o (Some step) self.old t i → Holds o None self.new t i }
-        ensures unforced { (o : Trial) (t : model.Twins) (i : Memory) → Holds o None self.old t i → Holds o None self.new t i }
+        ensures released { (o : Trial) (step : ℕ) (t : model.Twins) (i : Memory)
+            → o.script ≡ script.now
+            → active.now.held ≡ active_at script.now step → Holds o (Some step) self.old t i
+            → Holds o None self.new t i }
+        ensures unforced { (o : Trial) (t : model.Twins) (i : Memory) → Holds o None self.old t i
+            → Holds o None self.new t i }
         ensures banks { self.new.twins.banks ≡ self.old.twins.banks }
     {
         for position in active.positions() {
@@ -89,8 +93,10 @@ impl VotedMemory {
     /// Can the intended word of an address be recovered from what the twins show there?
     pub fn recoverable(&self, at: Address) -> bool
         requires { is_there self.now.twins.banks at ≡ true }
-        ensures { (o : Trial) (in_force : Option ℕ) (t : model.Twins) (i : Memory) → Holds o in_force self.now t i
-            → result ≡ is_recovered o.opening.banks at (word_at i at) (λ twin. shows_since in_force o t twin at) }
+        ensures { (o : Trial) (in_force : Option ℕ) (t : model.Twins) (i : Memory)
+            → Holds o in_force self.now t i
+            → result ≡ is_recovered o.opening.banks at (word_at i at)
+            (λ twin. shows_since in_force o t twin at) }
     {
         let place = at.home();
         self.ledger
@@ -101,8 +107,10 @@ impl VotedMemory {
     /// a good cell there.
     pub fn read(&mut self, at: Address) -> Result<ReadOut, BothBad>
         requires { is_there self.old.twins.banks at ≡ true }
-        ensures answer { (o : Trial) (step : ℕ) (t : model.Twins) (i : Memory) → Holds o (Some step) self.old t i → result ≡ read_answer o step t at }
-        ensures after { IfOk result (λ r. (o : Trial) (step : ℕ) (t : model.Twins) (i : Memory) → Holds o (Some step) self.old t i
+        ensures answer { (o : Trial) (step : ℕ) (t : model.Twins) (i : Memory)
+            → Holds o (Some step) self.old t i → result ≡ read_answer o step t at }
+        ensures after { IfOk result (λ r. (o : Trial) (step : ℕ) (t : model.Twins) (i : Memory)
+            → Holds o (Some step) self.old t i
             → Holds o (Some step) self.new (after_read o step t at r) i) }
         ensures repaired { IfOk result (λ r. IfSome r.repaired (λ twin. twin < 2)) }
         ensures unchanged { OnErr result (self.new ≡ self.old) }
@@ -115,7 +123,8 @@ impl VotedMemory {
     /// Stores a word in each twin that holds the address and isn't dead. It is what is intended there from now on.
     pub fn store(&mut self, at: Address, word: Word)
         requires { is_there self.old.twins.banks at ≡ true }
-        ensures after { (o : Trial) (step : ℕ) (t : model.Twins) (i : Memory) → Holds o (Some step) self.old t i
+        ensures after { (o : Trial) (step : ℕ) (t : model.Twins) (i : Memory)
+            → Holds o (Some step) self.old t i
             → Holds o (Some step) self.new (after_store o step at word t) (stored i at word) }
         ensures banks { self.new.twins.banks ≡ self.old.twins.banks }
     {
@@ -127,7 +136,8 @@ impl VotedMemory {
     /// The word that is intended at an address: the last one stored there, else the image's, else 0.
     pub fn intended(&self, at: Address) -> Word
         requires { is_there self.now.twins.banks at ≡ true }
-        ensures { (o : Trial) (in_force : Option ℕ) (t : model.Twins) (i : Memory) → Holds o in_force self.now t i → result ≡ word_at i at }
+        ensures { (o : Trial) (in_force : Option ℕ) (t : model.Twins) (i : Memory)
+            → Holds o in_force self.now t i → result ≡ word_at i at }
     {
         self.ledger.intended(at)
     }
@@ -135,16 +145,39 @@ impl VotedMemory {
     /// Does what an active event does to memory as a step begins.
     fn begin_one(&mut self, event: &Event)
         requires { NamesMemory event.now }
-        ensures carries { (step : ℕ) (before : List Event) (t : model.Twins) → is_active step event.now ≡ true
+        ensures carries { (step : ℕ) (before : List Event) (t : model.Twins)
+            → is_active step event.now ≡ true
             → Carries (Some step) before self.old.twins t
-            → Carries (Some step) (before ++ event.now ∷ []) self.new.twins (damages_by step event.now t) }
+            → Carries (Some step) (before ++ event.now ∷ []) self.new.twins
+            (damages_by step event.now t) }
+        ensures banks { self.new.twins.banks ≡ self.old.twins.banks }
+        ensures ledger { self.new.ledger ≡ self.old.ledger }
+    {
+        changes_are_local();
+        match *event {
+            Event::Damage { twin, at, mask, .. } => self.twins.damage(twin, at, mask),
+            Event::Stick { .. }
+            | Event::Dead { .. }
+            | Event::Flip { .. }
+            | Event::Force { .. }
+            | Event::Lag { .. }
+            | Event::Deaf { .. } => self.put_one(event),
+        }
+    }
+
+    /// Puts in force what an active event sticks or kills.
+    pub(crate) fn put_one(&mut self, event: &Event)
+        requires { NamesMemory event.now }
+        ensures carries { (step : ℕ) (before : List Event) (t : model.Twins)
+            → is_active step event.now ≡ true
+            → Carries (Some step) before self.old.twins t
+            → Carries (Some step) (before ++ event.now ∷ []) self.new.twins t }
         ensures banks { self.new.twins.banks ≡ self.old.twins.banks }
         ensures ledger { self.new.ledger ≡ self.old.ledger }
     {
         same_address();
         changes_are_local();
         match *event {
-            Event::Damage { twin, at, mask, .. } => self.twins.damage(twin, at, mask),
             Event::Stick {
                 twin,
                 at,
@@ -153,15 +186,23 @@ impl VotedMemory {
                 ..
             } => self.stick(twin, at, mask, value),
             Event::Dead { twin, pair, .. } => self.twins.dead(twin, pair, true),
-            Event::Flip { .. } | Event::Force { .. } | Event::Lag { .. } | Event::Deaf { .. } => {}
+            Event::Damage { .. }
+            | Event::Flip { .. }
+            | Event::Force { .. }
+            | Event::Lag { .. }
+            | Event::Deaf { .. } => {}
         }
     }
 
     /// Sticks these bits beside those that are stuck there. Where they meet, these count.
-    pub(crate) fn stick(&mut self, twin: u8, at: Address, mask: Cell, value: Cell)
+    fn stick(&mut self, twin: u8, at: Address, mask: Cell, value: Cell)
         requires twin { twin < 2 }
         requires pair { at.pair < 4 }
-        ensures twins { self.new ≡ record self.old { twins = with_stuck_bits self.old.twins twin at (stuck_beside (stuck_in self.old.twins twin at) mask value) } }
+        ensures twins { self.new
+            ≡ record self.old {
+              twins = with_stuck_bits self.old.twins twin at
+                  (stuck_beside (stuck_in self.old.twins twin at) mask value);
+            } }
         ensures whole { IsStore self.old.twins }
         ensures place { IsPlace at }
     {

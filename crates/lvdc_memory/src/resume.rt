@@ -1,20 +1,19 @@
 //! A memory that was saved: made again from its cells and intended words, and what it has of them.
 
-ghost use Rattle.std.specs.Prelude.{◌≡◌, ℕ, ◌<◌, true, All, List, [], ◌∷◌, ◌++◌, length, Option, None, Some, IfOk};
+ghost use Rattle.std.specs.Prelude.{◌≡◌, ℕ, ◌<◌, All, length, Option, None, Some, IfOk};
 ghost use Rattle.lvdc_map.specs.Memory.{Memory, AllThere};
 ghost use Rattle.lvdc_twin.specs.Cells.{NamesPlace, AreHeld};
 ghost use Rattle.lvdc_fault.specs.Ledger.{ArePlaced};
-ghost use Rattle.lvdc_fault.specs.declared.event.Event.{Event};
-ghost use Rattle.lvdc_fault.specs.Script.{is_active, active_at};
+ghost use Rattle.lvdc_fault.specs.Script.{active_at};
 ghost use Rattle.lvdc_model.specs.Trial.{Trial};
 ghost use Rattle.lvdc_model.specs.Twins as model;
 ghost use Rattle.lvdc_memory.specs.Faults.{NamesMemory};
-ghost use Rattle.lvdc_memory.specs.Holds.{Carries, Holds, StoreCells, AreIntended};
+ghost use Rattle.lvdc_memory.specs.Holds.{Holds, StoreCells, AreIntended};
 
 use crate::VotedMemory;
-use lvdc_fault::{Active, Event, Ledger, Script, active_suffice};
-use lvdc_map::{Banks, Placed, same_address};
-use lvdc_twin::{Held, Twins, changes_are_local};
+use lvdc_fault::{Active, Ledger, Script, active_suffice};
+use lvdc_map::{Banks, Placed};
+use lvdc_twin::{Held, Twins};
 use lvdc_word::NoMemory;
 use std::alloc::Global;
 
@@ -32,7 +31,8 @@ impl VotedMemory {
         requires pairs { length selected.now ≡ 4 }
         requires twins { All (λ twin. twin < 2) selected.now }
         requires there { AllThere banks words.now }
-        ensures holds { IfOk result (λ m. (o : Trial) (t : model.Twins) (i : Memory) → o.opening.banks ≡ banks → StoreCells held.now t
+        ensures holds { IfOk result (λ m. (o : Trial) (t : model.Twins) (i : Memory)
+            → o.opening.banks ≡ banks → StoreCells held.now t
             → t.selected ≡ selected.now → AreIntended words.now i → Holds o None m t i) }
         ensures banks { IfOk result (λ m. m.twins.banks ≡ banks) }
     {
@@ -60,7 +60,8 @@ impl VotedMemory {
     /// The stored cells but for those of the word 0, rising by twin and place.
     pub fn held(&self, alloc: Global) -> Result<Vec<Held>, NoMemory>
         ensures held { IfOk result (λ held. AreHeld self.now.twins held.items) }
-        ensures cells { IfOk result (λ held. (o : Trial) (in_force : Option ℕ) (t : model.Twins) (i : Memory) → Holds o in_force self.now t i
+        ensures cells { IfOk result (λ held. (o : Trial) (in_force : Option ℕ)
+            (t : model.Twins) (i : Memory) → Holds o in_force self.now t i
             → StoreCells held.items t) }
     {
         self.twins.held(alloc)
@@ -81,37 +82,11 @@ impl VotedMemory {
     pub fn placed(&self, alloc: Global) -> Result<Vec<Placed>, NoMemory>
         ensures placed { IfOk result (λ placed. ArePlaced self.now.ledger placed.items) }
         ensures there { IfOk result (λ placed. AllThere self.now.twins.banks placed.items) }
-        ensures words { IfOk result (λ placed. (o : Trial) (in_force : Option ℕ) (t : model.Twins) (i : Memory) → Holds o in_force self.now t i
+        ensures words { IfOk result (λ placed. (o : Trial) (in_force : Option ℕ)
+            (t : model.Twins) (i : Memory) → Holds o in_force self.now t i
             → AreIntended placed.items i) }
     {
         let placed = self.ledger.placed(alloc)?;
         Ok(placed)
-    }
-
-    /// Puts in force what an active event sticks or kills.
-    fn put_one(&mut self, event: &Event)
-        requires { NamesMemory event.now }
-        ensures carries { (step : ℕ) (before : List Event) (t : model.Twins) → is_active step event.now ≡ true
-            → Carries (Some step) before self.old.twins t → Carries (Some step) (before ++ event.now ∷ []) self.new.twins t }
-        ensures banks { self.new.twins.banks ≡ self.old.twins.banks }
-        ensures ledger { self.new.ledger ≡ self.old.ledger }
-    {
-        same_address();
-        changes_are_local();
-        match *event {
-            Event::Stick {
-                twin,
-                at,
-                mask,
-                value,
-                ..
-            } => self.stick(twin, at, mask, value),
-            Event::Dead { twin, pair, .. } => self.twins.dead(twin, pair, true),
-            Event::Damage { .. }
-            | Event::Flip { .. }
-            | Event::Force { .. }
-            | Event::Lag { .. }
-            | Event::Deaf { .. } => {}
-        }
     }
 }
