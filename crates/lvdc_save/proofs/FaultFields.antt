@@ -10,7 +10,7 @@ use Rattle.lvdc_script_lines.specs.Fields.{index_in}
 use Rattle.lvdc_script_lines.specs.Lines.{fault_in}
 use Rattle.lvdc_save.proofs.Sizes.{few_latches}
 use Rattle.lvdc_save.proofs.Words.{IsWord, AreWords, octal-word, decimal-word}
-use Rattle.lvdc_save.proofs.Fields.{decimal-read, word-read, step-read, twin-read, one_pair-read, cell-read, place-read, target-read, span-read}
+use Rattle.lvdc_save.proofs.Fields.{decimal-read, word-read, step-read, twin-read, one_pair-read, cell-read, place-read, module_copy-read, span-read}
 
 -- ---- the words of the line
 
@@ -106,17 +106,17 @@ index-read number copy index one l = decimal-read 0 (latches_of number) index (o
 
 pub fault-read : (e : Event) → IsEvent e → fault_in (fault_word e ∷ fault_fields e) ≡ Some e
 fault-read (Flip number copy first last index mask) is =
-    rw (target-read number copy is.0, span-read first last is.1, index-read number copy index is.0.last_module is.2, word-read mask is.3) refl
+    rw (module_copy-read number copy is.0, span-read first last is.1, index-read number copy index is.0.last_module is.2, word-read mask is.3) refl
 fault-read (Force number copy first last index mask value) is =
     rw (
-      target-read number copy is.0,
+      module_copy-read number copy is.0,
       span-read first last is.1,
       index-read number copy index is.0.last_module is.2,
       word-read mask is.3,
       word-read value is.4,
     ) refl
-fault-read (Lag number copy first last) is = rw (target-read number copy is.0, span-read first last is.1) refl
-fault-read (Deaf number copy first last) is = rw (target-read number copy is.0, span-read first last is.1) refl
+fault-read (Lag number copy first last) is = rw (module_copy-read number copy is.0, span-read first last is.1) refl
+fault-read (Deaf number copy first last) is = rw (module_copy-read number copy is.0, span-read first last is.1) refl
 fault-read (Damage twin at step mask) is =
     rw (twin-read twin is.0, place-read at is.1.pair is.1.sector is.1.loc, step-read step is.2, cell-read mask is.3) refl
 fault-read (Stick twin at first last mask value) is =

@@ -8,7 +8,7 @@ use Rattle.lvdc_map.specs.Address.{Spot}
 use Rattle.lvdc_text.specs.Numbers.{word_in, below, octal_text}
 use Rattle.lvdc_text.proofs.ReadBack.{number_of-octal_text}
 use Rattle.lvdc_orders.specs.Events.{IsCopy, IsSpan, STEPS}
-use Rattle.lvdc_script_lines.specs.Fields.{from, decimal_in, octal_in, step_in, twin_in, pair_in, cell_in, target_in, span_in, place_in}
+use Rattle.lvdc_script_lines.specs.Fields.{from, decimal_in, octal_in, step_in, twin_in, pair_in, cell_in, module_copy_in, span_in, place_in}
 use Rattle.lvdc_save.proofs.Words.{plain_number-decimal}
 
 le-leb : (m n : ℕ) → m ≤ n → nat_le m n ≡ true
@@ -66,10 +66,10 @@ place-read at pair sector loc =
       octal-read 256 3 at.loc (omega arith) loc (omega (arith, loc)),
     ) refl
 
-pub target-read : (number copy : ℕ) → IsCopy number copy
-    → target_in (decimal number) (decimal copy) ≡ Some (record { number = number; copy = copy })
-unfolding target_in
-target-read number copy is =
+pub module_copy-read : (number copy : ℕ) → IsCopy number copy
+    → module_copy_in (decimal number) (decimal copy) ≡ Some (record { number = number; copy = copy })
+unfolding module_copy_in
+module_copy-read number copy is =
     rw (
       decimal-read 1 8 number is.first_module is.last_module (omega (arith, is.last_module)),
       decimal-read 1 4 copy is.first_copy is.last_copy (omega (arith, is.last_copy)),

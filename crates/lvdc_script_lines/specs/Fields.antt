@@ -4,7 +4,7 @@ use Rattle.lvdc_map.specs.Address.{Spot}
 use Rattle.lvdc_text.specs.Numbers.{number_of, plain_number_of, below}
 use Rattle.lvdc_modules.specs.States.{latches_of}
 use Rattle.lvdc_orders.specs.Events.{STEPS}
-use Rattle.lvdc_script_lines.specs.declared.fields.Target.{Target}
+use Rattle.lvdc_script_lines.specs.declared.fields.ModuleCopy.{ModuleCopy}
 use Rattle.lvdc_script_lines.specs.declared.fields.Span.{Span}
 
 -- the number, where it is the first or a later one
@@ -37,17 +37,17 @@ unfoldable pub cell_in : List ℕ → Option ℕ
 cell_in text = octal_in (2 ^ 28) 10 text
 
 -- the copy of these numbers
-abbrev pub target_of : Option ℕ → Option ℕ → Option Target
-target_of (Some number) (Some copy) = Some (record { number = number; copy = copy })
-target_of _ _ = None
+abbrev pub module_copy_of : Option ℕ → Option ℕ → Option ModuleCopy
+module_copy_of (Some number) (Some copy) = Some (record { number = number; copy = copy })
+module_copy_of _ _ = None
 
 -- a module, 1 to 7, and a copy, 1 to 3
-unfoldable pub target_in : List ℕ → List ℕ → Option Target
-target_in number copy = target_of (decimal_in 1 8 number) (decimal_in 1 4 copy)
+unfoldable pub module_copy_in : List ℕ → List ℕ → Option ModuleCopy
+module_copy_in number copy = module_copy_of (decimal_in 1 8 number) (decimal_in 1 4 copy)
 
 -- a latch of the module
-unfoldable pub index_in : Option Target → List ℕ → Option ℕ
-index_in (Some target) text = decimal_in 0 (latches_of target.number) text
+unfoldable pub index_in : Option ModuleCopy → List ℕ → Option ℕ
+index_in (Some named) text = decimal_in 0 (latches_of named.number) text
 index_in None text = None
 
 -- the steps from the first to the last, where they are in order

@@ -6,47 +6,47 @@ use Rattle.lvdc_map.specs.Address.{Spot}
 use Rattle.lvdc_text.specs.Numbers.{word_in}
 use Rattle.lvdc_fault.specs.declared.event.Event.{Event}
 use Rattle.lvdc_fault.specs.declared.event.Event.TheVariants.{Flip, Force, Lag, Deaf, Damage, Stick, Dead}
-use Rattle.lvdc_script_lines.specs.declared.fields.Target.{Target}
+use Rattle.lvdc_script_lines.specs.declared.fields.ModuleCopy.{ModuleCopy}
 use Rattle.lvdc_script_lines.specs.declared.fields.Span.{Span}
 use Rattle.lvdc_orders.specs.Orders.{order_of}
-use Rattle.lvdc_script_lines.specs.Fields.{step_in, twin_in, pair_in, cell_in, target_in, index_in, span_in, place_in}
+use Rattle.lvdc_script_lines.specs.Fields.{step_in, twin_in, pair_in, cell_in, module_copy_in, index_in, span_in, place_in}
 
 -- ---- what happens to copies
 
-abbrev pub flip_of : Option Target → Option Span → Option ℕ → Option ℕ → Option Event
-flip_of (Some target) (Some span) (Some index) (Some mask) = Some (Flip target.number target.copy span.first span.last index mask)
+abbrev pub flip_of : Option ModuleCopy → Option Span → Option ℕ → Option ℕ → Option Event
+flip_of (Some named) (Some span) (Some index) (Some mask) = Some (Flip named.number named.copy span.first span.last index mask)
 flip_of _ _ _ _ = None
 
 -- FLIP m c f l i mask
 abbrev pub flip_in : List (List ℕ) → Option Event
-flip_in (m ∷ c ∷ f ∷ l ∷ i ∷ mask ∷ []) = flip_of (target_in m c) (span_in f l) (index_in (target_in m c) i) (word_in mask)
+flip_in (m ∷ c ∷ f ∷ l ∷ i ∷ mask ∷ []) = flip_of (module_copy_in m c) (span_in f l) (index_in (module_copy_in m c) i) (word_in mask)
 flip_in _ = None
 
-abbrev pub force_of : Option Target → Option Span → Option ℕ → Option ℕ → Option ℕ → Option Event
-force_of (Some target) (Some span) (Some index) (Some mask) (Some value) = Some (Force target.number target.copy span.first span.last index mask value)
+abbrev pub force_of : Option ModuleCopy → Option Span → Option ℕ → Option ℕ → Option ℕ → Option Event
+force_of (Some named) (Some span) (Some index) (Some mask) (Some value) = Some (Force named.number named.copy span.first span.last index mask value)
 force_of _ _ _ _ _ = None
 
 -- FORCE m c f l i mask value
 abbrev pub force_in : List (List ℕ) → Option Event
-force_in (m ∷ c ∷ f ∷ l ∷ i ∷ mask ∷ value ∷ []) = force_of (target_in m c) (span_in f l) (index_in (target_in m c) i) (word_in mask) (word_in value)
+force_in (m ∷ c ∷ f ∷ l ∷ i ∷ mask ∷ value ∷ []) = force_of (module_copy_in m c) (span_in f l) (index_in (module_copy_in m c) i) (word_in mask) (word_in value)
 force_in _ = None
 
-abbrev pub lag_of : Option Target → Option Span → Option Event
-lag_of (Some target) (Some span) = Some (Lag target.number target.copy span.first span.last)
+abbrev pub lag_of : Option ModuleCopy → Option Span → Option Event
+lag_of (Some named) (Some span) = Some (Lag named.number named.copy span.first span.last)
 lag_of _ _ = None
 
 -- LAG m c f l
 abbrev pub lag_in : List (List ℕ) → Option Event
-lag_in (m ∷ c ∷ f ∷ l ∷ []) = lag_of (target_in m c) (span_in f l)
+lag_in (m ∷ c ∷ f ∷ l ∷ []) = lag_of (module_copy_in m c) (span_in f l)
 lag_in _ = None
 
-abbrev pub deaf_of : Option Target → Option Span → Option Event
-deaf_of (Some target) (Some span) = Some (Deaf target.number target.copy span.first span.last)
+abbrev pub deaf_of : Option ModuleCopy → Option Span → Option Event
+deaf_of (Some named) (Some span) = Some (Deaf named.number named.copy span.first span.last)
 deaf_of _ _ = None
 
 -- DEAF m c f l
 abbrev pub deaf_in : List (List ℕ) → Option Event
-deaf_in (m ∷ c ∷ f ∷ l ∷ []) = deaf_of (target_in m c) (span_in f l)
+deaf_in (m ∷ c ∷ f ∷ l ∷ []) = deaf_of (module_copy_in m c) (span_in f l)
 deaf_in _ = None
 
 -- ---- what happens to memory

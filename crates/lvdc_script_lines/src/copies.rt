@@ -5,7 +5,7 @@ ghost use Rattle.lvdc_text.specs.Lines.{IsWithin, part_of};
 ghost use Rattle.lvdc_orders.specs.Events.{IsEvent};
 ghost use Rattle.lvdc_script_lines.specs.Lines.{flip_in, force_in, lag_in, deaf_in};
 
-use crate::fields::{index_in, span_in, target_in};
+use crate::fields::{index_in, module_copy_in, span_in};
 use lvdc_fault::Event;
 use lvdc_text::{Line, octal_word, part};
 
@@ -18,13 +18,13 @@ pub(crate) fn flip_in(text: &[u8], fields: &[Line]) -> Option<Event>
     let [number, copy, first, last, index, mask] = fields else {
         return None;
     };
-    let target = target_in(part(text, number), part(text, copy))?;
+    let named = module_copy_in(part(text, number), part(text, copy))?;
     let span = span_in(part(text, first), part(text, last))?;
-    let index = index_in(target, part(text, index))?;
+    let index = index_in(named, part(text, index))?;
     let mask = octal_word(part(text, mask))?;
     Some(Event::Flip {
-        module: target.number,
-        copy: target.copy,
+        module: named.number,
+        copy: named.copy,
         first: span.first,
         last: span.last,
         index,
@@ -41,14 +41,14 @@ pub(crate) fn force_in(text: &[u8], fields: &[Line]) -> Option<Event>
     let [number, copy, first, last, index, mask, value] = fields else {
         return None;
     };
-    let target = target_in(part(text, number), part(text, copy))?;
+    let named = module_copy_in(part(text, number), part(text, copy))?;
     let span = span_in(part(text, first), part(text, last))?;
-    let index = index_in(target, part(text, index))?;
+    let index = index_in(named, part(text, index))?;
     let mask = octal_word(part(text, mask))?;
     let value = octal_word(part(text, value))?;
     Some(Event::Force {
-        module: target.number,
-        copy: target.copy,
+        module: named.number,
+        copy: named.copy,
         first: span.first,
         last: span.last,
         index,
@@ -66,11 +66,11 @@ pub(crate) fn lag_in(text: &[u8], fields: &[Line]) -> Option<Event>
     let [number, copy, first, last] = fields else {
         return None;
     };
-    let target = target_in(part(text, number), part(text, copy))?;
+    let named = module_copy_in(part(text, number), part(text, copy))?;
     let span = span_in(part(text, first), part(text, last))?;
     Some(Event::Lag {
-        module: target.number,
-        copy: target.copy,
+        module: named.number,
+        copy: named.copy,
         first: span.first,
         last: span.last,
     })
@@ -85,11 +85,11 @@ pub(crate) fn deaf_in(text: &[u8], fields: &[Line]) -> Option<Event>
     let [number, copy, first, last] = fields else {
         return None;
     };
-    let target = target_in(part(text, number), part(text, copy))?;
+    let named = module_copy_in(part(text, number), part(text, copy))?;
     let span = span_in(part(text, first), part(text, last))?;
     Some(Event::Deaf {
-        module: target.number,
-        copy: target.copy,
+        module: named.number,
+        copy: named.copy,
         first: span.first,
         last: span.last,
     })

@@ -2,7 +2,7 @@ ghost use Rattle.std.specs.Prelude.{◌≡◌, ◌<◌, ◌≤◌, ◌^◌, Some
 ghost use Rattle.lvdc_modules.specs.States.{latches_of};
 ghost use Rattle.lvdc_map.specs.Banks.{IsPlace};
 ghost use Rattle.lvdc_orders.specs.Events.{STEPS, IsCopy, IsSpan};
-ghost use Rattle.lvdc_script_lines.specs.Fields.{decimal_in, octal_in, step_in, twin_in, pair_in, cell_in, target_in, index_in, span_in, place_in};
+ghost use Rattle.lvdc_script_lines.specs.Fields.{decimal_in, octal_in, step_in, twin_in, pair_in, cell_in, module_copy_in, index_in, span_in, place_in};
 
 use lvdc_map::Address;
 use lvdc_modules::latches;
@@ -14,7 +14,7 @@ const STEPS: u64 = 3_000_000;
 
 /// The copy of a module.
 #[derive(Clone, Copy, Debug, PartialEq, Eq)]
-pub(crate) struct Target {
+pub(crate) struct ModuleCopy {
     pub(crate) number: u8,
     pub(crate) copy: u8,
 }
@@ -89,14 +89,14 @@ pub(crate) fn cell_in(token: &[u8]) -> Option<Cell>
 }
 
 /// A module, 1 to 7, and one of its copies, 1 to 3.
-#[tactic(auto, unfolding(crate::specs::Fields::target_in))]
-pub(crate) fn target_in(number: &[u8], copy: &[u8]) -> Option<Target>
-    ensures value { result ≡ target_in number.now copy.now }
-    ensures range { IfSome result (λ target. IsCopy target.number target.copy) }
+#[tactic(auto, unfolding(crate::specs::Fields::module_copy_in))]
+pub(crate) fn module_copy_in(number: &[u8], copy: &[u8]) -> Option<ModuleCopy>
+    ensures value { result ≡ module_copy_in number.now copy.now }
+    ensures range { IfSome result (λ named. IsCopy named.number named.copy) }
 {
     let number = decimal_in(1, 8, number)?;
     let copy = decimal_in(1, 4, copy)?;
-    Some(Target {
+    Some(ModuleCopy {
         number: number as u8,
         copy: copy as u8,
     })
@@ -104,12 +104,12 @@ pub(crate) fn target_in(number: &[u8], copy: &[u8]) -> Option<Target>
 
 /// The index of a latch of the copy's module.
 #[tactic(auto, unfolding(crate::specs::Fields::index_in))]
-pub(crate) fn index_in(target: Target, token: &[u8]) -> Option<u8>
-    requires { IsCopy target.number target.copy }
-    ensures value { result ≡ index_in (Some target) token.now }
-    ensures range { IfSome result (λ index. index < latches_of target.number) }
+pub(crate) fn index_in(named: ModuleCopy, token: &[u8]) -> Option<u8>
+    requires { IsCopy named.number named.copy }
+    ensures value { result ≡ index_in (Some named) token.now }
+    ensures range { IfSome result (λ index. index < latches_of named.number) }
 {
-    let index = decimal_in(0, u64::from(latches(target.number)), token)?;
+    let index = decimal_in(0, u64::from(latches(named.number)), token)?;
     Some(index as u8)
 }
 
