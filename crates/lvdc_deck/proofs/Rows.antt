@@ -10,7 +10,7 @@ use Rattle.lvdc_image.specs.Reading.{words_from as words_told, entry_in, banks_i
 use Rattle.lvdc_image.specs.declared.fault.ImageFault.TheVariants.{BadImageLine}
 use Rattle.lvdc_fault.specs.declared.event.Event.{Event}
 use Rattle.lvdc_fault.specs.declared.event.Event.TheVariants.{Lag}
-use Rattle.lvdc_script_lines.specs.Fields.{target_in, span_in, step_in}
+use Rattle.lvdc_script_lines.specs.Fields.{module_copy_in, span_in, step_in}
 use Rattle.lvdc_orders.specs.Orders.{plain_order}
 use Rattle.lvdc_source.specs.Lines.{parts_of}
 use Rattle.lvdc_source.specs.Names.{is_name}
@@ -186,7 +186,7 @@ faults_after_order = refl
 
 -- a module of a fault line is 1 to 7
 no_module : after_image (codes "FAULTS" ∷ codes "LAG 8 1 0 0" ∷ []) ≡ Err (BadLine 5)
-unfolding after_image meaning devices lines_from words_from told_from deck_from target_in span_in step_in
+unfolding after_image meaning devices lines_from words_from told_from deck_from module_copy_in span_in step_in
 no_module = refl
 
 -- a letter of an order line stands once
@@ -261,7 +261,7 @@ whole : after_image (codes "START 000000216" ∷ codes "SIMPLEX 0 3" ∷ codes "
       count = 4;
       commands = [];
     })
-unfolding word_in after_image meaning devices lines_from words_from told_from deck_from words_told image_of target_in span_in step_in
+unfolding word_in after_image meaning devices lines_from words_from told_from deck_from words_told image_of module_copy_in span_in step_in
 whole = refl
 
 -- the start constant and the simplex pairs of the image

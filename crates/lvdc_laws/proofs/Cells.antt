@@ -20,6 +20,7 @@ use Rattle.lvdc_laws.proofs.Places.{SameLaw, same_home}
 
 -- ---- one cell stored
 
+-- the cell at an address once a cell was stored at a place: that one at its home, else the old one
 pub placed-cell : (t : Twins) (twin : ℕ) (place : Spot) (cell w : ℕ) (other : Spot)
     → cell_at (with_place t twin place cell) w other ≡ cond (w == twin && is_same (home other) place) cell (cell_at t w other)
 placed-cell t twin place cell w other = by_twin (w == twin)
@@ -48,6 +49,7 @@ same_place same w twin at spot P x = by_twin (twin == w) refl
         let q : (w == twin) ≡ false = ne_eqb w twin (λ p. eqb-false twin w e (sym p)) in
         rw q refl
 
+-- damage is seen in the cell at the place that it names
 damage-cell : SameLaw → (b : Bool) (t : Twins) (twin : ℕ) (place : Spot) (mask w : ℕ) (at : Spot)
     → cell_at (cond b (with_place t twin place (bit_xor (word_at (t.cells twin) place) mask)) t) w at
     ≡ cond (b && twin == w && is_same (home at) place) (bit_xor (cell_at t w at) mask) (cell_at t w at)
@@ -56,6 +58,7 @@ damage-cell same true t twin place mask w at =
     ∙ same_place same w twin (home at) place (λ v a. bit_xor (word_at (t.cells v) a) mask) (cell_at t w at)
 damage-cell same false t twin place mask w at = refl
 
+-- the same of one event, and of a script
 damage-cell_by : SameLaw → (step : ℕ) (e : Event) (t : Twins) (w : ℕ) (at : Spot) → cell_at (damages_by step e t) w at ≡ damaged_by step w (home at) e (cell_at t w at)
 damage-cell_by same step (Damage twin place n mask) t w at = damage-cell same (n == step) t twin place mask w at
 damage-cell_by same step _ t w at = refl
@@ -65,6 +68,7 @@ damages-cell same step [] t w at = refl
 damages-cell same step (e ∷ es) t w at =
     damages-cell same step es (damages_by step e t) w at ∙ ap (damaged step w (home at) es) (damage-cell_by same step e t w at)
 
+-- damage selects no other twin
 damage-selected : (b : Bool) (t : Twins) (twin : ℕ) (place : Spot) (cell : ℕ) → (cond b (with_place t twin place cell) t).selected ≡ t.selected
 damage-selected true t twin place cell = refl
 damage-selected false t twin place cell = refl
@@ -77,6 +81,7 @@ damages-selected : (step : ℕ) (es : List Event) (t : Twins) → (damages step 
 damages-selected step [] t = refl
 damages-selected step (e ∷ es) t = damages-selected step es (damages_by step e t) ∙ damage-selected_by step e t
 
+-- a step begins: the twins store the damaged cells
 pub damages-stored : SameLaw → (o : Trial) (step : ℕ) (t : Twins) → StoresBefore o step t → StoresDamaged o step (damages step o.script t)
 damages-stored same o step t h =
     record {
@@ -86,12 +91,14 @@ damages-stored same o step t h =
 
 -- ---- a step without a read or a store
 
+-- a step without a read or a store leaves the damaged cells
 pub untouched : (o : Trial) (step : ℕ) (t : Twins) → read_at o step ≡ None → store_at o step ≡ None → StoresDamaged o step t → StoresBefore o (suc step) t
 untouched o step t reading storing h =
     record { cells = λ twin two at held. rw (storing, reading) (h.cells twin two at held); selected = h.selected }
 
 -- ---- a store
 
+-- the cell at an address once a twin that holds one has stored a word
 held-cell : (o : Trial) (step : ℕ) (t : Twins) (twin : ℕ) (at : Spot) (w v : ℕ) (other : Spot)
     → cell_at (with_held o step twin at w t) v other
     ≡ cond ((v == twin && (holds o.opening.banks twin at && not (is_dead_at o step twin at))) && is_same (home other) (home at)) (code_of w) (cell_at t v other)
@@ -112,6 +119,7 @@ held-cell o step t twin at w v other = by_case (holds o.opening.banks twin at) (
     by_case true true = none (v == twin)
     by_case true false = placed-cell t twin (home at) (code_of w) v other ∙ it (v == twin)
 
+-- a store selects no other twin
 word-selected : (dead : Bool) (t : Twins) (twin : ℕ) (at : Spot) (cell : ℕ) → (cond dead t (with_cell t twin at cell)).selected ≡ t.selected
 word-selected true t twin at cell = refl
 word-selected false t twin at cell = refl
@@ -133,6 +141,7 @@ stored-guard true killed homes false true dead c x h e m = rw (h refl, and-false
 stored-guard false killed homes true true dead c x h e m = absurd (true≢false (sym (e refl).0))
 stored-guard false killed homes false true dead c x h e m = refl
 
+-- a step with a store leaves the cells that the definition has
 pub stores-stored : SameLaw → (o : Trial) (step : ℕ) (t : Twins) (at : Spot) (w : ℕ) → StoresDamaged o step t
     → read_at o step ≡ None → store_at o step ≡ Some (record { at = at; word = w })
     → StoresBefore o (suc step) (after_store o step at w t)

@@ -39,11 +39,13 @@ two_by true false false a b c s two pa qb rc = inr (inr (qb refl, rc refl))
 two_by true false true a b c s two pa qb rc = absurd (true≢false two)
 two_by true true r a b c s two pa qb rc = absurd (true≢false two)
 
+-- where two copies have a state the vote is that state
 vote-state : TwoVote → (wrong : ℕ → Bool) (t : Copies) (s : List ℕ) → ModuleAgrees wrong t s → vote_of t ≡ s
 vote-state law wrong t s g =
     law t.one t.two t.three s g.sized.one g.sized.two g.sized.three
     (two_by (wrong 1) (wrong 2) (wrong 3) t.one t.two t.three s g.two g.first g.second g.third)
 
+-- the same of all seven modules
 pub votes-states : TwoVote → (wrong : ℕ → ℕ → Bool) (m : ℕ) (copies : List Copies) (states : List (List ℕ)) → Agree wrong m copies states → map vote_of copies ≡ states
 votes-states law wrong m [] [] g = refl
 votes-states law wrong m [] (s ∷ ss) g = absurd g
@@ -52,6 +54,7 @@ votes-states law wrong m (t ∷ ts) (s ∷ ss) g = rw (vote-state law (wrong m) 
 
 -- ---- lengths
 
+-- hurts leave as many latches
 length-hurt_by : (ws : List ℕ) (h : Hurt) → length (hurt_by ws h) ≡ length ws
 length-hurt_by ws kinds.Lag = refl
 length-hurt_by ws (kinds.Flip index mask) = length-set ws index _
@@ -70,6 +73,7 @@ length-latched old new hs n p q = length-hurt (cond (lags hs) old new) hs ∙ by
 
 -- ---- a copy that is not wrong
 
+-- an event that does not make a copy wrong does not hurt it
 unhurt_by : (step m c : ℕ) (e : Event) → makes_wrong step m c e ≡ false → hurts_by step m c e ≡ []
 unhurt_by step m c (Flip number copy first last index mask) h = rw h refl
 unhurt_by step m c (Force number copy first last index mask value) h = rw h refl
@@ -83,6 +87,7 @@ unhurt step m c (e ∷ es) h =
     let parts = or_parts (makes_wrong step m c e) (list_any (makes_wrong step m c) es) h in
     rw (unhurt_by step m c e parts.0, unhurt step m c es parts.1) refl
 
+-- nor does it make it deaf
 heard_by : (step m c : ℕ) (e : Event) → makes_wrong step m c e ≡ false → deafens step m c e ≡ false
 heard_by step m c (Deaf number copy first last) h = h
 heard_by step m c _ h = refl
@@ -129,6 +134,7 @@ next-agrees script step m (r ∷ rs) (t ∷ mine) wrong (s ∷ ss) copies bus fi
   next-agrees script step (m + 1) rs mine wrong ss copies bus fits.1 (λ j low high. two j (omega arith) (omega arith)) g.1,
 )
 
+-- after a step with no module named all copies but the wrong ones have the next state
 pub step-agrees : NamedLaw → (script : List Event) (step : ℕ) (wrong : ℕ → ℕ → Bool) (copies : List Copies) (states : List (List ℕ)) (bus : Bus)
     → Fits rows states → wrong_module script step ≡ None → Agree wrong 1 copies states
     → Agree (is_wrong script step) 1 (next_copies script step 1 rows copies copies bus) (next_states bus)

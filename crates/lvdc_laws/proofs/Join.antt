@@ -43,6 +43,7 @@ use Rattle.lvdc_laws.proofs.Steps.{Judged, HasBanks, Ready, AfterRead, AfterMade
 
 -- ---- before the exchange
 
+-- the devices left as a step begins, by its phase
 unplugged_by : (n : ℕ) (o : Trial) (v : Voted) → v.devices ≡ devices_by n o v.steps
     → cond (n == 0) (plugged o.opening.unplugs (v.steps / 3) v.devices) v.devices ≡ plugged_in o v.steps
 unplugged_by zero o v e = ap (plugged o.opening.unplugs (v.steps / 3)) e
@@ -52,6 +53,7 @@ unplugged_by (suc n) o v e = let more : (suc n == 0) ≡ false = ne_eqb (suc n) 
 pub unplugged : (o : Trial) (v : Voted) → v.devices ≡ devices_in o v.steps → (prepared o v).devices ≡ plugged_in o v.steps
 unplugged o v e = unplugged_by (v.steps % 3) o v e
 
+-- devices that are left hold words
 left-words : DeviceWords → (lines : List Unplug) (time : ℕ) (devices : List Device) → HoldWords devices → HoldWords (plugged lines time devices)
 left-words law [] time devices h = h
 left-words law (line ∷ lines) time devices h = left-words law lines time _ (by_time (line.time == time))
@@ -78,6 +80,7 @@ wished-plain Stands o v law k =
 
 -- ---- the bank of what is read
 
+-- the bank of a place is there, of a fetch and of an operand too
 place-bank : BankLaw → (banks : ℕ) (h : HopConstant) (address : ℕ) → IsHopConstant h → (kind : OperandKind)
     → HasBanks banks (spot_of (place_at kind (data_spot banks h address)))
 place-bank law banks h address ok kinds.Memory = law banks h.dmod (data_spot banks h address) ok.dmod refl

@@ -101,14 +101,17 @@ known-bad law o n at bank e =
 
 -- ---- the intended words
 
+-- a machine that follows the plain one intends its words
 intended-follows : {Stands : ℕ → List (List ℕ) → PlainState → Type 0} → StepLaws Stands → (o : Trial) (n : ℕ) (v : Voted) → Follows Stands o n v → v.intended ≡ (plain_in o n).memory
 intended-follows law o n v (Goes e k) = k.matches.intended
 intended-follows law o n v (Halts le d) =
     d.matches.intended ∙ sym (ap (λ (w : World). w.plain.memory) (stays-world law.stopped o.opening (v.steps / 3) d.why d.stopped (n / 3) (omega arith)))
 
+-- so does the guarded machine while no step is bad
 pub guarded-intended : (Stands : ℕ → List (List ℕ) → PlainState → Type 0) → StepLaws Stands → (o : Trial) → Opens Stands o → (n : ℕ) → first_bad_below o n ≡ verdicts.Admissible
     → (guarded o n).intended ≡ (plain_in o n).memory
 guarded-intended Stands law o opens n h = intended-follows law o n (guarded o n) (follows Stands o law opens n h)
 
+-- and once a bad step ended it
 pub bad-intended : (o : Trial) (n : ℕ) → EndsAt o n → (guarded o (suc n)).intended ≡ (plain_in o n).memory
 bad-intended o n e = ap (λ (v : Voted). v.intended) e.ends ∙ e.begun.intended

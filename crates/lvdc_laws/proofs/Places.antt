@@ -13,6 +13,7 @@ SameLaw = (a b : Spot) → is_same a b ≡ true → a ≡ b
 abbrev pub DuplexLaw : Type 0
 DuplexLaw = (banks twin : ℕ) (at : Spot) → HasBank banks at → is_simplex banks (at.pair % 4) ≡ false → holds banks twin at ≡ true
 
+-- a twin holds one bank at each place
 held_bank : (b : Bool) (twin x y : ℕ) → cond b (twin == x / 4) (nat_lt x 4) ≡ true → cond b (twin == y / 4) (nat_lt y 4) ≡ true → x % 4 ≡ y % 4 → x ≡ y
 held_bank true twin x y hx hy e = let p : twin ≡ x / 4 = eqb-true _ _ hx in let q : twin ≡ y / 4 = eqb-true _ _ hy in omega arith
 held_bank false twin x y hx hy e = let p : x < 4 = ltb-true _ _ hx in let q : y < 4 = ltb-true _ _ hy in omega arith

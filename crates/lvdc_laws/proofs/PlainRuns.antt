@@ -10,6 +10,7 @@ use Rattle.lvdc_laws.specs.Laws.{PortLaw, StopLaw}
 
 -- ---- the count of times
 
+-- a time counts one, unless the machine has stopped
 time-times : PortLaw → (stop : Option Stop) (o : Opening) (w : World) (k : ℕ) → w.plain.stop ≡ stop → (w.plain.stop ≡ None → w.plain.times ≡ k)
     → (time_by stop o.unplugs w).plain.stop ≡ None → (time_by stop o.unplugs w).plain.times ≡ suc k
 time-times law (Some s) o w k e h f = absurd (let g : Some s ≡ None = sym e ∙ f in cc)
@@ -20,6 +21,7 @@ pub times-count : PortLaw → (o : Opening) (k : ℕ) → (run o k).plain.stop �
 times-count law o zero e = refl
 times-count law o (suc k) e = time-times law (run o k).plain.stop o (run o k) k refl (times-count law o k) e
 
+-- a time that is made is a step with the devices left
 next_by : (stop : Option Stop) (o : Opening) (w : World) (k : ℕ) → stop ≡ None → w.plain.times ≡ k → time_by stop o.unplugs w ≡ step w.plain (plugged o.unplugs k w.devices)
 next_by None o w k e t = ap (λ (n : ℕ). step w.plain (plugged o.unplugs n w.devices)) t
 next_by (Some s) o w k e t = absurd (cc)
@@ -34,6 +36,7 @@ stays-world law o k s e m le = let sum : m ≡ k + (m - k) = omega arith in ap (
 
 -- ---- the banks stay
 
+-- no time changes the banks
 time-banks : PortLaw → (stop : Option Stop) (o : Opening) (w : World) → w.plain.stop ≡ stop → (time_by stop o.unplugs w).plain.banks ≡ w.plain.banks
 time-banks law (Some s) o w e = refl
 time-banks law None o w e = (law w.plain (plugged o.unplugs w.plain.times w.devices) e).banks

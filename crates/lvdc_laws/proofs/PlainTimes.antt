@@ -32,6 +32,7 @@ either : {X : Type 0} (F : PlainState → X) (b : Bool) (p q : PlainState) (x : 
 either F true p q x e f = e
 either F false p q x e f = f
 
+-- what an instruction does to memory, banks, log and devices is what the exchange of its time does
 stores-memory : (p : PlainState) (place : Place) → (stores p place).memory ≡ memory_after (store_wish (store_to p place)) p.memory
 stores-memory p (Memory at) = refl
 stores-memory p (Saver at) = refl
@@ -93,6 +94,7 @@ executes-devices _ address p devices = refl
 
 -- ---- one time
 
+-- so of a whole time, by stop and hold
 step-leaves_by : (stop : Option Stop) (hold : ℕ) (p : PlainState) (devices : List Device) → stop ≡ None → Leaves (made stop hold p) p devices (step_by stop hold p devices)
 step-leaves_by (Some s) hold p devices e = absurd (cc)
 step-leaves_by None (suc hold) p devices e = record { memory = refl; log = refl; devices = refl; times = refl; banks = refl }
@@ -112,6 +114,7 @@ step-leaves p devices e = step-leaves_by p.stop p.hold p devices e
 
 -- ---- what the exchange of the third phase is
 
+-- what phase C makes is no read
 made_by-reads_none : (op : Op) (p : PlainState) (address : ℕ) → read_of_wish (made_by op p address) ≡ None
 made_by-reads_none Sto p address = by_store (store_to p (operand_place p address))
   where
@@ -136,6 +139,7 @@ abbrev pub store_of_wish : Wanted → Option Store
 store_of_wish (wanted.Store at w) = Some (record { at = at; word = w })
 store_of_wish _ = None
 
+-- and a store where the plain machine stores
 made_by-store : (op : Op) (p : PlainState) (address : ℕ) → store_of p op address ≡ store_of_wish (made_by op p address)
 made_by-store Sto p address = by_store (store_to p (operand_place p address))
   where
@@ -156,6 +160,7 @@ made-store (Some s) hold p = refl
 
 -- ---- the devices after it hold words
 
+-- it carries words
 made_by-words : DeviceWords → (op : Op) (p : PlainState) (address : ℕ) (devices : List Device) → p.a < 2 ^ 26 → HoldWords devices
     → HoldWords (devices_after (made_by op p address) devices)
 made_by-words law Sto p address devices small h = by_store (store_to p (operand_place p address))

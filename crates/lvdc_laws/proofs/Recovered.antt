@@ -31,6 +31,7 @@ TwoLaw = (w selected : ℕ) (shown : ℕ → ℕ) → selected < 2 → w < 2 ^ 2
 
 -- ---- the cells after a read
 
+-- a twin is rewritten where it is to be, and is not dead
 rewriting : (is killed dead same : Bool) (c x : ℕ) → (is ≡ true → killed ≡ dead) → cond killed x (cond (is && same) c x) ≡ cond ((is && not dead) && same) c x
 rewriting false killed dead same c x h = by_killed killed
   where
@@ -43,10 +44,12 @@ rewriting true killed dead same c x h = rw (h refl) (by_dead dead)
     by_dead true = refl
     by_dead false = refl
 
+-- the cell at an address once a word was stored, unless the twin is dead
 word-cell : (killed : Bool) (t u : Twins) (w : ℕ) (at : Spot) → cell_at (cond killed t u) w at ≡ cond killed (cell_at t w at) (cell_at u w at)
 word-cell true t u w at = refl
 word-cell false t u w at = refl
 
+-- the cells once a twin was repaired
 rewritten-cell : (r : Option ℕ) (o : Trial) (step : ℕ) (t : Twins) (at : Spot) (w twin : ℕ) (other : Spot)
     → cell_at (rewritten r o step t at w) twin other
     ≡ cond ((is_repaired r twin && not (is_dead_at o step twin at)) && is_same (home other) (home at)) (code_of w) (cell_at t twin other)
@@ -57,6 +60,7 @@ rewritten-cell (Some v) o step t at w twin other =
     ∙ rewriting (twin == v) (is_dead_at o step v at) (is_dead_at o step twin at) (is_same (home other) (home at)) (code_of w) (cell_at t twin other)
     (λ e. ap (λ (n : ℕ). is_dead_at o step n at) (sym (eqb-true twin v e)))
 
+-- the cells after a read
 read-cell : (o : Trial) (step : ℕ) (t : Twins) (at : Spot) (r : ReadOut) (twin : ℕ) (other : Spot)
     → cell_at (after_read o step t at r) twin other
     ≡ cond ((is_repaired r.repaired twin && not (is_dead_at o step twin at)) && is_same (home other) (home at)) (code_of r.word) (cell_at t twin other)
@@ -91,6 +95,7 @@ quiet true false dead good d x e = absurd (true≢false (sym (e refl)))
 
 -- ---- selections
 
+-- selections stay below 2
 set-below : (xs : List ℕ) (i v k : ℕ) → v < 2 → ((j : ℕ) → slice_index xs j < 2) → slice_index (slice_set xs i v) k < 2
 set-below xs i v k small h =
     elim (cases_eq k i) [
@@ -101,6 +106,7 @@ set-below xs i v k small h =
       | inr ne ↦ let P : ℕ → Type 0 = λ n. n < 2 in subst P (sym (get_or-set_other xs i k v 0 ne)) (h k)
     ]
 
+-- a repair selects no other twin
 rewritten-selected : (r : Option ℕ) (o : Trial) (step : ℕ) (t : Twins) (at : Spot) (w : ℕ) → (rewritten r o step t at w).selected ≡ t.selected
 rewritten-selected None o step t at w = refl
 rewritten-selected (Some twin) o step t at w = by_dead (is_dead_at o step twin at)
@@ -109,6 +115,7 @@ rewritten-selected (Some twin) o step t at w = by_dead (is_dead_at o step twin a
     by_dead true = refl
     by_dead false = refl
 
+-- after a read selections are of twins
 read-selected : (o : Trial) (step : ℕ) (t : Twins) (at : Spot) (r : ReadOut) → ((j : ℕ) → slice_index t.selected j < 2)
     → (pair : ℕ) → slice_index (after_read o step t at r).selected pair < 2
 read-selected o step t at r h pair = switching r.switched
@@ -132,6 +139,7 @@ record ReadsBy (b : Bool) (o : Trial) (step : ℕ) (t : Twins) (at : Spot) : Typ
   word : out.word ≡ word_at (plain_in o step).memory at
   stores : StoresBefore o (suc step) (after_read o step t at out)
 
+-- a read of a simplex pair finds the word that can be recovered
 simplex-read : SameLaw → OneLaw → (o : Trial) (step : ℕ) (t : Twins) (at : Spot) → is_simplex o.opening.banks (at.pair % 4) ≡ true → HasBank o.opening.banks at
     → StoresDamaged o step t → read_at o step ≡ Some at → store_at o step ≡ None
     → recovers_by true at.pair (code_of (word_at (plain_in o step).memory at)) (λ twin. shown_at o twin at step) ≡ true
@@ -164,6 +172,7 @@ simplex-read same law o step t at simplex bank h reading storing rec small =
         (λ e. ap (λ (a : Spot). is_simplex banks (a.pair % 4)) (same other at e) ∙ simplex)
         ∙ rw (storing, reading) refl
 
+-- a read of a duplex pair finds it too, and mends as the definition does
 duplex-read : SameLaw → DuplexLaw → TwoLaw → (o : Trial) (step : ℕ) (t : Twins) (at : Spot) → is_simplex o.opening.banks (at.pair % 4) ≡ false → HasBank o.opening.banks at
     → StoresDamaged o step t → read_at o step ≡ Some at → store_at o step ≡ None
     → recovers_by false at.pair (code_of (word_at (plain_in o step).memory at)) (λ twin. shown_at o twin at step) ≡ true
@@ -206,6 +215,7 @@ duplex-read same both law o step t at duplex bank h reading storing rec small =
         ∙ ap (λ (c : ℕ). cond (((is_same other at && not (is_simplex banks (other.pair % 4))) && not (is_dead_at o step twin other)) && not (is_good (shown_with o step twin other c))) (code_of (word_at (plain_in o step).memory other)) c) (h.cells twin two other held)
         ∙ rw (storing, reading) refl
 
+-- both, by the kind of pair
 reads_by : SameLaw → DuplexLaw → OneLaw → TwoLaw → (b : Bool) (o : Trial) (step : ℕ) (t : Twins) (at : Spot) → is_simplex o.opening.banks (at.pair % 4) ≡ b
     → HasBank o.opening.banks at → StoresDamaged o step t → read_at o step ≡ Some at → store_at o step ≡ None
     → recovers_by b at.pair (code_of (word_at (plain_in o step).memory at)) (λ twin. shown_at o twin at step) ≡ true
@@ -213,6 +223,7 @@ reads_by : SameLaw → DuplexLaw → OneLaw → TwoLaw → (b : Bool) (o : Trial
 reads_by same both one two true o step t at e bank h reading storing rec small = simplex-read same one o step t at e bank h reading storing rec small
 reads_by same both one two false o step t at e bank h reading storing rec small = duplex-read same both two o step t at e bank h reading storing rec small
 
+-- a read answers the word of the plain run
 pub reads-plain : SameLaw → DuplexLaw → OneLaw → TwoLaw → (o : Trial) (step : ℕ) (t : Twins) (at : Spot) → HasBank o.opening.banks at
     → StoresDamaged o step t → read_at o step ≡ Some at → store_at o step ≡ None → is_recoverable o step at ≡ true
     → word_at (plain_in o step).memory at < 2 ^ 26 → ReadsPlain o step t at
@@ -222,6 +233,7 @@ reads-plain same both one two o step t at bank h reading storing rec small =
 
 -- ---- what can be recovered
 
+-- only what the twins show that hold the bank counts
 holders-simplex : (bank cell : ℕ) (x y : ℕ → ℕ) → x (bank / 4) ≡ y (bank / 4) → recovers_by true bank cell x ≡ recovers_by true bank cell y
 holders-simplex bank cell x y e = ap (λ (shown : ℕ). shown == cell) e
 

@@ -37,6 +37,7 @@ use Rattle.lvdc_laws.proofs.Join.{unplugged, wished-plain, bank-read, one-step}
 
 -- ---- what the machine finds by itself is the verdict
 
+-- the address that a wish reads is that of the plain machine
 wish-reads : (make : Spot → Wanted) (r : Option Spot) → ((at : Spot) → read_of_wish (make at) ≡ Some at) → read_of_wish (read_wish make r) ≡ r
 wish-reads make None e = refl
 wish-reads make (Some at) e = e at
@@ -46,6 +47,7 @@ exchange-reads zero p = wish-reads Fetch _ (λ at. refl)
 exchange-reads (suc zero) p = wish-reads Operand _ (λ at. refl)
 exchange-reads (suc (suc n)) p = made-reads_none p.stop p.hold p
 
+-- what the machine says of an address is what script and plain run say
 found-memory : HoldersLaw → (o : Trial) (v : Voted) (r : Option Spot) → HasBanks o.opening.banks r
     → StoresDamaged o v.steps v.twins → v.intended ≡ (plain_in o v.steps).memory → found_memory o v r ≡ judged_memory o v.steps r
 found-memory law o v None bank h e = refl
@@ -55,6 +57,7 @@ found-memory law o v (Some at) bank h e =
     (law o.opening.banks at (memory.word_at (plain_in o v.steps).memory at) (λ twin. shows o v.steps v.twins twin at) (λ twin. shown_at o twin at v.steps) bank
     (λ twin two held. ap (shown_with o v.steps twin at) (h.cells twin two at held)))
 
+-- the verdict that the machine finds is the step's
 pub found-judged : (Stands : ℕ → List (List ℕ) → PlainState → Type 0) (o : Trial) (v : Voted) → StepLaws Stands → Kept Stands o v.steps v
     → found o (prepared o v) ≡ judged o v.steps
 found-judged Stands o v law k = by_logic (wrong_module o.script v.steps)
@@ -70,6 +73,7 @@ found-judged Stands o v law k = by_logic (wrong_module o.script v.steps)
 
 -- ---- a step that is begun
 
+-- a machine that stands before a step begins it as the relation says
 pub begun-at : (Stands : ℕ → List (List ℕ) → PlainState → Type 0) (o : Trial) (n : ℕ) (v : Voted) → StepLaws Stands → v.steps ≡ n → Kept Stands o v.steps v
     → IsBegun o n (prepared o v)
 begun-at Stands o n v law e k =
@@ -87,6 +91,7 @@ begun-at Stands o n v law e k =
 
 -- ---- the start
 
+-- at the start twin 0 is selected
 four_zeros : (pair : ℕ) → slice_index (0 ∷ 0 ∷ 0 ∷ 0 ∷ []) pair < 2
 four_zeros zero = omega arith
 four_zeros (suc zero) = omega arith
@@ -94,9 +99,11 @@ four_zeros (suc (suc zero)) = omega arith
 four_zeros (suc (suc (suc zero))) = omega arith
 four_zeros (suc (suc (suc (suc n)))) = omega arith
 
+-- three equal copies agree
 three-agree : (s : List ℕ) → ModuleAgrees (λ c. false) (thrice s) s
 three-agree s = record { two = refl; first = λ h. refl; second = λ h. refl; third = λ h. refl; sized = record { one = refl; two = refl; three = refl } }
 
+-- the machine stands at the start
 start-kept : (Stands : ℕ → List (List ℕ) → PlainState → Type 0) (o : Trial) → StepLaws Stands → Opens Stands o → Kept Stands o 0 (voted_start o)
 start-kept Stands o law h =
     record {
@@ -123,11 +130,13 @@ start-kept Stands o law h =
 
 -- ---- all steps
 
+-- both verdicts are admissible where the first bad one is none
 or_else-parts : (a b : Verdict) → or_else a b ≡ verdicts.Admissible → (a ≡ verdicts.Admissible) × (b ≡ verdicts.Admissible)
 or_else-parts verdicts.Admissible b h = (refl, h)
 or_else-parts (verdicts.Logic step m) b h = absurd (cc)
 or_else-parts (verdicts.Memory step at) b h = absurd (cc)
 
+-- a step that is begun is judged
 begun : (o : Trial) (n : ℕ) → (plain_in o n).stop ≡ None → cond (is_begun o n) (judged o n) verdicts.Admissible ≡ judged o n
 begun o n e = rw e refl
 
@@ -145,6 +154,7 @@ guarded-goes (Some r) o v e = absurd (cc)
 pub kept-here : (Stands : ℕ → List (List ℕ) → PlainState → Type 0) (o : Trial) (n : ℕ) (v : Voted) → v.steps ≡ n → Kept Stands o n v → Kept Stands o v.steps v
 kept-here Stands o n v e k = subst (λ (m : ℕ). Kept Stands o m v) (sym e) k
 
+-- while no step is bad the guarded machine follows the plain one
 pub follows : (Stands : ℕ → List (List ℕ) → PlainState → Type 0) (o : Trial) → StepLaws Stands → Opens Stands o
     → (n : ℕ) → first_bad_below o n ≡ verdicts.Admissible → Follows Stands o n (guarded o n)
 follows Stands o law opens zero h = Goes refl (start-kept Stands o law opens)
@@ -168,6 +178,7 @@ follows Stands o law opens (suc n) h = after (follows Stands o law opens n parts
 
 -- ---- the first step that is not admissible
 
+-- after an end nothing changes
 kept-ended : (o : Trial) (n : ℕ) (e : Outcome) → (guarded o n).end ≡ Some e → (m : ℕ) → guarded o (m + n) ≡ guarded o n
 kept-ended o n e h zero = ap (λ (m : ℕ). guarded o m) (zero-add n)
 kept-ended o n e h (suc m) =
@@ -177,11 +188,13 @@ kept-ended o n e h (suc m) =
 pub or_else-first : (a b : Verdict) → a ≡ verdicts.Admissible → or_else a b ≡ b
 or_else-first a b e = rw e refl
 
+-- a bad verdict ends the run
 judged-ends : (o : Trial) (v : Voted) (b : Verdict) → (b ≡ verdicts.Admissible → ⊥) → judged_by b o v ≡ ended v (outcomes.Inadmissible b)
 judged-ends o v verdicts.Admissible bad = absurd (bad refl)
 judged-ends o v (verdicts.Logic step m) bad = refl
 judged-ends o v (verdicts.Memory step at) bad = refl
 
+-- the run ends at the first bad step
 pub ends-at : (Stands : ℕ → List (List ℕ) → PlainState → Type 0) (o : Trial) → StepLaws Stands → Opens Stands o
     → (n : ℕ) → first_bad_below o n ≡ verdicts.Admissible → (first_bad_below o (suc n) ≡ verdicts.Admissible → ⊥) → EndsAt o n
 ends-at Stands o law opens n good bad = at_step (follows Stands o law opens n good)
@@ -211,19 +224,23 @@ ends-at Stands o law opens n good bad = at_step (follows Stands o law opens n go
 
 -- ---- both ways
 
+-- a verdict is admissible or it is not
 is_bad : (b : Verdict) → (b ≡ verdicts.Admissible) ⊎ (b ≡ verdicts.Admissible → ⊥)
 is_bad verdicts.Admissible = inl refl
 is_bad (verdicts.Logic step m) = inr (λ e. cc)
 is_bad (verdicts.Memory step at) = inr (λ e. cc)
 
+-- a bad verdict stays the first
 or_else-kept : (a b : Verdict) → (a ≡ verdicts.Admissible → ⊥) → or_else a b ≡ a
 or_else-kept verdicts.Admissible b bad = absurd (bad refl)
 or_else-kept (verdicts.Logic step m) b bad = refl
 or_else-kept (verdicts.Memory step at) b bad = refl
 
+-- the end is the first bad verdict
 pub ends-inadmissible : (o : Trial) (m : ℕ) → EndsAt o m → (guarded o (suc m)).end ≡ Some (outcomes.Inadmissible (first_bad_below o (suc m)))
 ends-inadmissible o m e = ap (λ (v : Voted). v.end) e.ends
 
+-- each guarded run follows the plain one, or has ended at its first bad step
 pub comes : (Stands : ℕ → List (List ℕ) → PlainState → Type 0) (o : Trial) → StepLaws Stands → Opens Stands o → (n : ℕ) → Comes Stands o n
 comes Stands o law opens zero = Good refl (follows Stands o law opens zero refl)
 comes Stands o law opens (suc n) = by_before (comes Stands o law opens n)

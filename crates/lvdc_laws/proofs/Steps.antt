@@ -37,6 +37,7 @@ pub record Judged (o : Trial) (step : ℕ) : Type 0 where
   pub logic : wrong_module o.script step ≡ None
   pub memory : judged_memory o step (read_at o step) ≡ verdicts.Admissible
 
+-- an admissible step names no module, and reads a word that can be recovered
 admissible_by : (o : Trial) (step : ℕ) (m : Option ℕ) → wrong_module o.script step ≡ m → judged_logic o step m ≡ verdicts.Admissible → Judged o step
 admissible_by o step None e h = record { logic = e; memory = h }
 admissible_by o step (Some m) e h = absurd (cc)
@@ -44,6 +45,7 @@ admissible_by o step (Some m) e h = absurd (cc)
 pub admissible : (o : Trial) (step : ℕ) → judged o step ≡ verdicts.Admissible → Judged o step
 admissible o step h = admissible_by o step (wrong_module o.script step) refl h
 
+-- the word that is read can be recovered
 recoverable_by : (b : Bool) (step : ℕ) (at : Spot) → cond b verdicts.Admissible (verdicts.Memory step at) ≡ verdicts.Admissible → b ≡ true
 recoverable_by true step at h = refl
 recoverable_by false step at h = absurd (cc)
@@ -74,6 +76,7 @@ record Latched (o : Trial) (v : Voted) (states : List (List ℕ)) (memory_word p
   agree : Agree (is_wrong o.script v.steps) 1 (latches o v memory_word port_word).copies (after_phase states memory_word port_word)
   ended : (latches o v memory_word port_word).end ≡ stop_of ((bus_of (after_phase states memory_word port_word) 0 0).exchange.stop % 4) v.steps
 
+-- all copies latch: those that are right have the next state
 latched : {Stands : ℕ → List (List ℕ) → PlainState → Type 0} → StepLaws Stands → (o : Trial) (v : Voted) (states : List (List ℕ)) (wrong : ℕ → ℕ → Bool) (memory_word port_word : ℕ)
     → Fits rows states → wrong_module o.script v.steps ≡ None → Agree wrong 1 v.copies states → Latched o v states memory_word port_word
 latched law o v states wrong memory_word port_word fits logic g =
@@ -97,6 +100,7 @@ pub record AfterRead (o : Trial) (v : Voted) (states : List (List ℕ)) (r : Opt
   pub log : next.log ≡ v.log
   pub devices : next.devices ≡ v.devices
 
+-- a step without an exchange leads on
 after-none : {Stands : ℕ → List (List ℕ) → PlainState → Type 0} → StepLaws Stands → (o : Trial) (v : Voted) (states : List (List ℕ)) → Ready o v states
     → read_at o v.steps ≡ None → store_at o v.steps ≡ None → AfterRead o v states None (latches o v 0 0)
 after-none law o v states h reading_none storing =
@@ -112,10 +116,12 @@ after-none law o v states h reading_none storing =
       devices = refl;
     }
 
+-- a read notes one repair at most
 few_repairs : (repairs : List Repair) (r : Option ℕ) (step : ℕ) (at : Spot) (switched : Bool) → length (repairs ++ repair_by r step at switched) ≤ length repairs + 1
 few_repairs repairs None step at switched = simp length-append (omega arith)
 few_repairs repairs (Some twin) step at switched = simp length-append (omega arith)
 
+-- a step with a read leads on
 after-reading : {Stands : ℕ → List (List ℕ) → PlainState → Type 0} → StepLaws Stands → (o : Trial) (v : Voted) (states : List (List ℕ)) (at : Spot) → Ready o v states
     → read_at o v.steps ≡ Some at → store_at o v.steps ≡ None
     → AfterRead o v states (Some at) (reading (read_answer o v.steps v.twins at) o v at)
@@ -151,6 +157,7 @@ after-reading law o v states at h reads_it storing =
     Ended : ℕ → Type 0
     Ended w = (latches o between it.out.word 0).end ≡ stop_of ((bus_of (after_phase states w 0) 0 0).exchange.stop % 4) v.steps
 
+-- so in phase A, in phase B and in phase C
 pub after-fetch : {Stands : ℕ → List (List ℕ) → PlainState → Type 0} → StepLaws Stands → (o : Trial) (v : Voted) (states : List (List ℕ)) (r : Option Spot) → Ready o v states
     → read_at o v.steps ≡ r → store_at o v.steps ≡ None → AfterRead o v states r (exchanges o v (read_wish Fetch r))
 after-fetch law o v states None h reads_it storing = after-none law o v states h reads_it storing

@@ -41,6 +41,7 @@ abbrev after_stores : Option Store → memory.Memory → memory.Memory
 after_stores None m = m
 after_stores (Some s) m = memory.stored m s.at s.word
 
+-- memory changes by stores alone
 wish-memory : (w : Wanted) (m : memory.Memory) → memory_after w m ≡ after_stores (store_of_wish w) m
 wish-memory (wanted.Store at word) m = refl
 wish-memory wanted.Nothing m = refl
@@ -49,6 +50,7 @@ wish-memory (wanted.Operand at) m = refl
 wish-memory (wanted.PortRead port) m = refl
 wish-memory (wanted.PortWrite port word) m = refl
 
+-- one time changes it by the store that it makes
 time-memory : PortLaw → (stop : Option Stop) (o : Opening) (w : World) → w.plain.stop ≡ stop
     → (time_by stop o.unplugs w).plain.memory ≡ after_stores (store_by stop w.plain.hold w.plain) w.plain.memory
 time-memory law (Some s) o w e = refl
@@ -115,6 +117,7 @@ recoverable law holders o n at bank =
     let w = memory.word_at (plain_in t n).memory at in
     holders o.banks at w _ (λ twin. code_of w) bank (λ twin two held. nothing-stuck _ ∙ cell-plain law o twin at held n) ∙ recovered-code o.banks at w
 
+-- without events no step is bad
 nothing-said : PortLaw → HoldersLaw → (o : Opening) (n : ℕ) (r : Option Spot) → HasBanks o.banks r → judged_memory (without_events o) n r ≡ verdicts.Admissible
 nothing-said law holders o n None bank = refl
 nothing-said law holders o n (Some at) bank = rw (recoverable law holders o n at bank) refl

@@ -31,6 +31,7 @@ use Rattle.lvdc_laws.proofs.Run.{found-judged, begun-at, kept-here, follows, com
 
 -- ---- an opening of words
 
+-- an image of words makes a memory of words
 loaded-words : (image : List Placed) (m : memory.Memory) → All (λ placed. placed.word < 2 ^ 26) image → ((at : Spot) → memory.word_at m at < 2 ^ 26)
     → (at : Spot) → memory.word_at (memory.loaded image m) at < 2 ^ 26
 loaded-words [] m fit h at = h at
@@ -47,6 +48,7 @@ StartLaw Stands =
     (start : HopConstant) (banks : ℕ) (words : memory.Memory) → IsHopConstant start → ((at : Spot) → memory.word_at words at < 2 ^ 26)
     → Stands 0 (start_latches start) (started banks start words)
 
+-- a run opens where the relation of phases begins
 pub opens : {Stands : ℕ → List (List ℕ) → PlainState → Type 0} → StartLaw Stands → (o : Trial) → IsOpening o.opening → Opens Stands o
 opens law o ok =
     record {
@@ -57,6 +59,7 @@ opens law o ok =
 
 -- ---- the state after whole times
 
+-- after whole times the guarded machine shows the plain one
 matches-times : {Stands : ℕ → List (List ℕ) → PlainState → Type 0} → StepLaws Stands → (o : Trial) (n k : ℕ) (v : Voted) → n % 3 ≡ 0 → n / 3 ≡ k → Matches o n v
     → (states : List (List ℕ)) → ShowsPlain o n v states → ShowsTimes o k v
 matches-times law o n k v whole time m states shows =
@@ -81,12 +84,14 @@ times-by law o k v (Halts le d) =
       devices = early.devices ∙ sym (ap (λ (w : World). w.devices) same);
     }
 
+-- so while no step is bad
 pub guarded-times : (Stands : ℕ → List (List ℕ) → PlainState → Type 0) → StepLaws Stands → (o : Trial) → Opens Stands o
     → (k : ℕ) → first_bad o k ≡ verdicts.Admissible → ShowsTimes o k (guarded o (3 * k))
 guarded-times Stands law o opens k h = times-by law o k (guarded o (3 * k)) (follows Stands o law opens (3 * k) h)
 
 -- ---- the end after whole times
 
+-- its end is the plain machine's stop
 ends-by : {Stands : ℕ → List (List ℕ) → PlainState → Type 0} → StepLaws Stands → (o : Trial) (k : ℕ) (v : Voted) → Follows Stands o (3 * k) v
     → (v.end ≡ stop_end (plain_at o k).stop (plain_at o k).times) × (v.steps ≡ 3 * (plain_at o k).times)
 ends-by law o k v (Goes e s) =
@@ -112,6 +117,7 @@ guarded-ends Stands law o opens k h = ends-by law o k (guarded o (3 * k)) (follo
 
 -- ---- the verdict
 
+-- a bad step is the end of the run
 verdict-by : {Stands : ℕ → List (List ℕ) → PlainState → Type 0} (o : Trial) (n : ℕ) → Comes Stands o n → (first_bad_below o n ≡ verdicts.Admissible → ⊥)
     → (guarded o n).end ≡ Some (outcomes.Inadmissible (first_bad_below o n))
 verdict-by o n (Good h f) bad = absurd (bad h)
@@ -138,6 +144,7 @@ guarded-verdict_only Stands law o opens n b is = verdict-only o n b (comes Stand
 
 -- ---- the run that judges by itself
 
+-- the machine that judges alone makes the guarded step: after an end, and before it where it finds the verdict
 alone-ended : (end : Option Outcome) (o : Trial) (v : Voted) (e : Outcome) → end ≡ Some e → alone_by end o v ≡ guarded_by end o v
 alone-ended None o v e h = absurd (cc)
 alone-ended (Some r) o v e h = refl
@@ -146,6 +153,7 @@ alone-goes : (end : Option Outcome) (o : Trial) (v : Voted) → end ≡ None →
 alone-goes None o v h e = ap (λ (b : Verdict). judged_by b o (prepared o v)) e
 alone-goes (Some r) o v h e = absurd (cc)
 
+-- so at each step of a run
 alone-step : (Stands : ℕ → List (List ℕ) → PlainState → Type 0) → StepLaws Stands → (o : Trial) (n : ℕ) → Comes Stands o n
     → alone_by (guarded o n).end o (guarded o n) ≡ guarded o (suc n)
 alone-step Stands law o n (Good h (Goes e k)) =
@@ -161,6 +169,7 @@ alone-guarded Stands law o opens (suc n) =
 
 -- ---- a step that is begun
 
+-- a step that is begun stands as the plain run is
 begun-by : (Stands : ℕ → List (List ℕ) → PlainState → Type 0) → StepLaws Stands → (o : Trial) (n : ℕ) (v : Voted) → v.end ≡ None → Follows Stands o n v → IsBegun o n (prepared o v)
 begun-by Stands law o n v going (Goes e k) = begun-at Stands o n v law e (kept-here Stands o n v e k)
 begun-by Stands law o n v going (Halts le d) = absurd (let both : Some (outcomes.Stopped d.last d.why) ≡ None = sym d.ended ∙ going in cc)

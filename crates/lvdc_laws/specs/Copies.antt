@@ -1,12 +1,12 @@
 -- The copies that are not wrong equal one state.
-use Rattle.std.specs.Prelude.{◌≡◌, ℕ, zero, suc, ◌+◌, Bool, false, ◌&&◌, ◌||◌, List, [], ◌∷◌, length}
+use Rattle.std.specs.Prelude.{◌≡◌, ℕ, zero, suc, ◌+◌, Bool, false, List, [], ◌∷◌, length}
 use Rattle.lvdc_vote.specs.Copies.{Copies, IsSized}
-use Rattle.lvdc_fault.specs.Script.{is_wrong}
+use Rattle.lvdc_fault.specs.Script.{is_wrong, are_two}
 use Rattle.lvdc_fault.specs.declared.event.Event.{Event}
 
 -- of the three copies of a module those that are not wrong, at least two, are the state; all three have its length
 pub record ModuleAgrees (wrong : ℕ → Bool) (t : Copies) (state : List ℕ) : Type 0 where
-  pub two : ((wrong 1 && wrong 2) || (wrong 1 && wrong 3) || (wrong 2 && wrong 3)) ≡ false
+  pub two : are_two wrong ≡ false
   pub first : wrong 1 ≡ false → t.one ≡ state
   pub second : wrong 2 ≡ false → t.two ≡ state
   pub third : wrong 3 ≡ false → t.three ≡ state

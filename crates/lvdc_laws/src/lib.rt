@@ -24,7 +24,8 @@ ghost use Rattle.lvdc_laws.specs.Ends.{IsOpening, Opens, ShowsTimes, stop_end, I
 /// The headline's law: as long as no step was inadmissible, the guarded machine of 21 copies shows after whole times the
 /// registers, the words, the log and the devices of the plain run, a stop's own time included.
 pub fn guarded_times()
-    ensures { (o : Trial) → IsOpening o.opening → (times : ℕ) → first_bad o times ≡ Admissible → ShowsTimes o times (guarded o (3 * times)) }
+    ensures { (o : Trial) → IsOpening o.opening → (times : ℕ) → first_bad o times ≡ Admissible
+        → ShowsTimes o times (guarded o (3 * times)) }
 {
     laws_of_a_step();
 }
@@ -34,7 +35,8 @@ pub fn guarded_times()
 pub fn guarded_verdict()
     ensures ends { (o : Trial) → IsOpening o.opening → (times : ℕ) → first_bad o times ≢ Admissible
         → (guarded o (3 * times)).end ≡ Some (Inadmissible (first_bad o times)) }
-    ensures only { (o : Trial) → IsOpening o.opening → (n : ℕ) (verdict : Verdict) → (guarded o n).end ≡ Some (Inadmissible verdict)
+    ensures only { (o : Trial) → IsOpening o.opening → (n : ℕ) (verdict : Verdict)
+        → (guarded o n).end ≡ Some (Inadmissible verdict)
         → (verdict ≡ first_bad_below o n) × (first_bad_below o n ≢ Admissible) }
 {
     laws_of_a_step();
@@ -53,7 +55,8 @@ pub fn guarded_ends()
 
 /// Under a script without events no step is inadmissible, so the guarded run is the plain run throughout.
 pub fn no_faults_no_verdict()
-    ensures { (o : Trial) → IsOpening o.opening → o.script ≡ [] → (n : ℕ) → first_bad_below o n ≡ Admissible }
+    ensures { (o : Trial) → IsOpening o.opening → o.script ≡ [] → (n : ℕ)
+        → first_bad_below o n ≡ Admissible }
 {
     laws_of_a_step();
 }
@@ -77,7 +80,8 @@ pub fn judges_alone()
 /// A step that is begun is the plain run's so far, and the exchange that the votes wish for is its exchange: also where a
 /// device then fails.
 pub fn step_begun()
-    ensures { (o : Trial) → IsOpening o.opening → (n : ℕ) → first_bad_below o n ≡ Admissible → (guarded o n).end ≡ None
+    ensures { (o : Trial) → IsOpening o.opening → (n : ℕ) → first_bad_below o n ≡ Admissible
+        → (guarded o n).end ≡ None
         → IsBegun o n (prepared o (guarded o n)) }
 {
     laws_of_a_step();
@@ -86,15 +90,21 @@ pub fn step_begun()
 /// What the machine tells of its words is so by definition: after whole steps, at the first inadmissible one, and at any other
 /// end that comes where a step was begun; and the intended words are the plain run's.
 pub fn words_known()
-    ensures made { (o : Trial) → IsOpening o.opening → (n : ℕ) → first_bad_below o n ≡ Admissible → (at : Spot) → HasBank o.opening.banks at
+    ensures made { (o : Trial) → IsOpening o.opening → (n : ℕ) → first_bad_below o n ≡ Admissible
+        → (at : Spot) → HasBank o.opening.banks at
         → is_known o (guarded o n) at ≡ is_recoverable_after o (guarded o n).steps at }
-    ensures bad { (o : Trial) → IsOpening o.opening → (n : ℕ) → first_bad_below o n ≡ Admissible → first_bad_below o (suc n) ≢ Admissible
-        → (at : Spot) → HasBank o.opening.banks at → is_known o (guarded o (suc n)) at ≡ is_recoverable o n at }
-    ensures begun { (o : Trial) (n : ℕ) (v : Voted) (e : Outcome) (at : Spot) → HasBank o.opening.banks at → IsBegun o n v
+    ensures bad { (o : Trial) → IsOpening o.opening → (n : ℕ) → first_bad_below o n ≡ Admissible
+        → first_bad_below o (suc n) ≢ Admissible
+        → (at : Spot) → HasBank o.opening.banks at
+        → is_known o (guarded o (suc n)) at ≡ is_recoverable o n at }
+    ensures begun { (o : Trial) (n : ℕ) (v : Voted) (e : Outcome) (at : Spot)
+        → HasBank o.opening.banks at → IsBegun o n v
         → last_begun (Some e) n ≡ Some n → is_known o (ended v e) at ≡ is_recoverable o n at }
-    ensures intended { (o : Trial) → IsOpening o.opening → (n : ℕ) → first_bad_below o n ≡ Admissible
+    ensures intended { (o : Trial) → IsOpening o.opening → (n : ℕ)
+        → first_bad_below o n ≡ Admissible
         → (guarded o n).intended ≡ (plain_in o n).memory }
-    ensures intended_bad { (o : Trial) → IsOpening o.opening → (n : ℕ) → first_bad_below o n ≡ Admissible → first_bad_below o (suc n) ≢ Admissible
+    ensures intended_bad { (o : Trial) → IsOpening o.opening → (n : ℕ)
+        → first_bad_below o n ≡ Admissible → first_bad_below o (suc n) ≢ Admissible
         → (guarded o (suc n)).intended ≡ (plain_in o n).memory }
 {
     laws_of_a_step();

@@ -43,6 +43,7 @@ record Still (t : ℕ) (b : Bus) (p : PlainState) : Type 0 where
   pq : pq_by (doing b) b (instruction b) ≡ p.pq
   work : IsWork p.pending (suc t) (working_by (doing b) b (instruction b))
 
+-- where nothing is executed the registers stay, and the unit works on
 still : UnitIsRight → (t : ℕ) (b : Bus) (p : PlainState) → t < 2 → IsPhase t b p → Keeps (doing b) b → Still t b p
 still right t b p small s k =
     let w = goes_on right p.pending t b small s.work in
@@ -62,6 +63,7 @@ syllable_small h w small =
 
 -- ---- the first phase, with the latches that depend on what is done
 
+-- phase A: the instruction fetched is in INSTR, and phase B is next
 first : UnitIsRight → (b : Bus) (p : PlainState) (memory port : ℕ) → IsPhase 0 b p → Keeps (doing b) b
     → request_by (doing b) (here b) (instruction b) ≡ 0
     → (p.hold ≡ 0 → (decoder b).instr ≡ fetched_syllable p) → (decoder b).instr < 2 ^ 13
@@ -87,6 +89,7 @@ first right b p memory port s k request fetched syllable =
       syllable = syllable;
     }
 
+-- the same, by the hold: while one is left nothing is fetched
 pub first_by : UnitIsRight → (h : ℕ) (b : Bus) (p : PlainState) (memory port : ℕ) → p.hold ≡ h → IsPhase 0 b p → CarriesWords b
     → (p.hold ≡ 0 → b.memory ≡ word_at p.memory (fetch_of p.banks p.place)) → IsPhase 1 (after b memory port) p
 first_by right zero b p memory port e s words answered =
@@ -111,10 +114,12 @@ IsFound (Memory at) b p = b.memory ≡ word_at p.memory at
 IsFound (Saver at) b p = b.memory ≡ word_at p.memory at
 IsFound Pq b p = Unit {0}
 
+-- the word found at a place is what the plain machine reads there
 found_at : (address : ℕ) (b : Bus) (p : PlainState) → b.multiplier.pq ≡ p.pq → IsFound (operand_place p address) b p
     → operand_from (operand_kind address) b ≡ word_of_place p (operand_place p address)
 found_at address b p pq found = search rules
 
+-- phase B: the operand is taken and the exchange asked for, and phase C is next
 second : UnitIsRight → (b : Bus) (p : PlainState) (memory port : ℕ) → IsPhase 1 b p → Keeps (doing b) b
     → request_by (doing b) (here b) (instruction b) ≡ request_due 2 p.hold p
     → (p.hold ≡ 0 → takes_operand (fetched_instr p).op ≡ true
@@ -142,6 +147,7 @@ second right b p memory port s k request operand decoded =
       syllable = rw decoded s.syllable;
     }
 
+-- the same, by the hold: while one is left no operand is taken
 pub second_by : UnitIsRight → (h : ℕ) (b : Bus) (p : PlainState) (memory port : ℕ) → p.hold ≡ h → IsPhase 1 b p
     → (p.hold ≡ 0 → takes_operand (fetched_instr p).op ≡ true → IsFound (operand_place p (fetched_instr p).address) b p)
     → IsPhase 2 (after b memory port) p

@@ -41,37 +41,46 @@ pub record IsRead (b : Bus) (p : PlainState) : Type 0 where
 abbrev pub place_after : PlainState → LocatorState
 place_after q = record { place = place_fields q.place; saver = q.saver }
 
+-- by operation: PLACE and SAVER after it are those of the plain machine
 pub located-is : (op : Op) (b : Bus) (p : PlainState) (address m : ℕ) → IsRead b p → IsGiven op address b m
     → located op b p.place address ≡ place_after (effect op p address m)
 located-is op b p address m r g = search rules
 
+-- DATA has the data place of the plain machine
 pub selected-is : (op : Op) (b : Bus) (p : PlainState) (address m : ℕ) → IsRead b p → IsGiven op address b m
     → (selected op b p.place address).hold_place ≡ data_fields (effect op p address m).place
 selected-is op b p address m r g = search rules
 
+-- A is that of the effect, before a landing
 pub accumulated-is : (op : Op) (b : Bus) (p : PlainState) (address m : ℕ) → IsRead b p → IsGiven op address b m
     → accumulated op b address ≡ (effect op p address m).a
 accumulated-is op b p address m r g = search rules
 
+-- an operation begins the hold that its effect has
 pub held_by-is : (op : Op) (p : PlainState) (address m : ℕ) → p.hold ≡ 0 → held_by op ≡ (effect op p address m).hold
 held_by-is op p address m e = search rules
 
+-- STOP numbers the stop that the effect has
 pub stopped-is : (op : Op) (p : PlainState) (address m stop : ℕ) → stop ≡ stop_number p.stop
     → stopped op stop ≡ stop_number (effect op p address m).stop
 stopped-is op p address m stop e = search rules
 
+-- PQ after an operation, where the landing left it so
 pub pq_after-is : (op : Op) (b : Bus) (p : PlainState) (address pq : ℕ) → IsRead b p → unit.unit_pq b ≡ pq
     → unit.pq_after op b address ≡ pq_after op p address pq
 pq_after-is op b p address pq r e = search rules
 
+-- what the unit works on is what is pending
 pub working_after-is : (op : Op) (b : Bus) (p : PlainState) (address m : ℕ) (r : Option Pending) → IsRead b p → IsGiven op address b m
     → b.accumulator.a < 2 ^ 26 → b.accumulator.operand < 2 ^ 26
     → IsWork r 0 (unit.unit_working b) → IsWork (pending_after op p address m r) 0 (unit.working_after op b address)
 working_after-is op b p address m r s g a_word m_word w = search rules
 
+-- the place after an effect is a HOP constant
 pub in_range-effect : (op : Op) (p : PlainState) (address m : ℕ) → IsHopConstant p.place → IsHopConstant (effect op p address m).place
 in_range-effect op p address m ok = search rules
 
+-- a product on its way to A lands as the hold of its operation ends
 pub held_after : (op : Op) (p : PlainState) (address m : ℕ) (r : Option Pending) → ((n : ℕ) → IsHeld r n)
     → IsHeld (pending_after op p address m r) (effect op p address m).hold
 held_after op p address m r h = search rules

@@ -46,10 +46,12 @@ gone_by : (last : Bool) (r : Pending) (n : ℕ) → (r.left == 1) ≡ last → (
 gone_by true r n e held some = rw e tt
 gone_by false r n e held some = rw e (λ t. let z = held t in absurd (omega (arith, z, some)))
 
+-- what is pending at hold 0 holds nothing one time later
 gone : (r : Option Pending) (n t : ℕ) (u : Latches) → IsHeld r 0 → IsWork r t u → IsHeld (later r) n
 gone None n t u held w = tt
 gone (Some r) n t u held w = gone_by (r.left == 1) r n refl held w.some
 
+-- phase C of an instruction: the bus stands where the plain machine is after making it
 pub executes : UnitIsRight → (b : Bus) (p : PlainState) (memory port m : ℕ) → p.hold ≡ 0 → IsPhase 2 b p → CarriesWords b
     → IsGiven (fetched_instr p).op (fetched_instr p).address b m → IsPhase 0 (after b memory port) (makes (fetched_instr p) p m)
 executes right b p memory port m z s words g =
@@ -88,19 +90,23 @@ executes right b p memory port m z s words g =
 
 -- ---- nothing is executed
 
+-- one time later the product that is held for has one time less left
 held_less_by : (last : Bool) (r : Pending) (n : ℕ) → (r.left == 1) ≡ last → (r.to_a ≡ true → r.left ≡ suc n) → IsHeld (later (Some r)) n
 held_less_by true r n e held = rw e tt
 held_less_by false r n e held = rw e (λ t. let z = held t in omega (arith, z))
 
+-- the same, whatever is pending
 held_less : (r : Option Pending) (n : ℕ) → IsHeld r (suc n) → IsHeld (later r) n
 held_less None n held = tt
 held_less (Some r) n held = held_less_by (r.left == 1) r n refl held
 
+-- HOLD falls by one in phase C
 hold_less : (n : ℕ) (b : Bus) (op : Op) → hold b ≡ suc n → hold_after C b op ≡ n
 hold_less n b op e =
     let some : hold b ≢ 0 = omega (arith, e) in
     cond-false (hold b == 0) _ _ (ne_eqb _ _ some) ∙ omega (arith, e)
 
+-- phase C of a hold: the bus stands where the plain machine has waited
 pub waited : UnitIsRight → (b : Bus) (p : PlainState) (memory port n : ℕ) → p.hold ≡ suc n → IsPhase 2 b p
     → IsPhase 0 (after b memory port) (waits n p)
 waited right b p memory port n e s =
@@ -130,11 +136,13 @@ waited right b p memory port n e s =
 
 -- ---- the word that an instruction takes is the operand word, or the port's
 
+-- the word that PIO takes is what the port answers
 port_taken : (op : Op) (address : ℕ) (p : PlainState) (devices : List Device) → reads_port op address ≡ true
     → exchange_word (Read (address % 2 ^ 8)) (device_time p) devices ≡ word_taken (record { op = op; address = address }) p devices
 port_taken Pio address p devices t = rw t
 port_taken _ address p devices t = absurd (false≢true t)
 
+-- what is on the bus is what the plain instruction takes
 given : (b : Bus) (p : PlainState) (devices : List Device) → p.hold ≡ 0 → IsPhase 2 b p
     → (reads_port (fetched_instr p).op (fetched_instr p).address ≡ true
     → b.port ≡ exchange_word (Read ((fetched_instr p).address % 2 ^ 8)) (device_time p) devices)
@@ -147,6 +155,7 @@ given b p devices z s answered =
 
 -- ---- by hold
 
+-- phase C, by the hold that is left
 third_from : UnitIsRight → (h : ℕ) (b : Bus) (p : PlainState) (devices : List Device) (memory port : ℕ) → p.hold ≡ h → IsPhase 2 b p → CarriesWords b
     → (p.hold ≡ 0 → reads_port (fetched_instr p).op (fetched_instr p).address ≡ true
     → b.port ≡ exchange_word (Read ((fetched_instr p).address % 2 ^ 8)) (device_time p) devices)
@@ -155,6 +164,7 @@ third_from right zero b p devices memory port z s words answered =
     executes right b p memory port (word_taken (fetched_instr p) p devices) z s words (given b p devices z s (answered z))
 third_from right (suc n) b p devices memory port e s words answered = waited right b p memory port n e s
 
+-- phase C with the words that its exchange brings
 pub third_by : UnitIsRight → (b : Bus) (p : PlainState) (devices : List Device) (memory port : ℕ) → p.stop ≡ None → IsPhase 2 b p → CarriesWords b
     → (p.hold ≡ 0 → reads_port (fetched_instr p).op (fetched_instr p).address ≡ true
     → b.port ≡ exchange_word (Read ((fetched_instr p).address % 2 ^ 8)) (device_time p) devices)

@@ -29,6 +29,7 @@ use Rattle.lvdc_phases.proofs.Wishes.{wishes}
 pub answers : (x y : Wanted) (b : Bus) (p : PlainState) (devices : List Device) → x ≡ y → IsAnswered x b p devices → IsAnswered y b p devices
 answers x y b p devices e = subst (λ (w : Wanted). IsAnswered w b p devices) e
 
+-- phase A of the law: with the word that the fetch brings
 pub first_law : UnitIsRight → FirstLaw
 first_law right b p devices memory port stop s words answered =
     first_by right p.hold b p memory port refl s words
@@ -41,6 +42,7 @@ found (Memory at) b p devices h = h
 found (Saver at) b p devices h = h
 found Pq b p devices h = tt
 
+-- phase B of the law: with the word that the operand brings
 pub second_law : UnitIsRight → SecondLaw
 second_law right b p devices memory port stop s answered =
     second_by right p.hold b p memory port refl s
@@ -55,6 +57,7 @@ read_there : (op : Op) (b : Bus) (p : PlainState) (devices : List Device) (addre
 read_there Pio b p devices address t h = rw t at h
 read_there _ b p devices address t h = absurd (false≢true t)
 
+-- phase C of the law: the time is made
 pub third_law : UnitIsRight → ThirdLaw
 third_law right b p devices memory port stop s words answered =
     third_by right b p devices memory port stop s words

@@ -24,6 +24,7 @@ pub record Keeps (d : Doing) (b : Bus) : Type 0 where
   pub working : working_by d b (instruction b) ≡ unit_working b
   pub stop : stop_by d b (instruction b) ≡ b.exchange.stop
 
+-- what is done changes no register of the plain machine, unless an instruction is executed
 keeps_by : (d : Doing) (b : Bus) → IsQuiet d → Keeps d b
 keeps_by Executing b q = absurd q
 keeps_by Fetching b q = record { locator = refl; selector = refl; a = refl; pq = refl; working = refl; stop = refl }

@@ -30,6 +30,7 @@ here-is b h ok place data_place =
       dupdn = (s i).dupdn;
     }
 
+-- what is done in phase A, B and C where no hold is left
 pub fetches : (b : Bus) → b.timer.phase ≡ 0 → b.timer.hold ≡ 0 → doing b ≡ Fetching
 fetches b p h = rw (p, h)
 
@@ -43,11 +44,13 @@ makes b p h = rw (p, h)
 pub held : (b : Bus) (n : ℕ) → b.timer.hold ≡ suc n → n < 4 → hold b ≡ suc n
 held b n h few = omega (arith, h)
 
+-- while a hold is left the machine waits
 pub waits : (b : Bus) (n : ℕ) → b.timer.hold ≡ suc n → n < 4 → doing b ≡ Waiting
 waits b n h few =
     let some : hold b ≢ 0 = omega (arith, held b n h few) in
     cond-false (hold b == 0) (doing_in (phase b)) Waiting (ne_eqb _ _ some)
 
+-- INSTR of thirteen bits is decoded whole
 pub instruction-is : (b : Bus) (s : ℕ) → b.decoder.instr ≡ s → b.decoder.instr < 2 ^ 13 → instruction b ≡ instr s
 instruction-is b s e small =
     let same : b.decoder.instr % 2 ^ 13 ≡ s = omega (arith, e) in

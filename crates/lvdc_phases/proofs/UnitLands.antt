@@ -70,6 +70,7 @@ pub record Lands (r : Option Pending) (b : Bus) : Type 0 where
   pub a : (a : ℕ) → a_landed (kind (working b)) (landing b) a ≡ landed_a r a
   pub work : IsWork (later r) 0 (unit_working b)
 
+-- a product lands in A where it is that of an MPH
 a_lands : (k : Issue) (result a : ℕ) → a_landed (kind_of k) (Some result) a ≡ (if is_high k then result else a)
 a_lands Multiply result a = refl
 a_lands MultiplyHigh result a = refl
@@ -81,9 +82,11 @@ a_stays kinds.Multiply a = refl
 a_stays kinds.MultiplyHigh a = refl
 a_stays kinds.Divide a = refl
 
+-- where nothing is pending the unit is idle
 lands_none : (b : Bus) → (working b).control ≡ 0 → Lands None b
 lands_none b e = record { pq = rw e; a = λ a. rw e; work = rw e }
 
+-- where one time is left the unit lands the result in phase C
 lands_one : UnitIsRight → (r : Pending) (b : Bus) → IsWorkOn r 2 (working b) → (r.left == 1) ≡ true → Lands (Some r) b
 lands_one right r b w one =
     let is_one : r.left ≡ 1 = eqb-true _ _ one in
@@ -98,6 +101,7 @@ lands_one right r b w one =
       work = rw one (ap (λ (l : Option ℕ). (worked l (working b)).control) result);
     }
 
+-- where more are left it works on
 lands_more : UnitIsRight → (r : Pending) (b : Bus) → IsWorkOn r 2 (working b) → (r.left == 1) ≡ false → Lands (Some r) b
 lands_more right r b w more =
     let not_one : r.left ≢ 1 = eqb-false _ _ more in
@@ -108,10 +112,12 @@ lands_more right r b w more =
       work = rw more (goes_on_by r 2 b (record r { left = r.left - 1 }) 0 w nothing refl refl (omega (arith, w.some, not_one)) (omega (arith, w.some)));
     }
 
+-- both, by whether one time is left
 lands_by : UnitIsRight → (r : Pending) (b : Bus) → IsWorkOn r 2 (working b) → (last : Bool) → (r.left == 1) ≡ last → Lands (Some r) b
 lands_by right r b w true e = lands_one right r b w e
 lands_by right r b w false e = lands_more right r b w e
 
+-- what the unit does in phase C is what becomes of the pending result
 pub lands : UnitIsRight → (r : Option Pending) (b : Bus) → IsWork r 2 (working b) → Lands r b
 lands right None b w = lands_none b w
 lands right (Some r) b w = lands_by right r b w (r.left == 1) refl

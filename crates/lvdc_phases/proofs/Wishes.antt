@@ -31,6 +31,7 @@ use Rattle.lvdc_phases.proofs.Seen.{here-is, instruction-is, held}
 
 -- ---- a request is read back from its word
 
+-- a destination is read back from its bits, whatever the kind beside them
 destination_again : (k : ℕ) (t : Destination) → k < 8 → IsDestination t → destination_in (destination_bits t + k) ≡ t
 destination_again k t small ok =
     let dmod : (destination_in (destination_bits t + k)).dmod ≡ t.dmod = omega (arith, ok.dmod, ok.sector, ok.loc) in
@@ -38,6 +39,7 @@ destination_again k t small ok =
     let loc : (destination_in (destination_bits t + k)).loc ≡ t.loc = omega (arith, ok.dmod, ok.sector, ok.loc) in
     λ i. record { dmod = dmod i; sector = sector i; loc = loc i }
 
+-- a request is read back from its word
 request_again : (r : Request) → IsRequest r → request_of (word_of_request r) ≡ r
 request_again requests.Nothing ok = refl
 request_again (requests.StoreA t) ok =
@@ -65,6 +67,7 @@ destination_fits h address ok =
       loc = omega arith;
     }
 
+-- what an operation requests has its numbers in their ranges
 store_fits : (k : OperandKind) (h : HopConstant) (address : ℕ) → IsHopConstant h → IsRequest (store_request k h address)
 store_fits kinds.Memory h address ok = destination_fits h address ok
 store_fits kinds.Pq h address ok = tt
@@ -83,11 +86,13 @@ wish_made op b p address a saver = search rules
 
 -- ---- the operand
 
+-- the wish for an operand is a read where it stands in memory
 wish_taken : (place : Place) → operand_wish place ≡ read_wish Operand (spot_of place)
 wish_taken (places.Memory at) = refl
 wish_taken places.Pq = refl
 wish_taken (places.Saver at) = refl
 
+-- the same, by whether the operation takes an operand
 wish_operand : (takes : Bool) (place : Place)
     → (if takes then operand_wish place else Nothing) ≡ read_wish Operand (if takes then spot_of place else None)
 wish_operand true place = wish_taken place
@@ -108,6 +113,7 @@ goes_for b p x z h =
     let none : hold b ≡ 0 = omega (arith, h, z) in
     cond-true (hold b == 0) x Nothing (eq-eqb _ _ none)
 
+-- phase A wishes for the fetch, B for the operand, C for what was requested
 wish_first : (h : ℕ) (b : Bus) (p : PlainState) → p.hold ≡ h → p.stop ≡ None → IsPhase 0 b p → wish b p.banks ≡ exchange_in 0 p
 wish_first zero b p z stop s =
     (λ i. wish_in (phase_of (s.phase_is i)) b p.banks)
@@ -148,6 +154,7 @@ wish_third (suc n) b p e stop s =
     ∙ (λ i. request_wish (request_of (request_due 2 (e i) p)) b p.banks)
     ∙ (λ i. made (sym stop i) (sym e i) p)
 
+-- in each phase the wish is the exchange of the plain machine
 pub wishes : (n : ℕ) (b : Bus) (p : PlainState) → n < 3 → p.stop ≡ None → IsPhase n b p → wish b p.banks ≡ exchange_in n p
 wishes zero b p small stop s = wish_first p.hold b p refl stop s
 wishes (suc zero) b p small stop s = wish_second p.hold b p refl stop s

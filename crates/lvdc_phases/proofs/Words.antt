@@ -31,6 +31,7 @@ use Rattle.lvdc_phases.specs.Exchanges.{PortsFit}
 use Rattle.lvdc_phases.specs.Fits.{PendingFits, PlainFits}
 use Rattle.lvdc_phases.proofs.ByOperation.{in_range-effect}
 
+-- what comes of words are words: results, shifts, places
 word_of-fits : (z : ℤ) → word_of z < 2 ^ 26
 word_of-fits (pos n) = omega arith
 word_of-fits (negsuc n) = omega arith
@@ -46,6 +47,7 @@ after-fits h ok = word_of_hop-fits (after h) (record { imod = ok.imod; isec = ok
 
 -- ---- what an instruction leaves
 
+-- an effect leaves words, and a stop that an instruction causes
 effect-a : (op : Op) (p : PlainState) (address m : ℕ) → m < 2 ^ 26 → p.a < 2 ^ 26 → (effect op p address m).a < 2 ^ 26
 effect-a op p address m small a =
     let both : bit_and p.a m < 2 ^ 26 = and_lt 26 p.a m a small in
@@ -64,6 +66,7 @@ effect-stop op p address m stop = search rules
 
 -- ---- what lands and what is issued
 
+-- a landing leaves words
 landed_pq-fits : (r : Option Pending) (pq : ℕ) → PendingFits r → pq < 2 ^ 26 → landed_pq r pq < 2 ^ 26
 landed_pq-fits r pq ok small = search rules
 
@@ -81,6 +84,7 @@ pending_after-fits op p address m r ok = search (rules, word_of-fits, quotient_o
 
 -- ---- one time
 
+-- one instruction time leaves words
 makes-fits : (i : Instr) (p : PlainState) (m : ℕ) → m < 2 ^ 26 → PlainFits p → PlainFits (makes i p m)
 makes-fits i p m small ok =
     record {
@@ -105,6 +109,7 @@ waits-fits hold p ok =
       stop = ok.stop;
     }
 
+-- what is taken from memory and ports are words
 word_of_place-fits : (p : PlainState) (place : Place) → PlainFits p → word_of_place p place < 2 ^ 26
 word_of_place-fits p (Memory at) ok = ok.words at
 word_of_place-fits p Pq ok = ok.pq
