@@ -17,8 +17,3 @@ whole-run bytes before now text reply t goes unfailed =
     goes t.saved t.read (trial_of before t.deck) t.opening t.state unfailed
     ∙ ap (run_answer (job.Deck engine.Guarded) (trial_of before t.deck)) t.count
     ∙ ap (deck_answer engine.Guarded before) (sym t.means)
-
--- a fact of every error
-pub on_err : {A E P : Type 0} (result : Result A E) → P → OnErr result P
-on_err (Ok a) fact = tt
-on_err (Err e) fact = fact

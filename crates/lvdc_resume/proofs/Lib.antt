@@ -1,6 +1,5 @@
 pub mod Unplugged
 pub mod Taking
-pub mod Ends
 pub mod Resumed
 pub mod Replied
 pub mod Consumed

@@ -4,6 +4,7 @@ use Rattle.lvdc_port.specs.Device.{Device}
 use Rattle.lvdc_reply.specs.Answer.{Answer, answer_with, refusal_text}
 use Rattle.lvdc_reply.specs.Replies as reply
 use Rattle.lvdc_reply.specs.Replies.{Quiet, IsRefused, IsUnfailed, IsReply}
+use Rattle.lvdc_machine.specs.declared.mode.Mode.TheVariants.{Guarded}
 use Rattle.lvdc_save.specs.Faults.{name_of, line_of}
 use Rattle.lvdc_save.specs.Reading.{saved_of}
 use Rattle.lvdc_save.specs.declared.fault.SaveFault.{SaveFault}
@@ -11,15 +12,8 @@ use Rattle.lvdc_save.specs.declared.saved.Saved.{Saved}
 use Rattle.lvdc_resume.specs.Answers.{run_answer, failed_answer, saved_answer, resume_answer}
 use Rattle.lvdc_resume.specs.Replies.{IsResumed, made, failed, unrestored, FailsInResume, restoring, running, IsResumeReply}
 use Rattle.lvdc_resume.specs.Runs.{trial_of, first_state, steps_left}
-use Rattle.lvdc_resume.proofs.Ends.{IsMadeStatus, run-status}
-
-made-unfailed : (n : ℕ) → (n ≡ 0) ⊎ (n ≡ 5) ⊎ (n ≡ 6) → IsUnfailed n
-made-unfailed n (inl e) = inl e
-made-unfailed n (inr (inl e)) = inr (inr (inr (inr (inl e))))
-made-unfailed n (inr (inr e)) = inr (inr (inr (inr (inr e))))
-
-made-kept : {X : Type 0} (n : ℕ) → IsMadeStatus n → IsRefused n → X
-made-kept n h r = absurd (omega (arith, h.is, r))
+use Rattle.lvdc_reply.proofs.Statuses.{IsMadeStatus, made-unfailed, made-kept}
+use Rattle.lvdc_run.proofs.Endings.{run-status}
 
 module _ {B : Type 0} (device_of : B → Device) (faults : B → ℕ) (bytes : List ℕ) (old new : List B) where
   -- an answer that is due where no device fails
@@ -33,8 +27,8 @@ module _ {B : Type 0} (device_of : B → Device) (faults : B → ℕ) (bytes : L
       → IsResumeReply device_of faults bytes old new due
   saved-reply s due means (made quiet) =
       let a = run_answer s (map device_of old) in
-      let status : IsMadeStatus a.status = run-status (trial_of s (map device_of old)) (first_state s (map device_of old)) (steps_left s) refl in
-      by_answer a (sym (ap (saved_answer (map device_of old)) means)) (made-unfailed a.status status.is) (made-kept a.status status) quiet
+      let status : IsMadeStatus a.status = run-status Guarded (trial_of s (map device_of old)) (first_state s (map device_of old)) (steps_left s) refl in
+      by_answer a (sym (ap (saved_answer (map device_of old)) means)) (made-unfailed a.status status) (made-kept a.status status) quiet
   saved-reply s due means (failed step port x rose others) =
       reply.failed step port (failed_answer s (map device_of old) step port) (running s means x refl) refl rose others
   saved-reply s due means (unrestored port a f rose others) =

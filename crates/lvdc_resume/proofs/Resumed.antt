@@ -118,8 +118,3 @@ module _ {B : Type 0} (device_of : B → device.Device) (faults : B → ℕ) (s 
   refused-unreported (Failed port) f =
       reporting (unrestored_answer s (map device_of old) f.index port)
       (fails port f (unrestored_answer s (map device_of old) f.index port) refl (sym f.devices)) f.devices
-
--- a fact of every error
-pub on_err : {A E P : Type 0} (result : Result A E) → P → OnErr result P
-on_err (Ok a) fact = tt
-on_err (Err e) fact = fact

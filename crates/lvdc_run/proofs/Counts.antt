@@ -1,5 +1,5 @@
 -- The devices' counts of faults while they are made ready for a run, and what a want of memory leaves of them.
-use Rattle.std.proofs.Common.{◌≡◌, ℕ, ◌==◌, if◌then◌else◌, take, length, List, [], ◌∷◌, map, Result, Ok, Err, OnErr, refl, sym, subst, ap, ◌∙◌, arith}
+use Rattle.std.proofs.Common.{◌≡◌, ℕ, ◌==◌, if◌then◌else◌, take, length, List, [], ◌∷◌, map, refl, sym, subst, ap, ◌∙◌, arith}
 use Rattle.std.proofs.lemmas.List.{take_all}
 use Rattle.lvdc_port.specs.Device as device
 use Rattle.lvdc_port.specs.Devices.{count_at, has_port}
@@ -45,16 +45,6 @@ pub caused_since : {B : Type 0} (device_of : B → device.Device) (faults : B �
     → AreStill device_of faults old ready → HasCause device_of faults end ready new → HasCause device_of faults end old new
 caused_since device_of faults end old ready new still c =
     subst (λ (first : ℕ → ℕ). Caused end first (λ port. count_at device_of faults port new) (λ port. has_port device_of port new)) (λ i port. still port i) c
-
--- a fact of every error
-pub on_err : {A E P : Type 0} (result : Result A E) → P → OnErr result P
-on_err (Ok a) fact = tt
-on_err (Err e) fact = fact
-
--- a fact of an error from another one
-pub map_err : {A E P Q : Type 0} (result : Result A E) → (P → Q) → OnErr result P → OnErr result Q
-map_err (Ok a) f fact = tt
-map_err (Err e) f fact = f fact
 
 -- want of memory while a machine was made
 pub unmade : {B : Type 0} (device_of : B → device.Device) (faults : B → ℕ) (deck : Deck) (old new : List B)

@@ -1,5 +1,5 @@
 -- What the answer of a job is by its deck, and what it tells.
-use Rattle.std.proofs.Common.{◌≡◌, ℕ, ◌*◌, false, List, map, Result, Ok, Err, OnErr, refl, sym, subst, ap, ◌∙◌, inl, inr, ◌⊎◌, arith}
+use Rattle.std.proofs.Common.{◌≡◌, ℕ, ◌*◌, false, List, map, Result, Ok, Err, OnErr, refl, sym, subst, ap, ◌∙◌}
 use Rattle.lvdc_port.specs.Device.{Device}
 use Rattle.lvdc_model.specs.Runs.{guarded}
 use Rattle.lvdc_model.specs.Trial.{Trial}
@@ -7,7 +7,6 @@ use Rattle.lvdc_deck.specs.Deck.{deck_of}
 use Rattle.lvdc_soak.specs.Soak.{soak_of}
 use Rattle.lvdc_deck.specs.declared.deck.Deck.{Deck}
 use Rattle.lvdc_deck.specs.declared.fault.DeckFault.{DeckFault}
-use Rattle.lvdc_deck.specs.declared.fault.DeckFault.TheVariants.{NoMemory, BadSection, BadLine, NoProgram, NoDevice, TooManyEvents, CountTooLarge, Image, Asm}
 use Rattle.lvdc_reply.specs.Answer.{Answer, answer_with, refusal_text}
 use Rattle.lvdc_reply.specs.Replies as reply
 use Rattle.lvdc_reply.specs.Replies.{Quiet, IsRefused, IsUnfailed, IsReply}
@@ -22,33 +21,8 @@ use Rattle.lvdc_run.specs.Refusals.{refusal_status, refused_answer}
 use Rattle.lvdc_run.specs.Answers.{run_answer, failed_answer, deck_answer, job_answer}
 use Rattle.lvdc_run.specs.Runs.{Means, HasRunThat}
 use Rattle.lvdc_run.specs.Replies.{made, failed, IsRunOf, IsAnswered, refused, ran, FailsInRun, IsJobReply, IsUnreported, IsUnanswered, untouched, begun}
-use Rattle.lvdc_run.proofs.Statuses.{IsMadeStatus, made-status, failed-status}
-
--- ---- statuses
-
-made-unfailed : (n : ℕ) → (n ≡ 0) ⊎ (n ≡ 5) ⊎ (n ≡ 6) → IsUnfailed n
-made-unfailed n (inl e) = inl e
-made-unfailed n (inr (inl e)) = inr (inr (inr (inr (inl e))))
-made-unfailed n (inr (inr e)) = inr (inr (inr (inr (inr e))))
-
-made-kept : {X : Type 0} (n : ℕ) → IsMadeStatus n → IsRefused n → X
-made-kept n h r = absurd (omega (arith, h.is, r))
-
-refusal_is : (fault : DeckFault) → IsRefused (refusal_status fault)
-refusal_is NoMemory = inl refl
-refusal_is (BadSection line) = inl refl
-refusal_is (BadLine line) = inl refl
-refusal_is (NoProgram line) = inl refl
-refusal_is (NoDevice line) = inl refl
-refusal_is (TooManyEvents line) = inl refl
-refusal_is (CountTooLarge line) = inl refl
-refusal_is (Image fault) = inr (inr refl)
-refusal_is (Asm fault) = inr (inl refl)
-
-refused-unfailed : (n : ℕ) → IsRefused n → IsUnfailed n
-refused-unfailed n (inl e) = inr (inl e)
-refused-unfailed n (inr (inl e)) = inr (inr (inl e))
-refused-unfailed n (inr (inr e)) = inr (inr (inr (inl e)))
+use Rattle.lvdc_reply.proofs.Statuses.{IsMadeStatus, made-unfailed, made-kept, refused-unfailed, kept_quiet}
+use Rattle.lvdc_run.proofs.Statuses.{made-status, failed-status, refusal_is}
 
 -- ---- the answer of a job
 
@@ -65,9 +39,6 @@ job_answer-refused j engine bytes devices fault is means =
     sym (ap (λ (k : Job). job_answer k bytes devices) is ∙ ap (deck_answer engine devices) means)
 
 module _ {B : Type 0} (device_of : B → Device) (faults : B → ℕ) (j : Job) (bytes : List ℕ) (old new : List B) where
-  kept_quiet : new ≡ old → Quiet device_of faults old new
-  kept_quiet e = subst (λ (devices : List B). Quiet device_of faults old devices) (sym e) (λ port left. refl)
-
   -- an answer that is due where no device fails
   by_answer : (due : Answer) → due ≡ job_answer j bytes (map device_of old) → IsUnfailed due.status → (IsRefused due.status → new ≡ old)
       → Quiet device_of faults old new → IsJobReply device_of faults j bytes old new due
@@ -80,7 +51,7 @@ module _ {B : Type 0} (device_of : B → Device) (faults : B → ℕ) (j : Job) 
       let o = trial_of (map device_of old) deck in
       let status : IsMadeStatus (run_answer j o deck.count).status = made-status j o deck.count in
       by_answer (run_answer j o deck.count) (job_answer-ran j bytes (map device_of old) deck means)
-      (made-unfailed (run_answer j o deck.count).status status.is) (made-kept (run_answer j o deck.count).status status) quiet
+      (made-unfailed (run_answer j o deck.count).status status) (made-kept (run_answer j o deck.count).status status) quiet
   by_run deck due means (failed step port x rose others) =
       let o = trial_of (map device_of old) deck in
       reply.failed step port (failed_answer j o step port) (record { deck = deck; means = means; exchanges = x; is = refl })
@@ -89,7 +60,7 @@ module _ {B : Type 0} (device_of : B → Device) (faults : B → ℕ) (j : Job) 
   job_reply : (due : Answer) → IsAnswered device_of faults j bytes old new due → IsJobReply device_of faults j bytes old new due
   job_reply due (refused engine fault is means same) =
       by_answer (refused_answer (map device_of old) fault) (job_answer-refused j engine bytes (map device_of old) fault is means)
-      (refused-unfailed (refusal_status fault) (refusal_is fault)) (λ r. same) (kept_quiet same)
+      (refused-unfailed (refusal_status fault) (refusal_is fault)) (λ r. same) (kept_quiet device_of faults old new same)
   job_reply due (ran deck answer means is) = by_run deck answer means is
 
 -- the same of a job that is known to be this one

@@ -1,6 +1,7 @@
 pub mod Counts
 pub mod Told
 pub mod Judged
+pub mod Endings
 pub mod Statuses
 pub mod PlainRuns
 pub mod VotedRuns

@@ -1,5 +1,5 @@
 -- Worked refusals and statuses.
-use Rattle.std.proofs.Common.{◌≡◌, ℕ, List, [], refl}
+use Rattle.std.proofs.Common.{◌≡◌, [], refl}
 use Rattle.std.specs.Prelude.{codes}
 use Rattle.std.specs.Fmt.{digits}
 use Rattle.lvdc_plain.specs.declared.records.Stop.TheVariants.{Exm}

@@ -1,69 +1,44 @@
 -- The status of a run: 5 exactly where the job judges and finds a step that isn't admissible, 6 exactly where it stops, else 0;
--- and 10 where a device fails.
-use Rattle.std.proofs.Common.{◌≡◌, ◌≢◌, ℕ, zero, suc, ◌*◌, IsSome, None, Some, Result, Ok, Err, refl, inl, inr, ◌⊎◌, arith}
+-- and 10 where a device fails. And that of a refused deck.
+use Rattle.std.proofs.Common.{◌≡◌, ◌≢◌, ℕ, ◌*◌, IsSome, None, Some, refl, inl, inr, ◌⊎◌, arith}
 use Rattle.std.specs.declared.option.Option.{Option}
-use Rattle.lvdc_twin.specs.declared.both_bad.BothBad.{BothBad}
-use Rattle.lvdc_twin.specs.declared.read_out.ReadOut.{ReadOut}
-use Rattle.lvdc_map.specs.Address.{Spot}
-use Rattle.lvdc_modules.specs.declared.wanted.Wanted.{Wanted}
-use Rattle.lvdc_modules.specs.declared.wanted.Wanted.TheVariants.{Nothing, Fetch, Operand, Store, PortRead, PortWrite}
 use Rattle.lvdc_plain.specs.declared.records.Stop.{Stop}
 use Rattle.lvdc_fault.specs.declared.verdict.Verdict.{Verdict}
 use Rattle.lvdc_fault.specs.declared.verdict.Verdict.TheVariants.{Admissible, Logic, Memory}
-use Rattle.lvdc_model.specs.Exchanges.{prepared, stop_of, exchanges, reading, wished}
 use Rattle.lvdc_model.specs.Judging.{first_bad}
-use Rattle.lvdc_model.specs.Runs.{through, through_by}
+use Rattle.lvdc_model.specs.Runs.{through}
 use Rattle.lvdc_model.specs.Trial.{Trial, plain_at}
-use Rattle.lvdc_model.specs.Twins.{read_answer}
-use Rattle.lvdc_model.specs.Voted.{Voted}
+use Rattle.lvdc_model.specs.Voted.{voted_start}
 use Rattle.lvdc_model.specs.declared.outcome.Outcome.{Outcome}
 use Rattle.lvdc_model.specs.declared.outcome.Outcome.TheVariants.{Done, Stopped, Inadmissible, Device}
 use Rattle.lvdc_machine.specs.View.{answer_of_end}
+use Rattle.lvdc_machine.specs.declared.mode.Mode.TheVariants as modes
 use Rattle.lvdc_report.specs.Report.{outcome_of}
+use Rattle.lvdc_deck.specs.declared.fault.DeckFault.{DeckFault}
+use Rattle.lvdc_deck.specs.declared.fault.DeckFault.TheVariants.{NoMemory, BadSection, BadLine, NoProgram, NoDevice, TooManyEvents, CountTooLarge, Image, Asm}
+use Rattle.lvdc_reply.specs.Replies.{IsRefused}
+use Rattle.lvdc_reply.proofs.Statuses.{IsMadeStatus}
 use Rattle.lvdc_run.specs.declared.job.Job.{Job}
 use Rattle.lvdc_run.specs.declared.job.Job.TheVariants as job
 use Rattle.lvdc_run.specs.declared.job.Engine.TheVariants.{Guarded, Through, Plain}
 use Rattle.lvdc_run.specs.Accounts.{end_by, account_by, end_status}
 use Rattle.lvdc_run.specs.Answers.{run_answer, failed_answer}
+use Rattle.lvdc_run.specs.Refusals.{refusal_status}
+use Rattle.lvdc_run.proofs.Endings.{IsEndOf, run-end, run-status}
 use Rattle.lvdc_run.specs.Runs.{Judges, IsStop, StopsAdmitted, Stops}
 
--- the status of a run in which no device failed
-pub record IsMadeStatus (n : ℕ) : Type 0 where
-  pub is : (n ≡ 0) ⊎ (n ≡ 5) ⊎ (n ≡ 6)
+-- ---- the status of a refused deck
 
--- ---- a run through every fault ends by a stop alone
-
-abbrev IsThroughEnd : Option Outcome → Type 0
-IsThroughEnd None = Unit {0}
-IsThroughEnd (Some Done) = ⊥
-IsThroughEnd (Some (Stopped step stop)) = Unit {0}
-IsThroughEnd (Some (Inadmissible verdict)) = ⊥
-IsThroughEnd (Some (Device step port)) = ⊥
-
-stop-through : (n step : ℕ) → IsThroughEnd (stop_of n step)
-stop-through zero step = tt
-stop-through (suc zero) step = tt
-stop-through (suc (suc n)) step = tt
-
-reading-through : (answer : Result ReadOut BothBad) (o : Trial) (v : Voted) (at : Spot) → IsThroughEnd (reading answer o v at).end
-reading-through (Ok r) o v at = stop-through _ v.steps
-reading-through (Err e) o v at = tt
-
-exchange-through : (w : Wanted) (o : Trial) (v : Voted) → IsThroughEnd (exchanges o v w).end
-exchange-through Nothing o v = stop-through _ v.steps
-exchange-through (Fetch at) o v = reading-through (read_answer o v.steps v.twins at) o v at
-exchange-through (Operand at) o v = reading-through (read_answer o v.steps v.twins at) o v at
-exchange-through (Store at word) o v = stop-through _ v.steps
-exchange-through (PortRead port) o v = stop-through _ v.steps
-exchange-through (PortWrite port word) o v = stop-through _ v.steps
-
-through-next : (end : Option Outcome) (o : Trial) (v : Voted) → v.end ≡ end → IsThroughEnd v.end → IsThroughEnd (through_by end o v).end
-through-next None o v is h = exchange-through (wished o (prepared o v)) o (prepared o v)
-through-next (Some e) o v is h = h
-
-through-end : (o : Trial) (n : ℕ) → IsThroughEnd (through o n).end
-through-end o zero = tt
-through-end o (suc n) = through-next (through o n).end o (through o n) refl (through-end o n)
+pub refusal_is : (fault : DeckFault) → IsRefused (refusal_status fault)
+refusal_is NoMemory = inl refl
+refusal_is (BadSection line) = inl refl
+refusal_is (BadLine line) = inl refl
+refusal_is (NoProgram line) = inl refl
+refusal_is (NoDevice line) = inl refl
+refusal_is (TooManyEvents line) = inl refl
+refusal_is (CountTooLarge line) = inl refl
+refusal_is (Image fault) = inr (inr refl)
+refusal_is (Asm fault) = inr (inl refl)
 
 -- ---- statuses of ends
 
@@ -84,16 +59,9 @@ account-status Admissible o n = record { is = elim (plain-status (plain_at o n).
 account-status (Logic step m) o n = record { is = inr (inl refl) }
 account-status (Memory step at) o n = record { is = inr (inl refl) }
 
-through-status : (end : Option Outcome) → IsThroughEnd end → IsMadeStatus (end_status (answer_of_end end))
-through-status None h = record { is = inl refl }
-through-status (Some Done) h = absurd h
-through-status (Some (Stopped step stop)) h = record { is = inr (inr refl) }
-through-status (Some (Inadmissible verdict)) h = absurd h
-through-status (Some (Device step port)) h = absurd h
-
 pub made-status : (j : Job) (o : Trial) (n : ℕ) → IsMadeStatus (run_answer j o n).status
 made-status (job.Deck Guarded) o n = account-status (first_bad o n) o n
-made-status (job.Deck Through) o n = through-status (through o (3 * n)).end (through-end o (3 * n))
+made-status (job.Deck Through) o n = run-status modes.Through o (voted_start o) (3 * n) refl
 made-status (job.Deck Plain) o n = record { is = elim (plain-status (plain_at o n).stop (plain_at o n).times) [ inl e ↦ inl e | inr e ↦ inr (inr e) ] }
 made-status (job.Soak number) o n = account-status (first_bad o n) o n
 
@@ -115,7 +83,7 @@ bad-account Admissible o n bad = absurd (bad refl)
 bad-account (Logic step m) o n bad = refl
 bad-account (Memory step at) o n bad = refl
 
-through-unjudged : (end : Option Outcome) → IsThroughEnd end → end_status (answer_of_end end) ≡ 5 → ⊥
+through-unjudged : (end : Option Outcome) → IsEndOf modes.Through end → end_status (answer_of_end end) ≡ 5 → ⊥
 through-unjudged None h e = omega (arith, e)
 through-unjudged (Some Done) h e = h
 through-unjudged (Some (Stopped step stop)) h e = omega (arith, e)
@@ -124,7 +92,7 @@ through-unjudged (Some (Device step port)) h e = h
 
 pub status-judges : (j : Job) (o : Trial) (n : ℕ) → (run_answer j o n).status ≡ 5 → Judges j o n
 status-judges (job.Deck Guarded) o n e = account-bad (first_bad o n) o n e
-status-judges (job.Deck Through) o n e = through-unjudged (through o (3 * n)).end (through-end o (3 * n)) e
+status-judges (job.Deck Through) o n e = through-unjudged (through o (3 * n)).end (run-end modes.Through o (voted_start o) (3 * n) refl) e
 status-judges (job.Deck Plain) o n e = omega (arith, e, plain-status (plain_at o n).stop (plain_at o n).times)
 status-judges (job.Soak number) o n e = account-bad (first_bad o n) o n e
 

@@ -12,25 +12,11 @@ use Rattle.lvdc_run.specs.Refusals.{refusal_status, refused_answer}
 use Rattle.lvdc_run.specs.Trials.{trial_of}
 use Rattle.lvdc_session.specs.Answers.{status_after, asked_in, whole_session, failed_session, deck_session, session_answer}
 use Rattle.lvdc_session.specs.Replies.{IsSession, made, failed, IsAnswered, refused, debugged, FailsInSession, IsSessionReply}
-use Rattle.lvdc_session.proofs.Statuses.{IsMadeStatus, made-status, refusal_is}
-
-made-unfailed : (n : ℕ) → (n ≡ 0) ⊎ (n ≡ 5) ⊎ (n ≡ 6) → IsUnfailed n
-made-unfailed n (inl e) = inl e
-made-unfailed n (inr (inl e)) = inr (inr (inr (inr (inl e))))
-made-unfailed n (inr (inr e)) = inr (inr (inr (inr (inr e))))
-
-made-kept : {X : Type 0} (n : ℕ) → IsMadeStatus n → IsRefused n → X
-made-kept n h r = absurd (omega (arith, h.is, r))
-
-refused-unfailed : (n : ℕ) → IsRefused n → IsUnfailed n
-refused-unfailed n (inl e) = inr (inl e)
-refused-unfailed n (inr (inl e)) = inr (inr (inl e))
-refused-unfailed n (inr (inr e)) = inr (inr (inr (inl e)))
+use Rattle.lvdc_reply.proofs.Statuses.{made-unfailed, made-kept, refused-unfailed, kept_quiet}
+use Rattle.lvdc_run.proofs.Statuses.{refusal_is}
+use Rattle.lvdc_session.proofs.Statuses.{made-status}
 
 module _ {B : Type 0} (device_of : B → Device) (faults : B → ℕ) (bytes : List ℕ) (old new : List B) where
-  kept_quiet : new ≡ old → Quiet device_of faults old new
-  kept_quiet e = subst (λ (devices : List B). Quiet device_of faults old devices) (sym e) (λ port left. refl)
-
   by_answer : (due : Answer) → due ≡ session_answer bytes (map device_of old) → IsUnfailed due.status → (IsRefused due.status → new ≡ old)
       → Quiet device_of faults old new → IsSessionReply device_of faults bytes old new due
   by_answer due is unfailed kept quiet =
@@ -43,14 +29,14 @@ module _ {B : Type 0} (device_of : B → Device) (faults : B → ℕ) (bytes : L
       let k = asked_in None bytes (map device_of old) deck in
       let status = made-status o k in
       by_answer (whole_session bytes (map device_of old) deck) (sym (ap (deck_session bytes (map device_of old)) means))
-      (made-unfailed (status_after o k) status.is) (made-kept (status_after o k) status) quiet
+      (made-unfailed (status_after o k) status) (made-kept (status_after o k) status) quiet
   by_session deck due means (failed f x rose others) =
       reply.failed f.step f.port (failed_session bytes (map device_of old) deck f) (record { deck = deck; means = means; exchanges = x; is = refl }) refl rose others
 
   pub session_reply : (due : Answer) → IsAnswered device_of faults bytes old new due → IsSessionReply device_of faults bytes old new due
   session_reply due (refused fault means same) =
       by_answer (refused_answer (map device_of old) fault) (sym (ap (deck_session bytes (map device_of old)) means))
-      (refused-unfailed (refusal_status fault) (refusal_is fault)) (λ r. same) (kept_quiet same)
+      (refused-unfailed (refusal_status fault) (refusal_is fault)) (λ r. same) (kept_quiet device_of faults old new same)
   session_reply due (debugged deck answer means is) = by_session deck answer means is
 
 -- the reply to a refused deck, by its parts
@@ -60,13 +46,3 @@ pub refused_by : {B : Type 0} (device_of : B → Device) (faults : B → ℕ) (b
 refused_by device_of faults bytes old fault status text means s t =
     let same : refused_answer (map device_of old) fault ≡ answer_with status text (map device_of old) = λ i. answer_with (sym s i) (sym t i) (map device_of old) in
     subst (λ (a : Answer). IsAnswered device_of faults bytes old old a) same (refused fault means refl)
-
--- a fact of every error
-pub on_err : {A E P : Type 0} (result : Result A E) → P → OnErr result P
-on_err (Ok a) fact = tt
-on_err (Err e) fact = fact
-
--- a fact of an error from another one
-pub map_err : {A E P Q : Type 0} (result : Result A E) → (P → Q) → OnErr result P → OnErr result Q
-map_err (Ok a) f fact = tt
-map_err (Err e) f fact = f fact

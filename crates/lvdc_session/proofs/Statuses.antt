@@ -10,17 +10,14 @@ use Rattle.lvdc_model.specs.Trial.{Trial, plain_at}
 use Rattle.lvdc_deck.specs.Deck.{deck_of}
 use Rattle.lvdc_deck.specs.declared.deck.Deck.{Deck}
 use Rattle.lvdc_deck.specs.declared.fault.DeckFault.{DeckFault}
-use Rattle.lvdc_deck.specs.declared.fault.DeckFault.TheVariants.{NoMemory, BadSection, BadLine, NoProgram, NoDevice, TooManyEvents, CountTooLarge, Image, Asm}
 use Rattle.lvdc_reply.specs.Replies.{IsRefused}
-use Rattle.lvdc_run.specs.Refusals.{refusal_status}
+use Rattle.lvdc_reply.proofs.Statuses.{IsMadeStatus}
+use Rattle.lvdc_run.proofs.Statuses.{refusal_is}
 use Rattle.lvdc_run.specs.Trials.{trial_of}
 use Rattle.lvdc_session.specs.Answers.{status_by, status_after, asked_in, deck_session, session_answer, HasSessionThat}
 use Rattle.lvdc_run.specs.Runs.{StopsAdmitted}
 
 -- the status of a session in which no device failed
-pub record IsMadeStatus (n : ℕ) : Type 0 where
-  pub is : (n ≡ 0) ⊎ (n ≡ 5) ⊎ (n ≡ 6)
-
 made-by : (w : Verdict) (stop : Option Stop) → IsMadeStatus (status_by w stop)
 made-by Admissible None = record { is = inl refl }
 made-by Admissible (Some stop) = record { is = inr (inr refl) }
@@ -29,17 +26,6 @@ made-by (Memory step at) stop = record { is = inr (inl refl) }
 
 pub made-status : (o : Trial) (times : ℕ) → IsMadeStatus (status_after o times)
 made-status o times = made-by (first_bad o times) (plain_at o times).stop
-
-pub refusal_is : (fault : DeckFault) → IsRefused (refusal_status fault)
-refusal_is NoMemory = inl refl
-refusal_is (BadSection line) = inl refl
-refusal_is (BadLine line) = inl refl
-refusal_is (NoProgram line) = inl refl
-refusal_is (NoDevice line) = inl refl
-refusal_is (TooManyEvents line) = inl refl
-refusal_is (CountTooLarge line) = inl refl
-refusal_is (Image fault) = inr (inr refl)
-refusal_is (Asm fault) = inr (inl refl)
 
 -- ---- 5
 

@@ -6,7 +6,6 @@ use Rattle.lvdc_model.specs.declared.outcome.Outcome.TheVariants.{Done, Stopped,
 use Rattle.lvdc_deck.specs.Faults.{name_of, line_of}
 use Rattle.lvdc_deck.specs.declared.deck.Deck.{Deck}
 use Rattle.lvdc_deck.specs.declared.fault.DeckFault.{DeckFault}
-use Rattle.lvdc_deck.specs.declared.fault.DeckFault.TheVariants.{NoMemory, BadSection, BadLine, NoProgram, NoDevice, TooManyEvents, CountTooLarge, Image, Asm}
 use Rattle.lvdc_reply.specs.Answer.{Answer, answer_with, refusal_text}
 use Rattle.lvdc_reply.specs.Replies as reply
 use Rattle.lvdc_reply.specs.Replies.{Quiet, IsRefused, IsUnfailed, IsReply}
@@ -16,35 +15,12 @@ use Rattle.lvdc_run.specs.Refusals.{refusal_status, refused_answer}
 use Rattle.lvdc_run.specs.Trials.{trial_of}
 use Rattle.lvdc_run.specs.declared.job.Engine.TheVariants as engine
 use Rattle.lvdc_run.specs.declared.job.Job.TheVariants as job
-use Rattle.lvdc_run.proofs.Statuses.{IsMadeStatus, made-status}
+use Rattle.lvdc_reply.proofs.Statuses.{IsMadeStatus, made-unfailed, made-kept, refused-unfailed, kept_quiet}
+use Rattle.lvdc_run.proofs.Statuses.{made-status, refusal_is}
 use Rattle.lvdc_suspend.specs.Answers.{answer_by_end, stop_answer, deck_for, answer_by_deck, save_answer}
 use Rattle.lvdc_suspend.specs.Replies.{IsStop, made, failed, IsAnswered, refused, ran, FailsInSave, IsSaveReply, writing, IsUnanswered, untouched, begun}
 
 -- ---- statuses
-
-made-unfailed : (n : ℕ) → (n ≡ 0) ⊎ (n ≡ 5) ⊎ (n ≡ 6) → IsUnfailed n
-made-unfailed n (inl e) = inl e
-made-unfailed n (inr (inl e)) = inr (inr (inr (inr (inl e))))
-made-unfailed n (inr (inr e)) = inr (inr (inr (inr (inr e))))
-
-made-kept : {X : Type 0} (n : ℕ) → IsMadeStatus n → IsRefused n → X
-made-kept n h r = absurd (omega (arith, h.is, r))
-
-pub refusal_is : (fault : DeckFault) → IsRefused (refusal_status fault)
-refusal_is NoMemory = inl refl
-refusal_is (BadSection line) = inl refl
-refusal_is (BadLine line) = inl refl
-refusal_is (NoProgram line) = inl refl
-refusal_is (NoDevice line) = inl refl
-refusal_is (TooManyEvents line) = inl refl
-refusal_is (CountTooLarge line) = inl refl
-refusal_is (Image fault) = inr (inr refl)
-refusal_is (Asm fault) = inr (inl refl)
-
-refused-unfailed : (n : ℕ) → IsRefused n → IsUnfailed n
-refused-unfailed n (inl e) = inr (inl e)
-refused-unfailed n (inr (inl e)) = inr (inr (inl e))
-refused-unfailed n (inr (inr e)) = inr (inr (inr (inl e)))
 
 -- the status of a run's answer, or 0 for a saved text
 stop-by : (end : Outcome) (devices : List device.Device) (deck : Deck) (n : ℕ) → IsMadeStatus (answer_by_end end devices deck n).status
@@ -59,9 +35,6 @@ stop-status devices deck n = stop-by (account (trial_of devices deck) n).end dev
 -- ---- the answer
 
 module _ {B : Type 0} (device_of : B → device.Device) (faults : B → ℕ) (n : ℕ) (bytes : List ℕ) (old new : List B) where
-  kept_quiet : new ≡ old → Quiet device_of faults old new
-  kept_quiet e = subst (λ (devices : List B). Quiet device_of faults old devices) (sym e) (λ port left. refl)
-
   by_answer : (due : Answer) → due ≡ save_answer n bytes (map device_of old) → IsUnfailed due.status → (IsRefused due.status → new ≡ old)
       → Quiet device_of faults old new → IsSaveReply device_of faults n bytes old new due
   by_answer due is unfailed kept quiet =
@@ -72,7 +45,7 @@ module _ {B : Type 0} (device_of : B → device.Device) (faults : B → ℕ) (n 
   by_stop deck due means (made quiet) =
       let status = stop-status (map device_of old) deck n in
       by_answer (stop_answer (map device_of old) deck n) (sym (ap (answer_by_deck n (map device_of old)) means))
-      (made-unfailed (stop_answer (map device_of old) deck n).status status.is) (made-kept (stop_answer (map device_of old) deck n).status status) quiet
+      (made-unfailed (stop_answer (map device_of old) deck n).status status) (made-kept (stop_answer (map device_of old) deck n).status status) quiet
   by_stop deck due means (failed step port x rose others) =
       reply.failed step port (failed_answer (job.Deck engine.Guarded) (trial_of (map device_of old) deck) step port)
       (record { deck = deck; means = means; exchanges = x; is = refl }) refl rose others
@@ -80,7 +53,7 @@ module _ {B : Type 0} (device_of : B → device.Device) (faults : B → ℕ) (n 
   pub save_reply : (due : Answer) → IsAnswered device_of faults n bytes old new due → IsSaveReply device_of faults n bytes old new due
   save_reply due (refused fault means same) =
       by_answer (refused_answer (map device_of old) fault) (sym (ap (answer_by_deck n (map device_of old)) means))
-      (refused-unfailed (refusal_status fault) (refusal_is fault)) (λ r. same) (kept_quiet same)
+      (refused-unfailed (refusal_status fault) (refusal_is fault)) (λ r. same) (kept_quiet device_of faults old new same)
   save_reply due (ran deck answer means is) = by_stop deck answer means is
 
 -- the reply to a refused deck, by its parts
@@ -96,8 +69,3 @@ pub unanswered_of : {B : Type 0} (device_of : B → device.Device) (faults : B �
     → map device_of new ≡ due.devices → IsAnswered device_of faults n bytes old new due → IsUnanswered device_of faults n bytes old new
 unanswered_of device_of faults n bytes old new due left (refused fault means same) = untouched same
 unanswered_of device_of faults n bytes old new due left (ran deck answer means is) = begun deck means (writing answer is left)
-
--- a fact of every error
-pub on_err : {A E P : Type 0} (result : Result A E) → P → OnErr result P
-on_err (Ok a) fact = tt
-on_err (Err e) fact = fact

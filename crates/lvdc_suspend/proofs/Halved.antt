@@ -21,11 +21,11 @@ use Rattle.lvdc_run.specs.Accounts.{end_status}
 use Rattle.lvdc_run.specs.Finished.{HasJudged}
 use Rattle.lvdc_run.specs.Refusals.{refusal_status}
 use Rattle.lvdc_run.specs.Trials.{trial_of}
+use Rattle.lvdc_run.proofs.Statuses.{refusal_is}
 use Rattle.lvdc_suspend.specs.Answers.{saved_in}
 use Rattle.lvdc_suspend.specs.Halves.{IsTaken, IsSavedRun}
 use Rattle.lvdc_suspend.specs.Snapshots.{snapshot_of}
 use Rattle.lvdc_suspend.specs.States.{states_of}
-use Rattle.lvdc_suspend.proofs.Answering.{refusal_is}
 use Rattle.lvdc_suspend.proofs.Stops.{saved_same, shows_as}
 
 module _ {B : Type 0} (device_of : B → device.Device) (faults : B → ℕ) (n : ℕ) (deck : Deck) (old new : List B) (m : View)

@@ -1,4 +1,5 @@
-use Rattle.lvdc_halves.proofs.Wholes.{whole-run, on_err}
+use Rattle.lvdc_reply.proofs.Statuses.{on_err}
+use Rattle.lvdc_halves.proofs.Wholes.{whole-run}
 use Rattle.lvdc_halves.proofs.reply.resume_saved.Goals as goal
 
 pub returns-clause-halves : goal.returns-clause-halves

@@ -3,7 +3,7 @@ use Rattle.lvdc_resume.specs.Replies.{begun}
 use Rattle.lvdc_resume.proofs.Consumed.{noted-fits}
 use Rattle.lvdc_resume.proofs.Onward.{goes-on-by, goes-on-refused}
 use Rattle.lvdc_resume.proofs.Replied.{saved-reply, refused-reply}
-use Rattle.lvdc_resume.proofs.Resumed.{on_err}
+use Rattle.lvdc_reply.proofs.Statuses.{on_err}
 use Rattle.lvdc_resume.proofs.reply.resume_bytes.Goals as goal
 
 pub returns-in_err-reply-in-Ok-clause-unanswered : goal.returns-in_err-reply-in-Ok-clause-unanswered

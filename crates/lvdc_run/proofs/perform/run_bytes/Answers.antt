@@ -1,6 +1,6 @@
 use Rattle.lvdc_run.specs.Replies.{ran, begun}
 use Rattle.lvdc_run.proofs.Jobs.{refused_by}
-use Rattle.lvdc_run.proofs.Counts.{on_err}
+use Rattle.lvdc_reply.proofs.Statuses.{on_err}
 use Rattle.lvdc_run.proofs.perform.run_bytes.Goals as goal
 
 pub returns-in_ok-reply-in-Ok-clause-reply : goal.returns-in_ok-reply-in-Ok-clause-reply

@@ -1,6 +1,6 @@
 use Rattle.std.proofs.Common.{ℕ, ◌≤◌, List, length, sym, subst, ◌∙◌}
 use Rattle.lvdc_report.specs.declared.report.TheConstants.{LONGEST_REPORT}
-use Rattle.lvdc_run.proofs.Counts.{on_err}
+use Rattle.lvdc_reply.proofs.Statuses.{on_err}
 use Rattle.lvdc_run.proofs.VotedRuns.{ran_guarded, guarded_unreported}
 use Rattle.lvdc_run.proofs.runs.run_guarded.Goals as goal
 

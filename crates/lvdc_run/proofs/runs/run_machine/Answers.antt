@@ -1,5 +1,6 @@
 use Rattle.std.proofs.Common.{refl, ◌∙◌}
-use Rattle.lvdc_run.proofs.Counts.{unmade, on_err}
+use Rattle.lvdc_reply.proofs.Statuses.{on_err}
+use Rattle.lvdc_run.proofs.Counts.{unmade}
 use Rattle.lvdc_run.proofs.Making.{has_run}
 use Rattle.lvdc_run.proofs.runs.run_machine.Goals as goal
 

@@ -1,5 +1,5 @@
 use Rattle.std.proofs.Common.{◌∙◌}
-use Rattle.lvdc_run.proofs.Counts.{on_err}
+use Rattle.lvdc_reply.proofs.Statuses.{on_err}
 use Rattle.lvdc_run.proofs.PlainRuns.{ran_plainly, plain_unreported}
 use Rattle.lvdc_run.proofs.runs.run_plain.Goals as goal
 

@@ -1,6 +1,6 @@
 use Rattle.std.proofs.Common.{◌∙◌}
 use Rattle.lvdc_run.specs.Replies.{ran}
-use Rattle.lvdc_run.proofs.Counts.{on_err}
+use Rattle.lvdc_reply.proofs.Statuses.{on_err}
 use Rattle.lvdc_run.proofs.VotedRuns.{ran_soak, soak_unreported}
 use Rattle.lvdc_run.proofs.Jobs.{soak_untouched, soak_begun}
 use Rattle.lvdc_run.proofs.runs.run_soak.Goals as goal

@@ -1,4 +1,5 @@
-use Rattle.lvdc_session.proofs.Replies.{session_reply, on_err}
+use Rattle.lvdc_reply.proofs.Statuses.{on_err}
+use Rattle.lvdc_session.proofs.Replies.{session_reply}
 use Rattle.lvdc_session.proofs.reply.debug_bytes.Goals as goal
 
 pub returns-clause-reply : goal.returns-clause-reply

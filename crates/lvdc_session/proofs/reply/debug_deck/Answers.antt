@@ -7,7 +7,7 @@ use Rattle.lvdc_debug.specs.Session.{session_text}
 use Rattle.lvdc_debug.specs.Standing.{command_texts, subject_of, StandsAfter, StandsAmid, AreApart}
 use Rattle.lvdc_session.proofs.Endings.{GuardedLaws}
 use Rattle.lvdc_session.proofs.Making.{unmade, cause_before}
-use Rattle.lvdc_session.proofs.Replies.{on_err}
+use Rattle.lvdc_reply.proofs.Statuses.{on_err}
 use Rattle.lvdc_session.proofs.Sessions.{session_is, session_amid}
 use Rattle.lvdc_session.proofs.reply.debug_deck.Goals as goal
 

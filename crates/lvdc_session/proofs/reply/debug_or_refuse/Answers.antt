@@ -1,6 +1,7 @@
 use Rattle.std.proofs.Common.{true}
 use Rattle.lvdc_session.specs.Replies.{debugged, begun}
-use Rattle.lvdc_session.proofs.Replies.{refused_by, on_err}
+use Rattle.lvdc_reply.proofs.Statuses.{on_err}
+use Rattle.lvdc_session.proofs.Replies.{refused_by}
 use Rattle.lvdc_session.proofs.reply.debug_or_refuse.Goals as goal
 
 pub returns-in_ok-reply-in-Ok-clause-reply : goal.returns-in_ok-reply-in-Ok-clause-reply

@@ -1,5 +1,6 @@
 use Rattle.std.proofs.Common.{refl}
-use Rattle.lvdc_suspend.proofs.Answering.{save_reply, unanswered_of, on_err}
+use Rattle.lvdc_reply.proofs.Statuses.{on_err}
+use Rattle.lvdc_suspend.proofs.Answering.{save_reply, unanswered_of}
 use Rattle.lvdc_suspend.proofs.reply.save_bytes.Goals as goal
 
 pub returns-clause-reply : goal.returns-clause-reply

@@ -1,5 +1,5 @@
 use Rattle.std.proofs.Common.{sym, ◌∙◌}
-use Rattle.lvdc_suspend.proofs.Answering.{on_err}
+use Rattle.lvdc_reply.proofs.Statuses.{on_err}
 use Rattle.lvdc_suspend.proofs.Halved.{saved_run, ended_run}
 use Rattle.lvdc_suspend.proofs.Stops.{saved_from, reported_due, unwritten}
 use Rattle.lvdc_suspend.proofs.reply.save_deck.Goals as goal

@@ -1,5 +1,6 @@
 use Rattle.lvdc_suspend.specs.Replies.{ran, begun}
-use Rattle.lvdc_suspend.proofs.Answering.{refused_by, on_err}
+use Rattle.lvdc_reply.proofs.Statuses.{on_err}
+use Rattle.lvdc_suspend.proofs.Answering.{refused_by}
 use Rattle.lvdc_suspend.proofs.Halved.{refused_run}
 use Rattle.lvdc_suspend.proofs.reply.save_or_refuse.Goals as goal
 

@@ -2,7 +2,7 @@ use Rattle.std.proofs.Common.{refl, ◌∙◌}
 use Rattle.lvdc_machine.specs.declared.mode.Mode.TheVariants as modes
 use Rattle.lvdc_run.proofs.Making.{has_run}
 use Rattle.lvdc_suspend.specs.Replies.{supplying}
-use Rattle.lvdc_suspend.proofs.Answering.{on_err}
+use Rattle.lvdc_reply.proofs.Statuses.{on_err}
 use Rattle.lvdc_suspend.proofs.runs.run_machine.Goals as goal
 
 pub returns-clause-run : goal.returns-clause-run

@@ -1,0 +1,35 @@
+-- Statuses of replies by their kind, and what the crates of commands need of a reply.
+use Rattle.std.proofs.Common.{◌≡◌, ℕ, List, Result, Ok, Err, OnErr, refl, sym, subst, inl, inr, ◌⊎◌, arith}
+use Rattle.lvdc_port.specs.Device.{Device}
+use Rattle.lvdc_reply.specs.Replies.{Quiet, IsRefused, IsUnfailed}
+
+-- the status of a run in which no device failed
+pub record IsMadeStatus (n : ℕ) : Type 0 where
+  pub is : (n ≡ 0) ⊎ (n ≡ 5) ⊎ (n ≡ 6)
+
+-- a command comes to it by itself
+pub made-unfailed : (n : ℕ) → IsMadeStatus n → IsUnfailed n
+made-unfailed n h =
+    elim h.is [
+      | inl done ↦ inl done
+      | inr ended ↦ elim ended [ inl bad ↦ inr (inr (inr (inr (inl bad)))) | inr stopped ↦ inr (inr (inr (inr (inr stopped)))) ]
+    ]
+
+-- and no refusal has it
+pub made-kept : {X : Type 0} (n : ℕ) → IsMadeStatus n → IsRefused n → X
+made-kept n h r = absurd (omega (arith, h.is, r))
+
+-- a refusal is no failure
+pub refused-unfailed : (n : ℕ) → IsRefused n → IsUnfailed n
+refused-unfailed n (inl e) = inr (inl e)
+refused-unfailed n (inr (inl e)) = inr (inr (inl e))
+refused-unfailed n (inr (inr e)) = inr (inr (inr (inl e)))
+
+-- the same objects have the same counts
+pub kept_quiet : {B : Type 0} (device_of : B → Device) (faults : B → ℕ) (old new : List B) → new ≡ old → Quiet device_of faults old new
+kept_quiet {B} device_of faults old new e = subst (λ (devices : List B). Quiet device_of faults old devices) (sym e) (λ port left. refl)
+
+-- a fact of every error
+pub on_err : {A E P : Type 0} (result : Result A E) → P → OnErr result P
+on_err (Ok a) fact = tt
+on_err (Err e) fact = fact
