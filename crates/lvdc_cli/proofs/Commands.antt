@@ -17,7 +17,6 @@ use Rattle.lvdc_campaign_deck.specs.declared.deck.CampaignDeck.{CampaignDeck}
 use Rattle.lvdc_campaign_deck.specs.declared.fault.CampaignFault.{CampaignFault}
 use Rattle.lvdc_campaign_deck.specs.declared.fault.CampaignFault.TheVariants as campaign
 use Rattle.lvdc_deck.specs.declared.fault.DeckFault.{DeckFault}
-use Rattle.lvdc_deck.specs.declared.fault.DeckFault.TheVariants as deck
 use Rattle.lvdc_run.specs.Refusals as refusals
 use Rattle.lvdc_study.specs.Answers as study
 use Rattle.lvdc_macro.specs.Expansion.{Written, bytes_of}
@@ -30,11 +29,13 @@ use Rattle.lvdc_patch.specs.Faults.{refusal_status}
 use Rattle.lvdc_patch.specs.Input.{Request, request_of}
 use Rattle.lvdc_patch.specs.declared.fault.PatchFault.{PatchFault}
 use Rattle.lvdc_patch.specs.declared.fault.PatchFault.TheVariants.{NoProgram, BadSection, BadLine, Image as OfImage}
+use Rattle.lvdc_reply.proofs.Statuses.{refused-unfailed}
 use Rattle.lvdc_run.specs.declared.job.Engine.TheVariants.{Guarded}
 use Rattle.lvdc_run.specs.declared.job.Job.{Job}
 use Rattle.lvdc_run.specs.declared.job.Job.TheVariants as job
 use Rattle.lvdc_run.specs.Trials.{trial_of}
 use Rattle.lvdc_run.specs.Headline.{Headline}
+use Rattle.lvdc_run.proofs.Statuses.{refusal_is}
 use Rattle.lvdc_run.specs.Answers.{job_answer}
 use Rattle.lvdc_run.specs.Runs.{HasRunThat}
 use Rattle.lvdc_session.specs.Answers.{session_answer, HasSessionThat}
@@ -73,13 +74,8 @@ abbrev pub IsSettled : ℕ → Type 0
 IsSettled status = (status ≡ 0) ⊎ (status ≡ 2) ⊎ (status ≡ 3) ⊎ (status ≡ 4)
 
 settled_unfailed : (status : ℕ) → IsSettled status → IsUnfailed status
-settled_unfailed status h = elim h [
-  | inl done ↦ inl done
-  | inr refused ↦ elim refused [
-    | inl deck ↦ inr (inl deck)
-    | inr rest ↦ elim rest [ inl source ↦ inr (inr (inl source)) | inr image ↦ inr (inr (inr (inl image))) ]
-  ]
-]
+settled_unfailed status (inl done) = inl done
+settled_unfailed status (inr refused) = refused-unfailed status refused
 
 -- 5 and 6 are no such status
 never_runs : (status n : ℕ) → (n ≡ 5) ⊎ (n ≡ 6) → IsSettled status → status ≡ n → ⊥
@@ -107,15 +103,7 @@ source_settled (Ok assembled) = inl refl
 source_settled (Err fault) = inr (inr (inl refl))
 
 deck_fault_settled : (fault : DeckFault) → IsSettled (refusals.refusal_status fault)
-deck_fault_settled deck.NoMemory = inr (inl refl)
-deck_fault_settled (deck.BadSection line) = inr (inl refl)
-deck_fault_settled (deck.BadLine line) = inr (inl refl)
-deck_fault_settled (deck.NoProgram line) = inr (inl refl)
-deck_fault_settled (deck.NoDevice line) = inr (inl refl)
-deck_fault_settled (deck.TooManyEvents line) = inr (inl refl)
-deck_fault_settled (deck.CountTooLarge line) = inr (inl refl)
-deck_fault_settled (deck.Image fault) = inr (inr (inr refl))
-deck_fault_settled (deck.Asm fault) = inr (inr (inl refl))
+deck_fault_settled fault = inr (refusal_is fault)
 
 campaign_fault_settled : (fault : CampaignFault) → IsSettled (study.fault_status fault)
 campaign_fault_settled campaign.NoMemory = inr (inl refl)

@@ -7,11 +7,12 @@ use Rattle.lvdc_text.specs.Transfer.{TookCount, TookAtMost}
 use Rattle.lvdc_port.specs.Device.{Device}
 use Rattle.lvdc_reply.specs.Answer.{Answer}
 use Rattle.lvdc_reply.specs.Replies.{Quiet, IsRefused}
+use Rattle.lvdc_reply.proofs.Statuses.{kept_quiet}
 use Rattle.lvdc_cli.specs.declared.command.Command.{Command}
 use Rattle.lvdc_cli.specs.Words.{command_of, reads, reads_for, limit_of, limit_for}
 use Rattle.lvdc_cli.specs.Commands.{command_answer, input_of, usage_answer, read_fault_answer, too_long_answer, memory_answer, IsReplyTo, IsLeftUnanswered, answer_by, answer, HoldsFor}
 use Rattle.lvdc_cli.specs.Outside.{SourceState, Outside}
-use Rattle.lvdc_cli.specs.Top.{HasRead, IsAbandoned, after_reading, IsDue, usage, read_fault, too_long, replied, wants_memory, IsRefusal}
+use Rattle.lvdc_cli.specs.Top.{HasRead, IsInput, IsAbandoned, after_reading, IsDue, usage, read_fault, too_long, replied, wants_memory, IsRefusal}
 use Rattle.lvdc_cli.proofs.Answered.{reply_answer, reply_quiet, reply_kept, reply_not}
 use Rattle.lvdc_cli.proofs.Inputs.{took_over, took_both, within_limit, took_within, is_input, to_end, answer_small, answer_large}
 
@@ -41,11 +42,6 @@ took_for : (words : List (List ℕ)) (before after : SourceState) (command : Com
     → HasRead command before after bytes → TookAtMost before.left after.left (limit_for (command_of words))
 took_for words before after command bytes asked read =
     at_most_asked before.left after.left words command asked (took_within command before after bytes read)
-
--- the same objects have the same counts
-module _ {B : Type 0} (device_of : B → Device) (faults : B → ℕ) (old new : List B) where
-  kept_quiet : new ≡ old → Quiet device_of faults old new
-  kept_quiet e = subst (λ (devices : List B). Quiet device_of faults old devices) (sym e) (λ port left. refl)
 
 -- the answer is a command's reply
 pub record IsOfCommand {B : Type 0} (device_of : B → Device) (faults : B → ℕ) (words : List (List ℕ)) (before after : Outside B) (due : Answer) : Type 0 where
@@ -188,8 +184,8 @@ module _ {B : Type 0} {device_of : B → Device} {faults : B → ℕ} {words : L
       refused_left n (inr (inr (inr (inr (inr e))))) a b c = absurd (c e)
   due_kept due r (wants_memory s q t w) = absurd (omega (arith, r))
 
-  -- the answer over all bytes that were told
-  pub due_answer : (due : Answer) (bytes : List ℕ) → before.source.left ≡ Some bytes → due.status ≢ 7 → due.status ≢ 9 → due.status ≢ 10
+  -- the answer over the bytes of the input
+  pub due_answer : (due : Answer) (bytes : List ℕ) → IsInput words before.source.left bytes → due.status ≢ 7 → due.status ≢ 9 → due.status ≢ 10
       → IsDue device_of faults words before after due → due ≡ answer words bytes (map device_of before.devices)
   due_answer due bytes told a b c (usage none source devices) =
       ap (λ (ds : List B). usage_answer (map device_of ds)) devices
@@ -197,9 +193,9 @@ module _ {B : Type 0} {device_of : B → Device} {faults : B → ℕ} {words : L
   due_answer due bytes told a b c (read_fault s r t k) = absurd (a refl)
   due_answer due bytes told a b c (too_long s q t k) =
       ap (λ (ds : List B). too_long_answer (map device_of ds)) k
-      ∙ sym (answer_large (command_of words) bytes (map device_of before.devices) s (took_over (limit_for (command_of words)) before.source.left after.source.left bytes told t))
+      ∙ sym (answer_large (command_of words) bytes (map device_of before.devices) s (took_over (limit_for (command_of words)) before.source.left after.source.left bytes (told s) t))
   due_answer due bytes told a b c (replied command taken reply asked quiet read is holds) =
-      let same : taken ≡ input_of command bytes = is_input command before.source after.source taken read bytes told in
+      let same : taken ≡ input_of command bytes = is_input command before.source after.source taken read bytes (λ r. told (ap reads asked ∙ r)) in
       reply_answer reply c is ∙ ap (λ (xs : List ℕ). command_answer command xs (map device_of before.devices)) same
       ∙ sym (answer_small command bytes (map device_of before.devices) (omega (arith, ap length same, within_limit command before.source after.source taken read)))
       ∙ ap (λ (o : Option Command). answer_by o bytes (map device_of before.devices)) (sym asked)

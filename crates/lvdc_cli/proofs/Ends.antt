@@ -21,7 +21,7 @@ use Rattle.lvdc_cli.specs.Words.{command_of, reads, limit_for}
 use Rattle.lvdc_cli.specs.Texts.{usage_text, read_fault_text, too_long_text}
 use Rattle.lvdc_cli.specs.Commands.{FailsInCommand, input_of, RunsThat, Has, IsReplyTo, HoldsFor, answer}
 use Rattle.lvdc_cli.specs.Outside.{SourceState, SinkState, Outside, outside}
-use Rattle.lvdc_cli.specs.Top.{HasRead, IsDue, IsTold, told, cut, IsEnd, IsReplied, CarriesHeadline, IsCut, IsAbandoned, HasFailed, IsUnhindered, IsOfReply, IsRefusal}
+use Rattle.lvdc_cli.specs.Top.{HasRead, IsInput, IsDue, IsTold, told, cut, IsEnd, IsReplied, CarriesHeadline, IsCut, IsAbandoned, HasFailed, IsUnhindered, IsOfReply, IsRefusal}
 use Rattle.lvdc_cli.proofs.Answered.{reply_failed}
 use Rattle.lvdc_cli.proofs.Commands.{StatusSays, RunSays, HeadlineTold, reply_headline, reply_runs}
 use Rattle.lvdc_cli.proofs.Inputs.{keeps_nothing, is_input, answer_is}
@@ -146,7 +146,7 @@ module _ {B : Type 0} {device_of : B → Device} {faults : B → ℕ} {words : L
       let w = whole (λ x. omega (arith, r)) e in
       due_kept e.due (subst (λ (n : ℕ). IsRefusal n) w.status_is r) e.is_due
 
-  pub end_answer : (bytes : List ℕ) → before.source.left ≡ Some bytes → IsUnhindered result → IsEnd device_of faults words before after result
+  pub end_answer : (bytes : List ℕ) → IsInput words before.source.left bytes → IsUnhindered result → IsEnd device_of faults words before after result
       → (result ≡ (answer words bytes (map device_of before.devices)).status)
       × Appends before.sink.written after.sink.written (answer words bytes (map device_of before.devices)).text
       × (map device_of after.devices ≡ (answer words bytes (map device_of before.devices)).devices)
@@ -200,14 +200,14 @@ module _ {B : Type 0} {device_of : B → Device} {faults : B → ℕ} {words : L
         headline = λ deck means. reply_headline r.command r.bytes law (answer_with result r.text (map device_of after.devices)) u.no_device_fault r.reply deck is means;
       }
 
-  -- ---- statuses of runs, where the bytes are told
+  -- ---- statuses of runs, where the input is known
 
   -- what is so of the bytes that were read is so of what the command reads of those that are told
-  of_input : (P : List ℕ → Type 0) (r : IsReplied device_of faults words before after result) (bytes : List ℕ) → before.source.left ≡ Some bytes → P r.bytes
+  of_input : (P : List ℕ → Type 0) (r : IsReplied device_of faults words before after result) (bytes : List ℕ) → IsInput words before.source.left bytes → P r.bytes
       → P (input_of r.command bytes)
-  of_input P r bytes h p = subst P (is_input r.command before.source after.source r.bytes r.read bytes h) p
+  of_input P r bytes h p = subst P (is_input r.command before.source after.source r.bytes r.read bytes (λ x. h (ap reads r.asked ∙ x))) p
 
-  pub end_has : (P : Job → Trial → ℕ → Type 0) (Q : Option Outcome → Type 0) (n : ℕ) → (n ≡ 5) ⊎ (n ≡ 6) → StatusSays P Q n → (bytes : List ℕ) → before.source.left ≡ Some bytes → result ≡ n
+  pub end_has : (P : Job → Trial → ℕ → Type 0) (Q : Option Outcome → Type 0) (n : ℕ) → (n ≡ 5) ⊎ (n ≡ 6) → StatusSays P Q n → (bytes : List ℕ) → IsInput words before.source.left bytes → result ≡ n
       → IsEnd device_of faults words before after result → Has P Q (command_of words) bytes (map device_of before.devices)
   end_has P Q n s law bytes h is e =
       let r = end_replied (of_run n (elim s [ inl x ↦ inl x | inr x ↦ inr (inl x) ]) is) e in
@@ -216,14 +216,14 @@ module _ {B : Type 0} {device_of : B → Device} {faults : B → ℕ} {words : L
       (reply_runs r.command r.bytes P Q n s law (answer_with result r.text (map device_of after.devices)) is r.reply) in
       subst (λ (o : Option Command). Has P Q o bytes (map device_of before.devices)) (sym r.asked) runs
 
-  pub end_is : (P : Job → Trial → ℕ → Type 0) (Q : Option Outcome → Type 0) (n : ℕ) → RunSays P Q n → (bytes : List ℕ) → before.source.left ≡ Some bytes
+  pub end_is : (P : Job → Trial → ℕ → Type 0) (Q : Option Outcome → Type 0) (n : ℕ) → RunSays P Q n → (bytes : List ℕ) → IsInput words before.source.left bytes
       → length bytes ≤ limit_for (command_of words)
       → IsUnhindered result → Has P Q (command_of words) bytes (map device_of before.devices) → IsEnd device_of faults words before after result → result ≡ n
   end_is P Q n law bytes h l u has e =
       let all = end_answer bytes h u e in
       all.0 ∙ answer_is P Q n law (command_of words) bytes (map device_of before.devices) l has
 
-  pub end_failed : (bytes : List ℕ) → before.source.left ≡ Some bytes → result ≡ 10 → IsEnd device_of faults words before after result
+  pub end_failed : (bytes : List ℕ) → IsInput words before.source.left bytes → result ≡ 10 → IsEnd device_of faults words before after result
       → HasFailed device_of faults words bytes before after
   end_failed bytes h is e =
       let r = end_replied (of_run 10 (inr (inr refl)) is) e in

@@ -64,8 +64,8 @@ module _ (limit : ℕ) (before after : SourceState) (taken : List ℕ) where
   read_took false h =
       subst (λ (s : SourceState). TookAtMost before.left s.left limit) (sym h.0) ([], took_nothing before.left, omega arith)
 
-  read_bytes : (b : Bool) (bytes : List ℕ) → before.left ≡ Some bytes → HasReadUpTo b limit before after taken → taken ≡ (if b then bytes else [])
-  read_bytes true bytes told h = taken_whole before.left after.left bytes taken told h.0 h.1
+  read_bytes : (b : Bool) (bytes : List ℕ) → (b ≡ true → before.left ≡ Some bytes) → HasReadUpTo b limit before after taken → taken ≡ (if b then bytes else [])
+  read_bytes true bytes told h = taken_whole before.left after.left bytes taken (told refl) h.0 h.1
   read_bytes false bytes told h = h.1
 
   read_end : (b : Bool) → b ≡ true → HasReadUpTo b limit before after taken → IsAtEnd after.left
@@ -79,7 +79,7 @@ module _ (command : Command) (before after : SourceState) (taken : List ℕ) (re
   pub took_within : TookAtMost before.left after.left (limit_of command)
   took_within = read_took (limit_of command) before after taken (reads_for command) read
 
-  pub is_input : (bytes : List ℕ) → before.left ≡ Some bytes → taken ≡ input_of command bytes
+  pub is_input : (bytes : List ℕ) → (reads_for command ≡ true → before.left ≡ Some bytes) → taken ≡ input_of command bytes
   is_input bytes told = read_bytes (limit_of command) before after taken (reads_for command) bytes told read
 
   pub to_end : reads_for command ≡ true → IsAtEnd after.left

@@ -1,12 +1,16 @@
 -- Worked command lines.
-use Rattle.std.proofs.Common.{◌≡◌, List, [], ◌∷◌, refl}
+use Rattle.std.proofs.Common.{◌≡◌, false, List, [], ◌∷◌, refl}
 use Rattle.std.specs.Prelude.{codes}
 use Rattle.std.specs.declared.option.Option.TheVariants.{None, Some}
 use Rattle.lvdc_run.specs.declared.job.Engine.TheVariants.{Guarded, Through, Plain}
 use Rattle.lvdc_assemble.specs.declared.reply.Product.TheVariants.{Image, Listing}
 use Rattle.lvdc_expand.specs.declared.reply.Form.TheVariants as form
 use Rattle.lvdc_cli.specs.declared.command.Command.TheVariants.{Run, Soak, Assemble, Debug, Save, Resume, Campaign, Uplink, Expand}
-use Rattle.lvdc_cli.specs.Words.{soak_number, times_of, command_of}
+use Rattle.lvdc_reply.specs.Answer.{answer_with}
+use Rattle.lvdc_cli.specs.declared.due.Due.TheVariants.{ReadFault, TooLong, NoMemory}
+use Rattle.lvdc_cli.specs.Commands.{answer, room_for}
+use Rattle.lvdc_cli.specs.Telling.{due_status, due_text}
+use Rattle.lvdc_cli.specs.Words.{soak_number, times_of, command_of, reads, limit_for}
 
 run_alone : command_of (codes "run" ∷ []) ≡ Some (Run Guarded)
 run_alone = refl
@@ -77,3 +81,20 @@ save_too_long = refl
 
 save_without_number : command_of (codes "save" ∷ []) ≡ None
 save_without_number = refl
+
+-- words that are no command are answered with the usage text, whatever the bytes
+usage_told : answer (codes "fast" ∷ []) (65 ∷ []) [] ≡ answer_with 1 (codes "usage: lvdc run [--plain | --through]\n       lvdc asm [--image]\n       lvdc debug\n       lvdc soak NUMBER\n       lvdc save NUMBER\n       lvdc resume\n       lvdc campaign\n       lvdc uplink\n       lvdc macro [--image]\n") []
+usage_told = refl
+
+-- what a read fault, an input too long and a want of memory are told by
+other_texts : (due_status ReadFault ≡ 7) × (due_text ReadFault ≡ codes "REFUSED ReadFault\n") × (due_status TooLong ≡ 11)
+    × (due_text TooLong ≡ codes "REFUSED TooLong\n") × (due_status NoMemory ≡ 9) × (due_text NoMemory ≡ [])
+other_texts = (refl, refl, refl, refl, refl, refl)
+
+-- how much is read
+limits : (limit_for (Some (Run Guarded)) ≡ 1048576) × (limit_for (Some Resume) ≡ 134217728) × (reads (Some (Soak 1)) ≡ false) × (reads None ≡ false)
+limits = (refl, refl, refl, refl)
+
+-- and how long a text is at most
+rooms : (room_for None ≡ 134217728) × (room_for (Some Debug) ≡ 536870912) × (room_for (Some Resume) ≡ 268435456)
+rooms = (refl, refl, refl)

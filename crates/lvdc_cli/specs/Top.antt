@@ -32,6 +32,10 @@ HasReadUpTo false limit before after bytes = (after ≡ before) × (bytes ≡ []
 abbrev pub HasRead : Command → SourceState → SourceState → List ℕ → Type 0
 HasRead command before after bytes = HasReadUpTo (reads_for command) (limit_of command) before after bytes
 
+-- these bytes are what the source has left, where the words are a command that reads; for one that doesn't any bytes will do
+abbrev pub IsInput : List (List ℕ) → Option (List ℕ) → List ℕ → Type 0
+IsInput words left bytes = reads (command_of words) ≡ true → left ≡ Some bytes
+
 -- ---- what is due
 
 -- What a want of memory leaves of the devices: it came while the bytes were read, and then they are the same objects as before;

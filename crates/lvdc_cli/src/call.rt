@@ -13,7 +13,7 @@ ghost use Rattle.lvdc_cli.specs.Words.{texts, command_of, reads, limit_for};
 ghost use Rattle.lvdc_cli.specs.Texts.{usage_text, read_fault_text, too_long_text};
 ghost use Rattle.lvdc_cli.specs.Commands.{answer, Has, room_for};
 ghost use Rattle.lvdc_cli.specs.Outside.{sink_state, outside_of};
-ghost use Rattle.lvdc_cli.specs.Top.{IsAbandoned, IsEnd, IsTold, IsReplied, CarriesHeadline, IsCut, HasFailed, IsUnhindered, IsOfReply, IsRefusal};
+ghost use Rattle.lvdc_cli.specs.Top.{IsInput, IsAbandoned, IsEnd, IsTold, IsReplied, CarriesHeadline, IsCut, HasFailed, IsUnhindered, IsOfReply, IsRefusal};
 
 use crate::due::due_of;
 use lvdc_port::PortDevice;
@@ -61,8 +61,9 @@ pub fn lvdc<S: Source, K: Sink>(
         let outside = outside_of S.left S.read_faults K.written K.write_faults K.room in
         CarriesHeadline device_of (outside source.old sink.old devices.old.items) (outside source.new sink.new devices.new.items) result }
 
-    // Where the bytes of the source are told, and nothing fails: status, text and devices are those of the definition.
-    ensures answer { (bytes : List ℕ) → S.left source.old ≡ Some bytes → IsUnhindered result →
+    // Where the bytes of the source are told, or the command reads none, and nothing fails: status, text and devices are those of the
+    // definition.
+    ensures answer { (bytes : List ℕ) → IsInput (texts words.now) (S.left source.old) bytes → IsUnhindered result →
         (result ≡ (answer (texts words.now) bytes (map device_of devices.old.items)).status)
         × Appends (K.written sink.old) (K.written sink.new) (answer (texts words.now) bytes (map device_of devices.old.items)).text
         × (map device_of devices.new.items ≡ (answer (texts words.now) bytes (map device_of devices.old.items)).devices) }
@@ -78,15 +79,15 @@ pub fn lvdc<S: Source, K: Sink>(
         → IsAtEnd (S.left source.new) }
 
     // 5: exactly where the command judges the script, and finds a step that isn't admissible.
-    ensures inadmissible { (bytes : List ℕ) → S.left source.old ≡ Some bytes → result ≡ 5
+    ensures inadmissible { (bytes : List ℕ) → IsInput (texts words.now) (S.left source.old) bytes → result ≡ 5
         → Has Judges IsInadmissible (command_of (texts words.now)) bytes (map device_of devices.old.items) }
-    ensures inadmissible_always { (bytes : List ℕ) → S.left source.old ≡ Some bytes → length bytes ≤ limit_for (command_of (texts words.now)) → IsUnhindered result
+    ensures inadmissible_always { (bytes : List ℕ) → IsInput (texts words.now) (S.left source.old) bytes → length bytes ≤ limit_for (command_of (texts words.now)) → IsUnhindered result
         → Has Judges IsInadmissible (command_of (texts words.now)) bytes (map device_of devices.old.items) → result ≡ 5 }
 
     // 6: exactly where the command's run stops, which for a command that judges is one without such a step.
-    ensures stopped { (bytes : List ℕ) → S.left source.old ≡ Some bytes → result ≡ 6
+    ensures stopped { (bytes : List ℕ) → IsInput (texts words.now) (S.left source.old) bytes → result ≡ 6
         → Has Stops IsStop (command_of (texts words.now)) bytes (map device_of devices.old.items) }
-    ensures stopped_always { (bytes : List ℕ) → S.left source.old ≡ Some bytes → length bytes ≤ limit_for (command_of (texts words.now)) → IsUnhindered result
+    ensures stopped_always { (bytes : List ℕ) → IsInput (texts words.now) (S.left source.old) bytes → length bytes ≤ limit_for (command_of (texts words.now)) → IsUnhindered result
         → Has Stops IsStop (command_of (texts words.now)) bytes (map device_of devices.old.items) → result ≡ 6 }
 
     // 7: only where the source's count rose, and always where it grew.
@@ -112,7 +113,7 @@ pub fn lvdc<S: Source, K: Sink>(
 
     // 10: only where the count of the device that is named rose, in the exchange of the step that is named; and always where
     // the count of a device that is left grew, but for 8 and 9.
-    ensures device_fault { (bytes : List ℕ) → S.left source.old ≡ Some bytes → result ≡ 10 →
+    ensures device_fault { (bytes : List ℕ) → IsInput (texts words.now) (S.left source.old) bytes → result ≡ 10 →
         let outside = outside_of S.left S.read_faults K.written K.write_faults K.room in
         HasFailed device_of faults (texts words.now) bytes (outside source.old sink.old devices.old.items) (outside source.new sink.new devices.new.items) }
     ensures device_fault_always { (result ≢ 8) → (result ≢ 9) → (result ≢ 10) → Quiet device_of faults devices.old.items devices.new.items }
