@@ -10,7 +10,7 @@ use Rattle.lvdc_fault.specs.declared.verdict.Verdict.TheVariants.{Admissible, Lo
 use Rattle.lvdc_phases.specs.Standing.{Standing}
 use Rattle.lvdc_phases.specs.States.{ShowsRegisters}
 use Rattle.lvdc_model.specs.declared.outcome.Outcome.{Outcome}
-use Rattle.lvdc_model.specs.Exchanges.{prepared}
+use Rattle.lvdc_model.specs.Exchanges.{begin_step}
 use Rattle.lvdc_model.specs.Judging.{judged, is_begun, or_else, first_bad, first_bad_below}
 use Rattle.lvdc_model.specs.Runs.{through_by, through_step, through, judged_by, guarded_by, guarded_step, guarded}
 use Rattle.lvdc_model.specs.Trial.{Trial, plain_at}
@@ -43,7 +43,7 @@ admitted-step : (o : Trial) (v : Voted) (n : ℕ) → v.end ≡ None → v.steps
 admitted-step o v n going steps good =
     let verdict : judged o v.steps ≡ Admissible = ap (judged o) steps ∙ good in
     ap (λ (e : Option Outcome). through_by e o v) going
-    ∙ sym (ap (λ (w : Verdict). judged_by w o (prepared o v)) verdict)
+    ∙ sym (ap (λ (w : Verdict). judged_by w o (begin_step o v)) verdict)
     ∙ sym (ap (λ (e : Option Outcome). guarded_by e o v) going)
 
 -- after an end nothing changes

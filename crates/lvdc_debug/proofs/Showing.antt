@@ -4,7 +4,7 @@ use Rattle.std.specs.Prelude.{nat_lt}
 use Rattle.std.specs.declared.option.Option.{Option}
 use Rattle.std.proofs.lemmas.Bool.Decides.{nat_tests}
 use Rattle.lvdc_port.specs.Device as device
-use Rattle.lvdc_model.specs.Exchanges.{prepared, ended}
+use Rattle.lvdc_model.specs.Exchanges.{begin_step, with_end}
 use Rattle.lvdc_model.specs.Runs.{guarded, alone}
 use Rattle.lvdc_model.specs.Trial.{Trial}
 use Rattle.lvdc_model.specs.Voted.{Voted}
@@ -35,7 +35,7 @@ by_end o times steps (Some (Inadmissible verdict)) same ends = same (3 * times)
 by_end o times steps (Some (Device step port)) same ends =
     let e = ends.early in
     let early : nat_lt step (3 * times) ≡ true = grind (arith, nat_tests) in
-    rw early (ap (λ (v : Voted). ended (prepared o v) (Device step port)) (same step))
+    rw early (ap (λ (v : Voted). with_end (begin_step o v) (Device step port)) (same step))
 
 pub state_shown : (o : Trial) (times : ℕ) (m : View) (ds : List device.Device) → ((k : ℕ) → alone o k ≡ guarded o k) → m.mode ≡ Guarded
     → Stands o (3 * times) m ds → state_by m.end m.mode o (3 * times) ≡ state_after (failure_of m.end) o times

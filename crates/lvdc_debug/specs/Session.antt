@@ -14,7 +14,7 @@ use Rattle.lvdc_modules.specs.States.{latches_of}
 use Rattle.lvdc_plain.specs.declared.records.Visible.{Visible}
 use Rattle.lvdc_model.specs.declared.outcome.Outcome.{Outcome}
 use Rattle.lvdc_model.specs.declared.outcome.Outcome.TheVariants.{Device}
-use Rattle.lvdc_model.specs.Exchanges.{prepared, ended}
+use Rattle.lvdc_model.specs.Exchanges.{begin_step, with_end}
 use Rattle.lvdc_model.specs.Runs.{guarded}
 use Rattle.lvdc_model.specs.Trial.{Trial}
 use Rattle.lvdc_model.specs.Voted.{Voted}
@@ -44,7 +44,7 @@ pub record Failure : Type 0 where
 abbrev pub state_after : Option Failure → Trial → ℕ → Voted
 state_after None o times = guarded o (3 * times)
 state_after (Some f) o times =
-    if nat_lt f.step (3 * times) then ended (prepared o (guarded o f.step)) (Device f.step f.port) else guarded o (3 * times)
+    if nat_lt f.step (3 * times) then with_end (begin_step o (guarded o f.step)) (Device f.step f.port) else guarded o (3 * times)
 
 -- a trial, its state after so many times, and how many times it may make
 pub record Subject : Type 0 where

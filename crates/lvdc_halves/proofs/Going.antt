@@ -13,7 +13,7 @@ use Rattle.lvdc_modules.specs.declared.wanted.Wanted.TheVariants.{Nothing, Fetch
 use Rattle.lvdc_fault.specs.declared.verdict.Verdict.{Verdict}
 use Rattle.lvdc_fault.specs.declared.verdict.Verdict.TheVariants.{Admissible, Logic, Memory}
 use Rattle.lvdc_plain.specs.Run.{plugged}
-use Rattle.lvdc_model.specs.Exchanges.{prepared, exchanges, reading, wished}
+use Rattle.lvdc_model.specs.Exchanges.{begin_step, exchanges, reading, wished}
 use Rattle.lvdc_model.specs.Judging.{judged}
 use Rattle.lvdc_model.specs.Runs.{guarded, guarded_by, judged_by}
 use Rattle.lvdc_model.specs.Trial.{Trial, devices_left}
@@ -99,7 +99,7 @@ module _ (o : Trial) (first : List device.Device) where
       let same : begun n ≡ begun (suc n) = omega (arith, part) in
       subst (λ (t : ℕ). AreOf (left_before o.opening.unplugs t first) ds) same h
 
-  prepared-goes : (n : ℕ) (v : Voted) → Goes o first n (begun n) v → Goes o first n (begun (suc n)) (prepared o v)
+  prepared-goes : (n : ℕ) (v : Voted) → Goes o first n (begun n) v → Goes o first n (begun (suc n)) (begin_step o v)
   prepared-goes n v h =
       record {
         steps = h.steps;
@@ -110,7 +110,7 @@ module _ (o : Trial) (first : List device.Device) where
   step-goes : (end : Option Outcome) (n : ℕ) (v : Voted) → v.end ≡ end → (guarded_by end o v).end ≡ None → (v.end ≡ None → Goes o first n (begun n) v)
       → Goes o first (suc n) (begun (suc n)) (guarded_by end o v)
   step-goes (Some e) n v is none h = absurd (cc (is, none))
-  step-goes None n v is none h = judged-goes (judged o v.steps) n (begun (suc n)) (prepared o v) none (prepared-goes n v (h is))
+  step-goes None n v is none h = judged-goes (judged o v.steps) n (begun (suc n)) (begin_step o v) none (prepared-goes n v (h is))
 
 -- ---- the run
 

@@ -32,7 +32,7 @@ use Rattle.lvdc_phases.specs.States.{after_phase, third_phase, ShowsRegisters}
 use Rattle.lvdc_model.specs.declared.outcome.Outcome.TheVariants as outcomes
 use Rattle.lvdc_model.specs.Trial.{Trial, plain_at, plain_in, read_in_phase, read_at, plugged_in}
 use Rattle.lvdc_model.specs.Voted.{Voted}
-use Rattle.lvdc_model.specs.Exchanges.{prepared, stop_of, exchanges, wished, voted_step}
+use Rattle.lvdc_model.specs.Exchanges.{begin_step, stop_of, exchanges, wished, voted_step}
 use Rattle.lvdc_laws.specs.Copies.{Agree, wrong_before}
 use Rattle.lvdc_laws.specs.Leaves.{memory_after, devices_after, log_after, Leaves}
 use Rattle.lvdc_laws.specs.Laws.{DeviceWords, BankLaw, StepLaws}
@@ -50,7 +50,7 @@ unplugged_by zero o v e = ap (plugged o.opening.unplugs (v.steps / 3)) e
 unplugged_by (suc n) o v e = let more : (suc n == 0) ≡ false = ne_eqb (suc n) 0 (λ h. omega arith) in rw more e
 
 -- the devices are those of the plain run, less those of its time
-pub unplugged : (o : Trial) (v : Voted) → v.devices ≡ devices_in o v.steps → (prepared o v).devices ≡ plugged_in o v.steps
+pub unplugged : (o : Trial) (v : Voted) → v.devices ≡ devices_in o v.steps → (begin_step o v).devices ≡ plugged_in o v.steps
 unplugged o v e = unplugged_by (v.steps % 3) o v e
 
 -- devices that are left hold words
@@ -63,7 +63,7 @@ left-words law (line ∷ lines) time devices h = left-words law lines time _ (by
     by_time false = h
 
 -- they hold words
-prepared-words : DeviceWords → (o : Trial) (v : Voted) → HoldWords v.devices → HoldWords (prepared o v).devices
+prepared-words : DeviceWords → (o : Trial) (v : Voted) → HoldWords v.devices → HoldWords (begin_step o v).devices
 prepared-words law o v h = by_phase (v.steps % 3 == 0)
   where
     by_phase : (b : Bool) → HoldWords (cond b (plugged o.opening.unplugs (v.steps / 3) v.devices) v.devices)
@@ -72,7 +72,7 @@ prepared-words law o v h = by_phase (v.steps % 3 == 0)
 
 -- the votes wish for the exchange of the plain run
 pub wished-plain : (Stands : ℕ → List (List ℕ) → PlainState → Type 0) (o : Trial) (v : Voted) → StepLaws Stands → (k : Kept Stands o v.steps v)
-    → wished o (prepared o v) ≡ exchange_in (v.steps % 3) (plain_in o v.steps)
+    → wished o (begin_step o v) ≡ exchange_in (v.steps % 3) (plain_in o v.steps)
 wished-plain Stands o v law k =
     ap (λ (s : List (List ℕ)). wish (bus_of s 0 0) o.opening.banks) (law.votes (wrong_before o.script v.steps) 1 v.copies k.states k.shows.agree)
     ∙ ap (wish (bus_of k.states 0 0)) (sym (banks-stay law.ports o.opening (v.steps / 3)))
@@ -117,7 +117,7 @@ bank-read Stands o v law k =
     (read-bank law.banks (v.steps % 3) (plain_in o v.steps) (law.phases.words (v.steps % 3) k.states (plain_in o v.steps) k.stands).place)
 
 is_ready : (Stands : ℕ → List (List ℕ) → PlainState → Type 0) (o : Trial) (v : Voted) → StepLaws Stands → (k : Kept Stands o v.steps v) → Judged o v.steps
-    → Ready o (prepared o v) k.states
+    → Ready o (begin_step o v) k.states
 is_ready Stands o v law k j =
     record {
       fits = law.phases.fits (v.steps % 3) k.states (plain_in o v.steps) k.stands;
@@ -136,7 +136,7 @@ word_fits p (Some at) ok = ok.words at
 
 -- a read step in which the states go on to stand for the same plain state
 kept-read : (Stands : ℕ → List (List ℕ) → PlainState → Type 0) (o : Trial) (v next : Voted) (r : Option Spot) (n : ℕ) → StepLaws Stands → (k : Kept Stands o v.steps v)
-    → AfterRead o (prepared o v) k.states r next → suc v.steps / 3 ≡ v.steps / 3 → suc v.steps % 3 ≡ suc n
+    → AfterRead o (begin_step o v) k.states r next → suc v.steps / 3 ≡ v.steps / 3 → suc v.steps % 3 ≡ suc n
     → Stands (suc n) (after_phase k.states (word_read (plain_in o v.steps) r) 0) (plain_in o v.steps)
     → Follows Stands o (suc v.steps) next
 kept-read Stands o v next r n law k a same later stands =
@@ -164,7 +164,7 @@ stop-ends stops.Exm t h = refl
 stop-ends (stops.Memory at) t h = absurd h
 
 kept-made : (Stands : ℕ → List (List ℕ) → PlainState → Type 0) (o : Trial) (v next : Voted) (stop : Option Stop) → StepLaws Stands → (k : Kept Stands o v.steps v)
-    → AfterMade o (prepared o v) k.states (made (plain_in o v.steps).stop (plain_in o v.steps).hold (plain_in o v.steps)) next
+    → AfterMade o (begin_step o v) k.states (made (plain_in o v.steps).stop (plain_in o v.steps).hold (plain_in o v.steps)) next
     → suc v.steps / 3 ≡ suc (v.steps / 3) → suc v.steps % 3 ≡ 0 → Stands 2 k.states (plain_in o v.steps)
     → (step (plain_in o v.steps) (plugged_in o v.steps)).plain.stop ≡ stop
     → Follows Stands o (suc v.steps) next
@@ -188,7 +188,7 @@ kept-made Stands o v next stop law k a later first stands = by_stop stop
     world : run o.opening (suc v.steps / 3) ≡ step p devices
     world = ap (run o.opening) later ∙ next-world law.ports o.opening (v.steps / 3) k.running
 
-    plugged_is : (prepared o v).devices ≡ devices
+    plugged_is : (begin_step o v).devices ≡ devices
     plugged_is = unplugged o v k.matches.devices
 
     few : length next.repairs ≤ suc v.steps - suc v.steps / 3
@@ -198,7 +198,7 @@ kept-made Stands o v next stop law k a later first stands = by_stop stop
     matches = record {
       stores = a.stores;
       intended = a.intended ∙ ap (memory_after w) k.matches.intended ∙ sym leaves.memory ∙ sym (ap (λ (x : World). x.plain.memory) world);
-      log = a.log ∙ ap (λ (l : List Exchange). log_after w l (prepared o v).devices (v.steps / 3)) k.matches.log
+      log = a.log ∙ ap (λ (l : List Exchange). log_after w l (begin_step o v).devices (v.steps / 3)) k.matches.log
           ∙ ap (λ (d : List Device). log_after w p.log d (v.steps / 3)) plugged_is
           ∙ sym (ap (log_after w p.log devices) times) ∙ sym leaves.log ∙ sym (ap (λ (x : World). x.plain.log) world);
       devices = a.devices ∙ ap (devices_after w) plugged_is ∙ sym leaves.devices ∙ sym (ap (λ (x : World). x.devices) world) ∙ rw first refl;
@@ -211,7 +211,7 @@ kept-made Stands o v next stop law k a later first stands = by_stop stop
     ports : PortsFit devices (device_time p)
     ports port = law.devices.answer (requests.Read port) (device_time p) devices had_words (omega arith)
 
-    answer : port_answer w (prepared o v).devices (v.steps / 3 % 2 ^ 26) ≡ port_answer w devices (device_time p)
+    answer : port_answer w (begin_step o v).devices (v.steps / 3 % 2 ^ 26) ≡ port_answer w devices (device_time p)
     answer = ap (λ (d : List Device). port_answer w d (v.steps / 3 % 2 ^ 26)) plugged_is ∙ sym (ap (λ (t : ℕ). port_answer w devices (t % 2 ^ 26)) times)
 
     new : List (List ℕ)
@@ -265,30 +265,30 @@ kept-made Stands o v next stop law k a later first stands = by_stop stop
 -- ---- one step
 
 step_in : (Stands : ℕ → List (List ℕ) → PlainState → Type 0) (o : Trial) (v : Voted) (n : ℕ) → StepLaws Stands → (k : Kept Stands o v.steps v) → Judged o v.steps
-    → v.steps % 3 ≡ n → Follows Stands o (suc v.steps) (exchanges o (prepared o v) (exchange_in n (plain_in o v.steps)))
+    → v.steps % 3 ≡ n → Follows Stands o (suc v.steps) (exchanges o (begin_step o v) (exchange_in n (plain_in o v.steps)))
 step_in Stands o v zero law k j e =
     let p = plain_in o v.steps in
     let stands : Stands 0 k.states p = rw e at k.stands in
     kept-read Stands o v _ (fetched p) 0 law k
-    (after-fetch law o (prepared o v) k.states (fetched p) (is_ready Stands o v law k j) (rw e refl) (rw e refl))
+    (after-fetch law o (begin_step o v) k.states (fetched p) (is_ready Stands o v law k j) (rw e refl) (rw e refl))
     (omega arith) (omega arith)
     (law.phases.first k.states p k.running (word_fits p (fetched p) (law.phases.words 0 k.states p stands)) stands)
 step_in Stands o v (suc zero) law k j e =
     let p = plain_in o v.steps in
     let stands : Stands 1 k.states p = rw e at k.stands in
     kept-read Stands o v _ (operand p) 1 law k
-    (after-operand law o (prepared o v) k.states (operand p) (is_ready Stands o v law k j) (rw e refl) (rw e refl))
+    (after-operand law o (begin_step o v) k.states (operand p) (is_ready Stands o v law k j) (rw e refl) (rw e refl))
     (omega arith) (omega arith)
     (law.phases.second k.states p k.running (word_fits p (operand p) (law.phases.words 1 k.states p stands)) stands)
 step_in Stands o v (suc (suc zero)) law k j e =
     let p = plain_in o v.steps in
     kept-made Stands o v _ (step p (plugged_in o v.steps)).plain.stop law k
-    (after-made law o (prepared o v) k.states (made p.stop p.hold p) (is_ready Stands o v law k j) (made-reads_none p.stop p.hold p) (rw e refl) (rw e (made-store p.stop p.hold p)))
+    (after-made law o (begin_step o v) k.states (made p.stop p.hold p) (is_ready Stands o v law k j) (made-reads_none p.stop p.hold p) (rw e refl) (rw e (made-store p.stop p.hold p)))
     (omega arith) (omega arith) (rw e at k.stands) refl
 step_in Stands o v (suc (suc (suc n))) law k j e = absurd (omega arith)
 
 pub one-step : (Stands : ℕ → List (List ℕ) → PlainState → Type 0) (o : Trial) (v : Voted) → StepLaws Stands → Kept Stands o v.steps v → Judged o v.steps
-    → Follows Stands o (suc v.steps) (voted_step o (prepared o v))
+    → Follows Stands o (suc v.steps) (voted_step o (begin_step o v))
 one-step Stands o v law k j =
-    subst (λ (w : Wanted). Follows Stands o (suc v.steps) (exchanges o (prepared o v) w)) (sym (wished-plain Stands o v law k))
+    subst (λ (w : Wanted). Follows Stands o (suc v.steps) (exchanges o (begin_step o v) w)) (sym (wished-plain Stands o v law k))
     (step_in Stands o v (v.steps % 3) law k j refl)

@@ -19,7 +19,7 @@ use Rattle.lvdc_model.specs.CellsBefore.{cell_before, damaged_at, shown_with}
 use Rattle.lvdc_model.specs.Twins.{Twins, cell_at, shows}
 use Rattle.lvdc_model.specs.Voted.{Voted}
 use Rattle.lvdc_model.specs.Judging.{first_bad_below, is_recoverable, is_recoverable_after}
-use Rattle.lvdc_model.specs.Exchanges.{prepared, ended}
+use Rattle.lvdc_model.specs.Exchanges.{begin_step, with_end}
 use Rattle.lvdc_model.specs.Runs.{guarded}
 use Rattle.lvdc_model.specs.Known.{last_made, last_begun, shows_since, is_known}
 use Rattle.lvdc_laws.specs.Laws.{HoldersLaw, StepLaws}
@@ -89,7 +89,7 @@ guarded-known Stands law o opens n h at bank = known-follows law.holders o n (gu
 
 -- at an end that came where a step was begun
 pub known-begun : HoldersLaw → (o : Trial) (n : ℕ) (v : Voted) (e : Outcome) (at : Spot) → HasBank o.opening.banks at → IsBegun o n v → last_begun (Some e) n ≡ Some n
-    → is_known o (ended v e) at ≡ is_recoverable o n at
+    → is_known o (with_end v e) at ≡ is_recoverable o n at
 known-begun law o n v e at bank b last =
     ap (λ (m : ℕ). is_recovered o.opening.banks at (memory.word_at v.intended at) (λ twin. shows_since (last_begun (Some e) m) o v.twins twin at)) b.steps
     ∙ rw last (shown-begun law o n v at bank b)
@@ -97,7 +97,7 @@ known-begun law o n v e at bank b last =
 pub known-bad : HoldersLaw → (o : Trial) (n : ℕ) (at : Spot) → HasBank o.opening.banks at → EndsAt o n → is_known o (guarded o (suc n)) at ≡ is_recoverable o n at
 known-bad law o n at bank e =
     ap (λ (v : Voted). is_known o v at) e.ends
-    ∙ known-begun law o n (prepared o (guarded o n)) (outcomes.Inadmissible (first_bad_below o (suc n))) at bank e.begun refl
+    ∙ known-begun law o n (begin_step o (guarded o n)) (outcomes.Inadmissible (first_bad_below o (suc n))) at bank e.begun refl
 
 -- ---- the intended words
 

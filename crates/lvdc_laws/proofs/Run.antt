@@ -22,8 +22,8 @@ use Rattle.lvdc_model.specs.CellsBefore.{shown_at, shown_with}
 use Rattle.lvdc_model.specs.Twins.{shows}
 use Rattle.lvdc_model.specs.Voted.{Voted, thrice, voted_start}
 use Rattle.lvdc_model.specs.Judging.{judged, judged_logic, judged_memory, is_begun, or_else, first_bad_below}
-use Rattle.lvdc_model.specs.Exchanges.{prepared, ended, wished, voted_step}
-use Rattle.lvdc_model.specs.Runs.{judged_by, guarded_by, guarded, read_of_wish, found_memory, found_logic, found}
+use Rattle.lvdc_model.specs.Exchanges.{begin_step, with_end, wished, voted_step}
+use Rattle.lvdc_model.specs.Runs.{judged_by, guarded_by, guarded, read_of_wish, own_memory, own_logic, own_verdict}
 use Rattle.lvdc_laws.specs.Copies.{ModuleAgrees, wrong_before}
 use Rattle.lvdc_laws.specs.Cells.{StoresDamaged}
 use Rattle.lvdc_laws.specs.Laws.{HoldersLaw, StepLaws}
@@ -49,7 +49,7 @@ exchange-reads (suc (suc n)) p = made-reads_none p.stop p.hold p
 
 -- what the machine says of an address is what script and plain run say
 found-memory : HoldersLaw → (o : Trial) (v : Voted) (r : Option Spot) → HasBanks o.opening.banks r
-    → StoresDamaged o v.steps v.twins → v.intended ≡ (plain_in o v.steps).memory → found_memory o v r ≡ judged_memory o v.steps r
+    → StoresDamaged o v.steps v.twins → v.intended ≡ (plain_in o v.steps).memory → own_memory o v r ≡ judged_memory o v.steps r
 found-memory law o v None bank h e = refl
 found-memory law o v (Some at) bank h e =
     ap (λ (m : memory.Memory). cond (is_recovered o.opening.banks at (memory.word_at m at) (λ twin. shows o v.steps v.twins twin at)) verdicts.Admissible (verdicts.Memory v.steps at)) e
@@ -59,25 +59,25 @@ found-memory law o v (Some at) bank h e =
 
 -- the verdict that the machine finds is the step's
 pub found-judged : (Stands : ℕ → List (List ℕ) → PlainState → Type 0) (o : Trial) (v : Voted) → StepLaws Stands → Kept Stands o v.steps v
-    → found o (prepared o v) ≡ judged o v.steps
+    → own_verdict o (begin_step o v) ≡ judged o v.steps
 found-judged Stands o v law k = by_logic (wrong_module o.script v.steps)
   where
-    reads : read_of_wish (wished o (prepared o v)) ≡ read_at o v.steps
+    reads : read_of_wish (wished o (begin_step o v)) ≡ read_at o v.steps
     reads = ap read_of_wish (wished-plain Stands o v law k) ∙ exchange-reads (v.steps % 3) (plain_in o v.steps)
 
-    by_logic : (m : Option ℕ) → found_logic o (prepared o v) m ≡ judged_logic o v.steps m
+    by_logic : (m : Option ℕ) → own_logic o (begin_step o v) m ≡ judged_logic o v.steps m
     by_logic (Some m) = refl
     by_logic None =
-        ap (found_memory o (prepared o v)) reads
-        ∙ found-memory law.holders o (prepared o v) (read_at o v.steps) (bank-read Stands o v law k) (law.damage o v.steps v.twins k.matches.stores) k.matches.intended
+        ap (own_memory o (begin_step o v)) reads
+        ∙ found-memory law.holders o (begin_step o v) (read_at o v.steps) (bank-read Stands o v law k) (law.damage o v.steps v.twins k.matches.stores) k.matches.intended
 
 -- ---- a step that is begun
 
 -- a machine that stands before a step begins it as the relation says
 pub begun-at : (Stands : ℕ → List (List ℕ) → PlainState → Type 0) (o : Trial) (n : ℕ) (v : Voted) → StepLaws Stands → v.steps ≡ n → Kept Stands o v.steps v
-    → IsBegun o n (prepared o v)
+    → IsBegun o n (begin_step o v)
 begun-at Stands o n v law e k =
-    subst (λ (m : ℕ). IsBegun o m (prepared o v)) e
+    subst (λ (m : ℕ). IsBegun o m (begin_step o v)) e
     (record {
       steps = refl;
       registers = subst (λ (s : List (List ℕ)). ShowsRegisters s (plain_in o v.steps)) (sym (law.votes (wrong_before o.script v.steps) 1 v.copies k.states k.shows.agree)) k.shows.registers;
@@ -146,7 +146,7 @@ guarded-stays None o v r e = absurd (cc)
 guarded-stays (Some s) o v r e = refl
 
 -- a run that goes on is judged
-guarded-goes : (end : Option Outcome) (o : Trial) (v : Voted) → end ≡ None → guarded_by end o v ≡ judged_by (judged o v.steps) o (prepared o v)
+guarded-goes : (end : Option Outcome) (o : Trial) (v : Voted) → end ≡ None → guarded_by end o v ≡ judged_by (judged o v.steps) o (begin_step o v)
 guarded-goes None o v e = refl
 guarded-goes (Some r) o v e = absurd (cc)
 
@@ -168,10 +168,10 @@ follows Stands o law opens (suc n) h = after (follows Stands o law opens n parts
         let verdict : judged o n ≡ verdicts.Admissible = sym (begun o n k.running) ∙ parts.1 in
         let here : judged o (guarded o n).steps ≡ verdicts.Admissible = ap (judged o) e ∙ verdict in
         let kept = kept-here Stands o n (guarded o n) e k in
-        let next : Follows Stands o (suc (guarded o n).steps) (voted_step o (prepared o (guarded o n))) = one-step Stands o (guarded o n) law kept (admissible o (guarded o n).steps here) in
-        let made : guarded o (suc n) ≡ voted_step o (prepared o (guarded o n)) =
-        guarded-goes (guarded o n).end o (guarded o n) k.going ∙ ap (λ (b : Verdict). judged_by b o (prepared o (guarded o n))) here in
-        subst (λ (v : Voted). Follows Stands o (suc n) v) (sym made) (subst (λ (m : ℕ). Follows Stands o (suc m) (voted_step o (prepared o (guarded o n)))) e next)
+        let next : Follows Stands o (suc (guarded o n).steps) (voted_step o (begin_step o (guarded o n))) = one-step Stands o (guarded o n) law kept (admissible o (guarded o n).steps here) in
+        let made : guarded o (suc n) ≡ voted_step o (begin_step o (guarded o n)) =
+        guarded-goes (guarded o n).end o (guarded o n) k.going ∙ ap (λ (b : Verdict). judged_by b o (begin_step o (guarded o n))) here in
+        subst (λ (v : Voted). Follows Stands o (suc n) v) (sym made) (subst (λ (m : ℕ). Follows Stands o (suc m) (voted_step o (begin_step o (guarded o n)))) e next)
     after (Halts le d) =
         let same : guarded o (suc n) ≡ guarded o n = guarded-stays (guarded o n).end o (guarded o n) _ d.ended in
         subst (λ (v : Voted). Follows Stands o (suc n) v) (sym same) (Halts (omega arith) d)
@@ -189,7 +189,7 @@ pub or_else-first : (a b : Verdict) → a ≡ verdicts.Admissible → or_else a 
 or_else-first a b e = rw e refl
 
 -- a bad verdict ends the run
-judged-ends : (o : Trial) (v : Voted) (b : Verdict) → (b ≡ verdicts.Admissible → ⊥) → judged_by b o v ≡ ended v (outcomes.Inadmissible b)
+judged-ends : (o : Trial) (v : Voted) (b : Verdict) → (b ≡ verdicts.Admissible → ⊥) → judged_by b o v ≡ with_end v (outcomes.Inadmissible b)
 judged-ends o v verdicts.Admissible bad = absurd (bad refl)
 judged-ends o v (verdicts.Logic step m) bad = refl
 judged-ends o v (verdicts.Memory step at) bad = refl
@@ -206,9 +206,9 @@ ends-at Stands o law opens n good bad = at_step (follows Stands o law opens n go
     at_step (Goes e k) =
         let verdict : first_bad_below o (suc n) ≡ judged o (guarded o n).steps = is ∙ begun o n k.running ∙ sym (ap (judged o) e) in
         let kept = kept-here Stands o n (guarded o n) e k in
-        let ends : guarded o (suc n) ≡ ended (prepared o (guarded o n)) (outcomes.Inadmissible (first_bad_below o (suc n))) =
-        guarded-goes (guarded o n).end o (guarded o n) k.going ∙ ap (λ (b : Verdict). judged_by b o (prepared o (guarded o n))) (sym verdict)
-        ∙ judged-ends o (prepared o (guarded o n)) (first_bad_below o (suc n)) bad in
+        let ends : guarded o (suc n) ≡ with_end (begin_step o (guarded o n)) (outcomes.Inadmissible (first_bad_below o (suc n))) =
+        guarded-goes (guarded o n).end o (guarded o n) k.going ∙ ap (λ (b : Verdict). judged_by b o (begin_step o (guarded o n))) (sym verdict)
+        ∙ judged-ends o (begin_step o (guarded o n)) (first_bad_below o (suc n)) bad in
         record {
           came = k.going;
           steps = e;

@@ -20,8 +20,8 @@ use Rattle.lvdc_model.specs.declared.outcome.Outcome.TheVariants as outcomes
 use Rattle.lvdc_model.specs.Trial.{Trial, plain_at}
 use Rattle.lvdc_model.specs.Voted.{Voted, votes}
 use Rattle.lvdc_model.specs.Judging.{judged, first_bad, first_bad_below}
-use Rattle.lvdc_model.specs.Exchanges.{prepared}
-use Rattle.lvdc_model.specs.Runs.{judged_by, guarded_by, guarded, found, alone_by, alone}
+use Rattle.lvdc_model.specs.Exchanges.{begin_step}
+use Rattle.lvdc_model.specs.Runs.{judged_by, guarded_by, guarded, own_verdict, alone_by, alone}
 use Rattle.lvdc_laws.specs.Copies.{wrong_before}
 use Rattle.lvdc_laws.specs.Laws.{StepLaws}
 use Rattle.lvdc_laws.specs.Relation.{devices_by, Matches, ShowsPlain, Follows, Goes, Halts}
@@ -149,8 +149,8 @@ alone-ended : (end : Option Outcome) (o : Trial) (v : Voted) (e : Outcome) → e
 alone-ended None o v e h = absurd (cc)
 alone-ended (Some r) o v e h = refl
 
-alone-goes : (end : Option Outcome) (o : Trial) (v : Voted) → end ≡ None → found o (prepared o v) ≡ judged o v.steps → alone_by end o v ≡ guarded_by end o v
-alone-goes None o v h e = ap (λ (b : Verdict). judged_by b o (prepared o v)) e
+alone-goes : (end : Option Outcome) (o : Trial) (v : Voted) → end ≡ None → own_verdict o (begin_step o v) ≡ judged o v.steps → alone_by end o v ≡ guarded_by end o v
+alone-goes None o v h e = ap (λ (b : Verdict). judged_by b o (begin_step o v)) e
 alone-goes (Some r) o v h e = absurd (cc)
 
 -- so at each step of a run
@@ -170,10 +170,10 @@ alone-guarded Stands law o opens (suc n) =
 -- ---- a step that is begun
 
 -- a step that is begun stands as the plain run is
-begun-by : (Stands : ℕ → List (List ℕ) → PlainState → Type 0) → StepLaws Stands → (o : Trial) (n : ℕ) (v : Voted) → v.end ≡ None → Follows Stands o n v → IsBegun o n (prepared o v)
+begun-by : (Stands : ℕ → List (List ℕ) → PlainState → Type 0) → StepLaws Stands → (o : Trial) (n : ℕ) (v : Voted) → v.end ≡ None → Follows Stands o n v → IsBegun o n (begin_step o v)
 begun-by Stands law o n v going (Goes e k) = begun-at Stands o n v law e (kept-here Stands o n v e k)
 begun-by Stands law o n v going (Halts le d) = absurd (let both : Some (outcomes.Stopped d.last d.why) ≡ None = sym d.ended ∙ going in cc)
 
 pub guarded-begun : (Stands : ℕ → List (List ℕ) → PlainState → Type 0) → StepLaws Stands → (o : Trial) → Opens Stands o → (n : ℕ)
-    → first_bad_below o n ≡ verdicts.Admissible → (guarded o n).end ≡ None → IsBegun o n (prepared o (guarded o n))
+    → first_bad_below o n ≡ verdicts.Admissible → (guarded o n).end ≡ None → IsBegun o n (begin_step o (guarded o n))
 guarded-begun Stands law o opens n h going = begun-by Stands law o n (guarded o n) going (follows Stands o law opens n h)

@@ -15,9 +15,9 @@ use Rattle.lvdc_model.specs.declared.outcome.Outcome.{Outcome}
 use Rattle.lvdc_model.specs.declared.outcome.Outcome.TheVariants.{Inadmissible, Stopped}
 use Rattle.lvdc_model.specs.Trial.{Trial, plain_at, plain_in, plugged_in}
 use Rattle.lvdc_model.specs.Voted.{Voted, votes}
-use Rattle.lvdc_model.specs.Exchanges.{prepared, ended, wished}
+use Rattle.lvdc_model.specs.Exchanges.{begin_step, with_end, wished}
 use Rattle.lvdc_model.specs.Judging.{first_bad_below}
-use Rattle.lvdc_model.specs.Runs.{guarded, found}
+use Rattle.lvdc_model.specs.Runs.{guarded, own_verdict}
 use Rattle.lvdc_laws.specs.Cells.{StoresDamaged}
 use Rattle.lvdc_laws.specs.Relation.{Follows}
 
@@ -61,10 +61,10 @@ pub record IsBegun (o : Trial) (step : ℕ) (v : Voted) : Type 0 where
 pub record EndsAt (o : Trial) (n : ℕ) : Type 0 where
   pub came : (guarded o n).end ≡ None
   pub steps : (guarded o n).steps ≡ n
-  pub begun : IsBegun o n (prepared o (guarded o n))
+  pub begun : IsBegun o n (begin_step o (guarded o n))
   pub bad : first_bad_below o (suc n) ≢ Admissible
-  pub found : found o (prepared o (guarded o n)) ≡ first_bad_below o (suc n)
-  pub ends : guarded o (suc n) ≡ ended (prepared o (guarded o n)) (Inadmissible (first_bad_below o (suc n)))
+  pub found : own_verdict o (begin_step o (guarded o n)) ≡ first_bad_below o (suc n)
+  pub ends : guarded o (suc n) ≡ with_end (begin_step o (guarded o n)) (Inadmissible (first_bad_below o (suc n)))
   pub stays : (m : ℕ) → guarded o (m + suc n) ≡ guarded o (suc n)
 
 -- after n steps: no step was inadmissible, or the run has ended at the first one that was

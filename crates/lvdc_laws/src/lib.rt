@@ -15,7 +15,7 @@ ghost use Rattle.lvdc_model.specs.declared.outcome.Outcome.TheVariants.{Inadmiss
 ghost use Rattle.lvdc_model.specs.Trial.{Trial, plain_at, plain_in};
 ghost use Rattle.lvdc_model.specs.Voted.{Voted};
 ghost use Rattle.lvdc_model.specs.Judging.{is_recoverable, is_recoverable_after, first_bad, first_bad_below};
-ghost use Rattle.lvdc_model.specs.Exchanges.{prepared, ended};
+ghost use Rattle.lvdc_model.specs.Exchanges.{begin_step, with_end};
 ghost use Rattle.lvdc_model.specs.Runs.{guarded, alone};
 ghost use Rattle.lvdc_model.specs.Known.{last_begun, is_known};
 ghost use Rattle.lvdc_laws.specs.Laws.{VotesLaw, CopiesLaw, DamageLaw, ReadLaw, HoldersLaw, StoreLaw, IdleLaw, PortLaw, StepLaws};
@@ -82,7 +82,7 @@ pub fn judges_alone()
 pub fn step_begun()
     ensures { (o : Trial) → IsOpening o.opening → (n : ℕ) → first_bad_below o n ≡ Admissible
         → (guarded o n).end ≡ None
-        → IsBegun o n (prepared o (guarded o n)) }
+        → IsBegun o n (begin_step o (guarded o n)) }
 {
     laws_of_a_step();
 }
@@ -99,7 +99,7 @@ pub fn words_known()
         → is_known o (guarded o (suc n)) at ≡ is_recoverable o n at }
     ensures begun { (o : Trial) (n : ℕ) (v : Voted) (e : Outcome) (at : Spot)
         → HasBank o.opening.banks at → IsBegun o n v
-        → last_begun (Some e) n ≡ Some n → is_known o (ended v e) at ≡ is_recoverable o n at }
+        → last_begun (Some e) n ≡ Some n → is_known o (with_end v e) at ≡ is_recoverable o n at }
     ensures intended { (o : Trial) → IsOpening o.opening → (n : ℕ)
         → first_bad_below o n ≡ Admissible
         → (guarded o n).intended ≡ (plain_in o n).memory }

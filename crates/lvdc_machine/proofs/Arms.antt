@@ -8,7 +8,7 @@ use Rattle.lvdc_port.specs.Device as device
 use Rattle.lvdc_twin.specs.declared.both_bad.BothBad.{BothBad}
 use Rattle.lvdc_twin.specs.declared.read_out.ReadOut.{ReadOut}
 use Rattle.lvdc_plain.specs.declared.records.Stop.TheVariants as stops
-use Rattle.lvdc_model.specs.Exchanges.{latches, reading, ended, repair_by}
+use Rattle.lvdc_model.specs.Exchanges.{latches, reading, with_end, repair_by}
 use Rattle.lvdc_model.specs.Trial.{Trial}
 use Rattle.lvdc_model.specs.Twins.{read_answer, after_read}
 use Rattle.lvdc_model.specs.Voted.{Voted}
@@ -41,7 +41,7 @@ shows-read {o = o} {m = m} {ds = ds} v at answer r step repair is found same not
 -- a read that found none
 pub shows-lost : {o : Trial} {m : View} {ds : List device.Device} (v : Voted) (at : Spot) (answer : Result ReadOut BothBad) (bad : BothBad)
     → answer ≡ read_answer o v.steps v.twins at → answer ≡ Err bad
-    → Shows o m ds (ended v (Stopped v.steps (stops.Memory at)))
+    → Shows o m ds (with_end v (Stopped v.steps (stops.Memory at)))
     → Shows o m ds (reading (read_answer o v.steps v.twins at) o v at)
 shows-lost {o = o} {m = m} {ds = ds} v at answer bad is lost h =
     subst (λ (a : Result ReadOut BothBad). Shows o m ds (reading a o v at)) (sym lost ∙ is) h

@@ -10,9 +10,9 @@ use Rattle.lvdc_fault.specs.declared.verdict.Verdict.TheVariants.{Admissible}
 use Rattle.lvdc_phases.specs.Standing.{Standing}
 use Rattle.lvdc_model.specs.declared.outcome.Outcome.{Outcome}
 use Rattle.lvdc_model.specs.declared.outcome.Outcome.TheVariants.{Done, Stopped, Inadmissible, Device}
-use Rattle.lvdc_model.specs.Exchanges.{prepared, ended}
+use Rattle.lvdc_model.specs.Exchanges.{begin_step, with_end}
 use Rattle.lvdc_model.specs.Judging.{first_bad, first_bad_below}
-use Rattle.lvdc_model.specs.Runs.{guarded, alone, found}
+use Rattle.lvdc_model.specs.Runs.{guarded, alone, own_verdict}
 use Rattle.lvdc_model.specs.Trial.{Trial}
 use Rattle.lvdc_model.specs.Voted.{Voted}
 use Rattle.lvdc_laws.specs.Ends.{ShowsTimes, IsBegun, EndsAt, Comes, Good, Bad}
@@ -60,11 +60,11 @@ refused o n w (Bad m less first same ends) is =
       step = m;
       early = less;
       begun = ends.begun;
-      state = same ∙ ends.ends ∙ ap (λ x. ended (prepared o (guarded o m)) (Inadmissible x)) verdict;
+      state = same ∙ ends.ends ∙ ap (λ x. with_end (begin_step o (guarded o m)) (Inadmissible x)) verdict;
     }
 
 -- a step that the machine itself admits is admissible
-found-good : (o : Trial) (step : ℕ) → Comes Standing o (suc step) → (guarded o step).end ≡ None → found o (prepared o (guarded o step)) ≡ Admissible
+found-good : (o : Trial) (step : ℕ) → Comes Standing o (suc step) → (guarded o step).end ≡ None → own_verdict o (begin_step o (guarded o step)) ≡ Admissible
     → first_bad_below o (suc step) ≡ Admissible
 found-good o step (Good good follows) going found-it = good
 found-good o step (Bad m less first same ends) going found-it = by_step (step - m) refl
@@ -73,7 +73,7 @@ found-good o step (Bad m less first same ends) going found-it = by_step (step - 
     by_step zero is =
         let at : m ≡ step = omega (arith, less, is) in
         let found_there = ends.found in
-        absurd (ends.bad (sym found_there ∙ ap (λ (k : ℕ). found o (prepared o (guarded o k))) at ∙ found-it))
+        absurd (ends.bad (sym found_there ∙ ap (λ (k : ℕ). own_verdict o (begin_step o (guarded o k))) at ∙ found-it))
     by_step (suc k) is =
         let at : k + suc m ≡ step = omega (arith, less, is) in
         let bad = ap (λ (v : Voted). v.end) (ends.stays k ∙ ends.ends) in
@@ -99,7 +99,7 @@ pub follows : (o : Trial) (n : ℕ) (m : View) (ds : List device.Device)
     → ((k : ℕ) → Comes Standing o k)
     → ((k : ℕ) → alone o k ≡ guarded o k)
     → ((k : ℕ) → first_bad o k ≡ Admissible → ShowsTimes o k (guarded o (3 * k)))
-    → ((k : ℕ) → first_bad_below o k ≡ Admissible → (guarded o k).end ≡ None → IsBegun o k (prepared o (guarded o k)))
+    → ((k : ℕ) → first_bad_below o k ≡ Admissible → (guarded o k).end ≡ None → IsBegun o k (begin_step o (guarded o k)))
     → m.mode ≡ Guarded → Stands o n m ds → GuardedBy m.end o n (state_by m.end m.mode o n)
 follows o n m ds comes same times begun mode h =
     by_end m.end (sym h.shows.end) (subst (λ (k : Mode). EndsAs m.end o n k m.steps) mode h.ends)
@@ -126,9 +126,9 @@ follows o n m ds comes same times begun mode h =
     by_end (Some (Device step port)) is ends =
         let state : run_of m.mode o step ≡ guarded o step = ap (λ (k : Mode). run_of k o step) mode ∙ same step in
         let going : (guarded o step).end ≡ None = ap (λ (v : Voted). v.end) (sym (same step)) ∙ ends.going in
-        let found_it : found o (prepared o (guarded o step)) ≡ Admissible = ap (λ (v : Voted). found o (prepared o v)) (sym (same step)) ∙ ends.admitted in
+        let found_it : own_verdict o (begin_step o (guarded o step)) ≡ Admissible = ap (λ (v : Voted). own_verdict o (begin_step o v)) (sym (same step)) ∙ ends.admitted in
         record {
           admissible = found-good o step (comes (suc step)) going found_it;
           begun = begun step (going-good o step (comes step) going) going;
-          state = ap (λ (v : Voted). ended (prepared o v) (Device step port)) state;
+          state = ap (λ (v : Voted). with_end (begin_step o v) (Device step port)) state;
         }

@@ -11,30 +11,30 @@ use Rattle.lvdc_fault.specs.declared.verdict.Verdict.TheVariants.{Admissible, Lo
 use Rattle.lvdc_model.specs.Trial.{Trial}
 use Rattle.lvdc_model.specs.Voted.{Voted}
 use Rattle.lvdc_model.specs.Exchanges.{wished}
-use Rattle.lvdc_model.specs.Runs.{found, found_logic, found_memory, recovers, read_of_wish}
+use Rattle.lvdc_model.specs.Runs.{own_verdict, own_logic, own_memory, recovers, read_of_wish}
 use Rattle.lvdc_machine.specs.View.{View}
 use Rattle.lvdc_machine.specs.Shows.{Shows}
 
 -- the module that is found wrong
 pub found-wrong : {o : Trial} {m : View} {ds : List device.Device} {v : Voted} → Shows o m ds v → (n : ℕ)
-    → wrong_module m.script m.steps ≡ Some n → Logic m.steps n ≡ found o v
+    → wrong_module m.script m.steps ≡ Some n → Logic m.steps n ≡ own_verdict o v
 found-wrong {o = o} {v = v} h n e =
     let there : wrong_module o.script v.steps ≡ Some n = sym (λ i. wrong_module (h.script i) (h.steps i)) ∙ e in
-    ap (λ step. Logic step n) h.steps ∙ sym (ap (λ w. found_logic o v w) there)
+    ap (λ step. Logic step n) h.steps ∙ sym (ap (λ w. own_logic o v w) there)
 
 -- where none is, the address that is read is judged
 pub found-none : {o : Trial} {m : View} {ds : List device.Device} {v : Voted} → Shows o m ds v → (w : Verdict) (at : Option Spot)
-    → wrong_module m.script m.steps ≡ None → w ≡ found_memory o v at → at ≡ read_of_wish (wished o v) → w ≡ found o v
+    → wrong_module m.script m.steps ≡ None → w ≡ own_memory o v at → at ≡ read_of_wish (wished o v) → w ≡ own_verdict o v
 found-none {o = o} {v = v} h w at e is same =
     let there : wrong_module o.script v.steps ≡ None = sym (λ i. wrong_module (h.script i) (h.steps i)) ∙ e in
-    is ∙ ap (λ a. found_memory o v a) same ∙ sym (ap (λ x. found_logic o v x) there)
+    is ∙ ap (λ a. own_memory o v a) same ∙ sym (ap (λ x. own_logic o v x) there)
 
 -- what is said of an address by whether it can be recovered
-pub found-good : (o : Trial) (v : Voted) (at : Spot) → true ≡ recovers o v at → Admissible ≡ found_memory o v (Some at)
+pub found-good : (o : Trial) (v : Voted) (at : Spot) → true ≡ recovers o v at → Admissible ≡ own_memory o v (Some at)
 found-good o v at e = rw (← e) refl
 
 -- and where it can't
-pub found-bad : (o : Trial) (v : Voted) (at : Spot) (step : ℕ) → step ≡ v.steps → false ≡ recovers o v at → Memory step at ≡ found_memory o v (Some at)
+pub found-bad : (o : Trial) (v : Voted) (at : Spot) (step : ℕ) → step ≡ v.steps → false ≡ recovers o v at → Memory step at ≡ own_memory o v (Some at)
 found-bad o v at step is e = rw (← e) (ap (λ s. Memory s at) is)
 
 -- ---- no active event

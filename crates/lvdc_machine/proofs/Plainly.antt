@@ -8,7 +8,7 @@ use Rattle.lvdc_fault.specs.declared.verdict.Verdict.TheVariants.{Admissible}
 use Rattle.lvdc_phases.specs.Standing.{Standing}
 use Rattle.lvdc_model.specs.declared.outcome.Outcome.{Outcome}
 use Rattle.lvdc_model.specs.declared.outcome.Outcome.TheVariants.{Done, Stopped, Inadmissible, Device}
-use Rattle.lvdc_model.specs.Exchanges.{prepared, ended}
+use Rattle.lvdc_model.specs.Exchanges.{begin_step, with_end}
 use Rattle.lvdc_model.specs.Judging.{is_recoverable, is_recoverable_after, first_bad_below}
 use Rattle.lvdc_model.specs.Known.{last_begun, is_known}
 use Rattle.lvdc_model.specs.Runs.{guarded, alone}
@@ -59,7 +59,7 @@ made-words o n (Bad m less first same ends) h = absurd (ends.bad (sym first ∙ 
 pub told : (o : Trial) (t : ℕ) (at : Spot) (end : Option Outcome) (mode : Mode) (steps : ℕ) → GuardedBy end o t (state_by end mode o t)
     → steps ≡ (state_by end mode o t).steps → Comes Standing o t → alone o t ≡ guarded o t
     → (first_bad_below o t ≡ Admissible → is_known o (guarded o t) at ≡ is_recoverable_after o (guarded o t).steps at)
-    → ((n : ℕ) (v : Voted) (e : Outcome) → IsBegun o n v → last_begun (Some e) n ≡ Some n → is_known o (ended v e) at ≡ is_recoverable o n at)
+    → ((n : ℕ) (v : Voted) (e : Outcome) → IsBegun o n v → last_begun (Some e) n ≡ Some n → is_known o (with_end v e) at ≡ is_recoverable o n at)
     → mode ≡ Guarded
     → shown_of o (state_by end mode o t) at ≡ shown_by (is_recoverable_by end o steps at) (word_at (plain_in o steps).memory at)
 told o t at end mode steps h count comes same made begun guards = by_end end h count
@@ -75,12 +75,12 @@ told o t at end mode steps h count comes same made begun guards = by_end end h c
         let words = ap (λ (v : Voted). v.intended) state ∙ made-words o t comes good ∙ ap (λ (i : ℕ). (plain_in o i).memory) there in
         λ i. shown_by (known i) (word_at (words i) at)
 
-    early : (v : Voted) (step : ℕ) (e : Outcome) → v ≡ ended (prepared o (guarded o step)) e → IsBegun o step (prepared o (guarded o step))
+    early : (v : Voted) (step : ℕ) (e : Outcome) → v ≡ with_end (begin_step o (guarded o step)) e → IsBegun o step (begin_step o (guarded o step))
         → last_begun (Some e) step ≡ Some step → steps ≡ v.steps
         → shown_of o v at ≡ shown_by (is_recoverable o steps at) (word_at (plain_in o steps).memory at)
     early v step e is b last counted =
         let there : step ≡ steps = sym (counted ∙ ap (λ (u : Voted). u.steps) is ∙ b.steps) in
-        let known = ap (λ (u : Voted). is_known o u at) is ∙ begun step (prepared o (guarded o step)) e b last ∙ ap (λ (i : ℕ). is_recoverable o i at) there in
+        let known = ap (λ (u : Voted). is_known o u at) is ∙ begun step (begin_step o (guarded o step)) e b last ∙ ap (λ (i : ℕ). is_recoverable o i at) there in
         let words = ap (λ (u : Voted). u.intended) is ∙ b.intended ∙ ap (λ (i : ℕ). (plain_in o i).memory) there in
         λ i. shown_by (known i) (word_at (words i) at)
 

@@ -8,9 +8,9 @@ use Rattle.lvdc_modules.specs.Wish.{wish}
 use Rattle.lvdc_modules.specs.declared.wanted.Wanted.{Wanted}
 use Rattle.lvdc_fault.specs.declared.verdict.Verdict.{Verdict}
 use Rattle.lvdc_fault.specs.declared.verdict.Verdict.TheVariants.{Admissible, Logic, Memory}
-use Rattle.lvdc_model.specs.Exchanges.{damages, prepared, ended, exchanges, wished, voted_step}
+use Rattle.lvdc_model.specs.Exchanges.{damages, begin_step, with_end, exchanges, wished, voted_step}
 use Rattle.lvdc_model.specs.Known.{last_begun}
-use Rattle.lvdc_model.specs.Runs.{judged_by, alone_by, through_by, found}
+use Rattle.lvdc_model.specs.Runs.{judged_by, alone_by, through_by, own_verdict}
 use Rattle.lvdc_model.specs.Trial.{Trial, devices_left}
 use Rattle.lvdc_model.specs.Voted.{Voted}
 use Rattle.lvdc_model.specs.declared.outcome.Outcome.{Outcome}
@@ -26,16 +26,16 @@ use Rattle.lvdc_machine.proofs.Standing.{after-sum, since-difference}
 -- ---- the run of a mode
 
 -- without an end a step that judges is prepared and judged
-alone-goes : (end : Option Outcome) (o : Trial) (v : Voted) → end ≡ None → alone_by end o v ≡ judged_by (found o (prepared o v)) o (prepared o v)
+alone-goes : (end : Option Outcome) (o : Trial) (v : Voted) → end ≡ None → alone_by end o v ≡ judged_by (own_verdict o (begin_step o v)) o (begin_step o v)
 alone-goes end o v e = rw e refl
 
 -- and one that doesn't is prepared and made
-through-goes : (end : Option Outcome) (o : Trial) (v : Voted) → end ≡ None → through_by end o v ≡ voted_step o (prepared o v)
+through-goes : (end : Option Outcome) (o : Trial) (v : Voted) → end ≡ None → through_by end o v ≡ voted_step o (begin_step o v)
 through-goes end o v e = rw e refl
 
 -- where no end has come, the next step is prepared, judged and made
 run-next : (mode : Mode) (o : Trial) (r : Voted) (t : ℕ) → (run_from mode o r t).end ≡ None
-    → run_from mode o r (suc t) ≡ judged_by (verdict_of mode o (prepared o (run_from mode o r t))) o (prepared o (run_from mode o r t))
+    → run_from mode o r (suc t) ≡ judged_by (verdict_of mode o (begin_step o (run_from mode o r t))) o (begin_step o (run_from mode o r t))
 run-next Guarded o r t e = alone-goes (run_from Guarded o r t).end o (run_from Guarded o r t) e
 run-next Through o r t e = through-goes (run_from Through o r t).end o (run_from Through o r t) e
 
@@ -61,7 +61,7 @@ run-stays mode o r t (suc n) e is =
     ∙ run-stays-one mode o r (t + n) e (ap (λ (v : Voted). v.end) before ∙ is) ∙ before
 
 -- a verdict other than Admissible ends the run with it
-judged-bad : (w : Verdict) (o : Trial) (v : Voted) → w ≢ Admissible → judged_by w o v ≡ ended v (Inadmissible w)
+judged-bad : (w : Verdict) (o : Trial) (v : Voted) → w ≢ Admissible → judged_by w o v ≡ with_end v (Inadmissible w)
 judged-bad Admissible o v bad = absurd (bad refl)
 judged-bad (Logic step m) o v bad = refl
 judged-bad (Memory step at) o v bad = refl
@@ -70,7 +70,7 @@ judged-bad (Memory step at) o v bad = refl
 
 -- cells damaged and devices taken away, the machine is in the state that is prepared
 pub shows-prepared : {o : Trial} {m : View} {ds : List device.Device} (v : Voted) → Shows o m ds (record v { twins = damages v.steps o.script v.twins })
-    → (left : List device.Device) → left ≡ devices_left m.unplugs m.steps ds → Shows o m left (prepared o v)
+    → (left : List device.Device) → left ≡ devices_left m.unplugs m.steps ds → Shows o m left (begin_step o v)
 shows-prepared v s left is =
     record {
       banks = s.banks;
@@ -93,7 +93,7 @@ wanted-wished s w is = is ∙ (λ i. wish (bus_of_votes (s.copies i)) (s.banks i
 
 -- a machine that runs has come to a step, and the step is prepared
 pub record IsPrepared (o : Trial) (r : Voted) (t : ℕ) (m : View) (ds : List device.Device) : Type 0 where
-  pub shows : Shows o m ds (prepared o (run_from m.mode o r t))
+  pub shows : Shows o m ds (begin_step o (run_from m.mode o r t))
   pub going : (run_from m.mode o r t).end ≡ None
   pub steps : m.steps ≡ steps_after r.steps t
   pub begun : m.active.last ≡ Some m.steps
@@ -117,7 +117,7 @@ is-prepared o r t old mid ds left h none same begun shown is =
     let steps : mid.steps ≡ old.steps = ap (λ (m : View). m.steps) same in
     let unplugs : mid.unplugs ≡ old.unplugs = ap (λ (m : View). m.unplugs) same in
     record {
-      shows = subst (λ (k : Mode). Shows o mid left (prepared o (run_from k o r t))) (sym mode)
+      shows = subst (λ (k : Mode). Shows o mid left (begin_step o (run_from k o r t))) (sym mode)
           (shows-prepared (run_from old.mode o r t) (shown (run_from old.mode o r t) s) left
           (is ∙ (λ i. devices_left (sym unplugs i) (sym steps i) ds)));
       going = subst (λ (k : Mode). (run_from k o r t).end ≡ None) (sym mode) (sym s.end ∙ none);
@@ -129,12 +129,12 @@ is-prepared o r t old mid ds left h none same begun shown is =
 
 -- nothing is made of a step that isn't admissible
 pub stands-judged : (o : Trial) (r : Voted) (t : ℕ) (m new : View) (ds : List device.Device) (w : Verdict) → IsPrepared o r t m ds
-    → w ≡ verdict_of m.mode o (prepared o (run_from m.mode o r t)) → w ≢ Admissible → new ≡ record m { end = Some (Inadmissible w) }
+    → w ≡ verdict_of m.mode o (begin_step o (run_from m.mode o r t)) → w ≢ Admissible → new ≡ record m { end = Some (Inadmissible w) }
     → StandsFrom o r (t + 1) new ds
 stands-judged o r t m new ds w h is bad same =
     let s = h.shows in
-    let next : run_from m.mode o r (suc t) ≡ ended (prepared o (run_from m.mode o r t)) (Inadmissible w) =
-    run-next m.mode o r t h.going ∙ ap (λ x. judged_by x o (prepared o (run_from m.mode o r t))) (sym is) ∙ judged-bad w o (prepared o (run_from m.mode o r t)) bad in
+    let next : run_from m.mode o r (suc t) ≡ with_end (begin_step o (run_from m.mode o r t)) (Inadmissible w) =
+    run-next m.mode o r t h.going ∙ ap (λ x. judged_by x o (begin_step o (run_from m.mode o r t))) (sym is) ∙ judged-bad w o (begin_step o (run_from m.mode o r t)) bad in
     let steps = h.steps in
     rw (same, add-one) (record {
       shows = rw next (record {
@@ -175,10 +175,10 @@ stands-by o r t before new ds (Some (Device step port)) is at begun made s = abs
 
 -- a step is made
 pub stands-made : (o : Trial) (r : Voted) (t : ℕ) (m new : View) (ds left : List device.Device) (w : Verdict) (x : Wanted) → IsPrepared o r t m ds
-    → w ≡ verdict_of m.mode o (prepared o (run_from m.mode o r t)) → w ≡ Admissible → x ≡ wished o (prepared o (run_from m.mode o r t))
+    → w ≡ verdict_of m.mode o (begin_step o (run_from m.mode o r t)) → w ≡ Admissible → x ≡ wished o (begin_step o (run_from m.mode o r t))
     → ((v : Voted) → Shows o m ds v → Shows o new left (exchanges o v x)) → IsMade m new → StandsFrom o r (t + 1) new left
 stands-made o r t m new ds left w x h is good wish-is shown made =
-    let p = prepared o (run_from m.mode o r t) in
+    let p = begin_step o (run_from m.mode o r t) in
     let next : run_from m.mode o r (suc t) ≡ exchanges o p x =
     run-next m.mode o r t h.going ∙ ap (λ y. judged_by y o p) (sym is ∙ good) ∙ ap (λ y. exchanges o p y) (sym wish-is) in
     rw add-one (stands-by o r t m.steps new left new.end refl h.steps made.begun made.ends
@@ -186,12 +186,12 @@ stands-made o r t m new ds left w x h is good wish-is shown made =
 
 -- a device failed, and the step isn't made
 pub stands-failed : (o : Trial) (r : Voted) (t : ℕ) (m new : View) (ds left : List device.Device) (w : Verdict) (x : Wanted) (port : ℕ) → IsPrepared o r t m ds
-    → w ≡ verdict_of m.mode o (prepared o (run_from m.mode o r t)) → w ≡ Admissible → x ≡ wished o (prepared o (run_from m.mode o r t))
+    → w ≡ verdict_of m.mode o (begin_step o (run_from m.mode o r t)) → w ≡ Admissible → x ≡ wished o (begin_step o (run_from m.mode o r t))
     → NamesPort x port → left ≡ ds → new ≡ record m { end = Some (Device m.steps port) } → StandsFrom o r (t + 1) new left
 stands-failed o r t m new ds left w x port h is good wish-is named kept same =
     let steps = h.steps in
     let past : t ≡ steps_since r.steps m.steps = omega (arith, steps, after-sum r.steps t, since-difference r.steps m.steps) in
-    let s = subst (λ (k : ℕ). Shows o m ds (prepared o (run_from m.mode o r k))) past h.shows in
+    let s = subst (λ (k : ℕ). Shows o m ds (begin_step o (run_from m.mode o r k))) past h.shows in
     rw (same, add-one, kept) (record {
       shows = record {
         banks = s.banks;
@@ -212,8 +212,8 @@ stands-failed o r t m new ds left w x port h is good wish-is named kept same =
         early = omega (arith, steps, after-sum r.steps t, after-sum r.steps (suc t));
         going = subst (λ (k : ℕ). (run_from m.mode o r k).end ≡ None) past h.going;
         steps = sym s.steps;
-        admitted = subst (λ (k : ℕ). verdict_of m.mode o (prepared o (run_from m.mode o r k)) ≡ Admissible) past (sym is ∙ good);
-        asked = subst (λ (k : ℕ). NamesPort (wished o (prepared o (run_from m.mode o r k))) port) past
+        admitted = subst (λ (k : ℕ). verdict_of m.mode o (begin_step o (run_from m.mode o r k)) ≡ Admissible) past (sym is ∙ good);
+        asked = subst (λ (k : ℕ). NamesPort (wished o (begin_step o (run_from m.mode o r k))) port) past
             (subst (λ (y : Wanted). NamesPort y port) wish-is named);
       };
     })

@@ -3,7 +3,7 @@ use Rattle.std.proofs.Common.{◌≡◌, ℕ, zero, suc, ◌+◌, ◌-◌, ◌*�
 use Rattle.std.specs.declared.option.Option.{Option}
 use Rattle.std.specs.declared.option.Option.TheVariants.{None, Some}
 use Rattle.lvdc_port.specs.Device as device
-use Rattle.lvdc_model.specs.Exchanges.{prepared, ended, wished}
+use Rattle.lvdc_model.specs.Exchanges.{begin_step, with_end, wished}
 use Rattle.lvdc_model.specs.Trial.{Trial}
 use Rattle.lvdc_model.specs.Voted.{Voted, voted_start}
 use Rattle.lvdc_fault.specs.declared.verdict.Verdict.TheVariants.{Admissible}
@@ -63,7 +63,7 @@ shows-on (Some Done) mode o r t n steps is ends = absurd ends
 shows-on (Some (Stopped step stop)) mode o r t n steps is ends = run-on mode o r t n
 shows-on (Some (Inadmissible w)) mode o r t n steps is ends = run-on mode o r t n
 shows-on (Some (Device step port)) mode o r t n steps is ends =
-    ap (λ (v : Voted). ended (prepared o v) (Device step port)) (to-on mode o r t step is ends.later)
+    ap (λ (v : Voted). with_end (begin_step o v) (Device step port)) (to-on mode o r t step is ends.later)
 
 -- and so is what the end says
 ends-on : (end : Option Outcome) (mode : Mode) (o : Trial) (r : Voted) (t n : ℕ) (steps : ℕ) → (run_from mode o r t).steps ≡ steps_after r.steps t
@@ -81,8 +81,8 @@ ends-on (Some (Device step port)) mode o r t n steps is ends =
       early = omega (arith, after-on mode o r t n is, early);
       going = subst (λ (v : Voted). v.end ≡ None) same ends.going;
       steps = subst (λ (v : Voted). v.steps ≡ step) same ends.steps;
-      admitted = subst (λ (v : Voted). verdict_of mode o (prepared o v) ≡ Admissible) same ends.admitted;
-      asked = subst (λ (v : Voted). NamesPort (wished o (prepared o v)) port) same ends.asked;
+      admitted = subst (λ (v : Voted). verdict_of mode o (begin_step o v) ≡ Admissible) same ends.admitted;
+      asked = subst (λ (v : Voted). NamesPort (wished o (begin_step o v)) port) same ends.asked;
     }
 
 -- what stands in the run from a state of a run stands in that run

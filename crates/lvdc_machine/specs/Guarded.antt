@@ -9,7 +9,7 @@ use Rattle.lvdc_fault.specs.declared.verdict.Verdict.{Verdict}
 use Rattle.lvdc_fault.specs.declared.verdict.Verdict.TheVariants.{Admissible}
 use Rattle.lvdc_model.specs.declared.outcome.Outcome.{Outcome}
 use Rattle.lvdc_model.specs.declared.outcome.Outcome.TheVariants.{Done, Stopped, Inadmissible, Device}
-use Rattle.lvdc_model.specs.Exchanges.{prepared, ended}
+use Rattle.lvdc_model.specs.Exchanges.{begin_step, with_end}
 use Rattle.lvdc_model.specs.Judging.{is_recoverable, is_recoverable_after, first_bad_below}
 use Rattle.lvdc_model.specs.Runs.{guarded}
 use Rattle.lvdc_model.specs.Trial.{Trial, plain_at, plain_in}
@@ -28,14 +28,14 @@ pub record IsRefused (o : Trial) (n : ℕ) (verdict : Verdict) (v : Voted) : Typ
   pub bad : verdict ≢ Admissible
   pub step : ℕ
   pub early : step < n
-  pub begun : IsBegun o step (prepared o (guarded o step))
-  pub state : v ≡ ended (prepared o (guarded o step)) (Inadmissible verdict)
+  pub begun : IsBegun o step (begin_step o (guarded o step))
+  pub state : v ≡ with_end (begin_step o (guarded o step)) (Inadmissible verdict)
 
 -- the device failed in a step that was begun, and neither that step nor one before it was inadmissible
 pub record IsBroken (o : Trial) (step port : ℕ) (v : Voted) : Type 0 where
   pub admissible : first_bad_below o (suc step) ≡ Admissible
-  pub begun : IsBegun o step (prepared o (guarded o step))
-  pub state : v ≡ ended (prepared o (guarded o step)) (Device step port)
+  pub begun : IsBegun o step (begin_step o (guarded o step))
+  pub state : v ≡ with_end (begin_step o (guarded o step)) (Device step port)
 
 -- the plain run makes an exchange with this port in this step: it is the last of its time, the run has not stopped, no time is
 -- left for which nothing is fetched, and the instruction asks for the port

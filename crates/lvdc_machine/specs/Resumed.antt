@@ -6,7 +6,7 @@ use Rattle.lvdc_port.specs.Device as device
 use Rattle.lvdc_fault.specs.declared.verdict.Verdict.TheVariants.{Admissible}
 use Rattle.lvdc_model.specs.declared.outcome.Outcome.{Outcome}
 use Rattle.lvdc_model.specs.declared.outcome.Outcome.TheVariants.{Done, Stopped, Inadmissible, Device}
-use Rattle.lvdc_model.specs.Exchanges.{prepared, ended, wished}
+use Rattle.lvdc_model.specs.Exchanges.{begin_step, with_end, wished}
 use Rattle.lvdc_model.specs.Known.{last_begun}
 use Rattle.lvdc_model.specs.Trial.{Trial}
 use Rattle.lvdc_model.specs.Voted.{Voted}
@@ -36,7 +36,7 @@ run_to mode o first step = run_from mode o first (steps_since first.steps step)
 -- the state of a machine with this end, n steps after the first state: that of its run, which knows no failing device; where a
 -- device failed, that of the step that was prepared for the exchange, with this end
 abbrev pub state_from : Option Outcome → Mode → Trial → Voted → ℕ → Voted
-state_from (Some (Device step port)) mode o first n = ended (prepared o (run_to mode o first step)) (Device step port)
+state_from (Some (Device step port)) mode o first n = with_end (begin_step o (run_to mode o first step)) (Device step port)
 state_from _ mode o first n = run_from mode o first n
 
 -- the device at this port failed in the exchange of this step: the run had come to it without an end, nothing was said
@@ -46,8 +46,8 @@ pub record FailedFrom (o : Trial) (first : Voted) (n : ℕ) (mode : Mode) (step 
   pub early : step < steps_after first.steps n
   pub going : (run_to mode o first step).end ≡ None
   pub steps : (run_to mode o first step).steps ≡ step
-  pub admitted : verdict_of mode o (prepared o (run_to mode o first step)) ≡ Admissible
-  pub asked : NamesPort (wished o (prepared o (run_to mode o first step))) port
+  pub admitted : verdict_of mode o (begin_step o (run_to mode o first step)) ≡ Admissible
+  pub asked : NamesPort (wished o (begin_step o (run_to mode o first step))) port
 
 -- what an end says of the run: none has come where all steps were made
 abbrev pub EndsFrom : Option Outcome → Trial → Voted → ℕ → Mode → ℕ → Type 0

@@ -11,7 +11,7 @@ use Rattle.lvdc_fault.specs.declared.verdict.Verdict.TheVariants.{Admissible}
 use Rattle.lvdc_model.specs.declared.outcome.Outcome.{Outcome}
 use Rattle.lvdc_model.specs.declared.outcome.Outcome.TheVariants.{Done, Stopped, Inadmissible, Device}
 use Rattle.lvdc_model.specs.Known.{last_begun}
-use Rattle.lvdc_model.specs.Runs.{after_steps, alone_step, through_step, found}
+use Rattle.lvdc_model.specs.Runs.{after_steps, alone_step, through_step, own_verdict}
 use Rattle.lvdc_model.specs.Trial.{Trial}
 use Rattle.lvdc_model.specs.Voted.{Voted, voted_start}
 use Rattle.lvdc_machine.specs.declared.stepping.Brought.{Brought}
@@ -34,7 +34,7 @@ run_of mode o t = run_from mode o (voted_start o) t
 
 -- what a mode says of a step that is prepared
 abbrev pub verdict_of : Mode → Trial → Voted → Verdict
-verdict_of Guarded o v = found o v
+verdict_of Guarded o v = own_verdict o v
 verdict_of Through o v = Admissible
 
 -- the repair that a read notes: that of the twin rewritten, if any

@@ -4,7 +4,7 @@ ghost use Rattle.lvdc_map.specs.Banks.{HasBank};
 ghost use Rattle.lvdc_map.specs.Memory.{word_at};
 ghost use Rattle.lvdc_map.specs.Hop.{IsHopConstant};
 ghost use Rattle.lvdc_port.specs.Device as device;
-ghost use Rattle.lvdc_model.specs.Exchanges.{prepared, wished};
+ghost use Rattle.lvdc_model.specs.Exchanges.{begin_step, wished};
 ghost use Rattle.lvdc_model.specs.Runs.{guarded};
 ghost use Rattle.lvdc_model.specs.Trial.{Trial, plain_in};
 ghost use Rattle.lvdc_phases.specs.Standing.{Standing};
@@ -45,7 +45,7 @@ pub fn guarded_keeps()
 /// one with that port; also where a device then fails.
 pub fn failed_exchange()
     ensures { (o : Trial) → IsOpening o.opening → (n port : ℕ) → (guarded o n).end ≡ None
-        → NamesPort (wished o (prepared o (guarded o n))) port → IsExchanged o n port }
+        → NamesPort (wished o (begin_step o (guarded o n))) port → IsExchanged o n port }
 {
     lvdc_laws::guarded_run();
     lvdc_laws::step_begun();

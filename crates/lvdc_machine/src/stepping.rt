@@ -10,7 +10,7 @@ ghost use Rattle.lvdc_fault.specs.Script.{active_at, two_wrong, wrong_module, No
 ghost use Rattle.lvdc_fault.specs.declared.verdict.Verdict.{Verdict};
 ghost use Rattle.lvdc_fault.specs.declared.verdict.Verdict.TheVariants.{Admissible};
 ghost use Rattle.lvdc_model.specs.Exchanges.{damages, stop_of, latches, exchanges, reading, storing, port_reading, port_writing, wished};
-ghost use Rattle.lvdc_model.specs.Runs.{found, found_memory, read_of_wish};
+ghost use Rattle.lvdc_model.specs.Runs.{own_verdict, own_memory, read_of_wish};
 ghost use Rattle.lvdc_model.specs.Trial.{Trial, devices_left};
 ghost use Rattle.lvdc_model.specs.Twins.{read_answer};
 ghost use Rattle.lvdc_model.specs.Voted.{Voted};
@@ -155,7 +155,7 @@ impl Machine {
     fn found_memory(&self, at: Option<Address>) -> Verdict
         requires begun { self.now.active.last ≡ Some self.now.steps }
         requires there { IfSome at (λ spot. is_there self.now.banks spot ≡ true) }
-        ensures { (o : Trial) (v : Voted) (ds : List device.Device) → Shows o self.now ds v → result ≡ found_memory o v at }
+        ensures { (o : Trial) (v : Voted) (ds : List device.Device) → Shows o self.now ds v → result ≡ own_memory o v at }
     {
         match at {
             None => Verdict::Admissible,
@@ -177,7 +177,7 @@ impl Machine {
         requires begun { self.now.active.last ≡ Some self.now.steps }
         requires there { IsThereFor self.now.banks wanted.now }
         ensures verdict { (o : Trial) (v : Voted) (ds : List device.Device) → Shows o self.now ds v → wanted.now ≡ wished o v
-            → result ≡ found o v }
+            → result ≡ own_verdict o v }
         ensures right { result ≡ Admissible → two_wrong self.now.script self.now.steps 1 ≡ false }
     {
         match wrong_if_any(&self.script, &self.active, self.steps) {

@@ -38,8 +38,8 @@ damages step [] twins = twins
 damages step (e ∷ es) twins = damages step es (damages_by step e twins)
 
 -- a step begins: where a time begins, its devices are unplugged, and cells are damaged
-abbrev pub prepared : Trial → Voted → Voted
-prepared o v =
+abbrev pub begin_step : Trial → Voted → Voted
+begin_step o v =
     record v {
       devices = devices_left o.opening.unplugs v.steps v.devices;
       twins = damages v.steps o.script v.twins;
@@ -48,8 +48,8 @@ prepared o v =
 -- ---- after the exchange
 
 -- the machine with this end
-abbrev pub ended : Voted → Outcome → Voted
-ended v e = record v { end = Some e }
+abbrev pub with_end : Voted → Outcome → Voted
+with_end v e = record v { end = Some e }
 
 -- the end that STOP means, by its low two bits: 1 is a wrong shift, 2 and 3 are EXM
 abbrev pub stop_of : ℕ → ℕ → Option Outcome
@@ -82,7 +82,7 @@ repair_by (Some twin) step at switched = record { step = step; at = at; twin = t
 
 -- a read that finds no good cell ends the run; else its word is on the bus
 abbrev pub reading : Result ReadOut BothBad → Trial → Voted → Spot → Voted
-reading (Err bad) o v at = ended v (outcomes.Stopped v.steps (stops.Memory at))
+reading (Err bad) o v at = with_end v (outcomes.Stopped v.steps (stops.Memory at))
 reading (Ok r) o v at =
     latches o (record v {
       twins = after_read o v.steps v.twins at r;

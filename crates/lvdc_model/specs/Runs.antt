@@ -16,7 +16,7 @@ use Rattle.lvdc_model.specs.Trial.{Trial}
 use Rattle.lvdc_model.specs.Judging.{judged}
 use Rattle.lvdc_model.specs.Twins.{shows}
 use Rattle.lvdc_model.specs.Voted.{Voted, voted_start}
-use Rattle.lvdc_model.specs.Exchanges.{prepared, ended, wished, voted_step}
+use Rattle.lvdc_model.specs.Exchanges.{begin_step, with_end, wished, voted_step}
 
 -- the state after so many steps of one kind from a first state
 abbrev pub after_steps : (Voted → Voted) → Voted → ℕ → Voted
@@ -28,7 +28,7 @@ after_steps step first (suc n) = step (after_steps step first n)
 -- one step that no one judges; after an end nothing changes
 abbrev pub through_by : Option Outcome → Trial → Voted → Voted
 through_by (Some e) o v = v
-through_by None o v = voted_step o (prepared o v)
+through_by None o v = voted_step o (begin_step o v)
 
 -- the same, by the end that has come
 abbrev pub through_step : Trial → Voted → Voted
@@ -43,13 +43,13 @@ through o n = after_steps (through_step o) (voted_start o) n
 -- a step that was judged: any verdict but Admissible ends the run, once the step's devices are unplugged and its cells damaged
 abbrev pub judged_by : Verdict → Trial → Voted → Voted
 judged_by Admissible o v = voted_step o v
-judged_by (Logic step m) o v = ended v (Inadmissible (Logic step m))
-judged_by (Memory step at) o v = ended v (Inadmissible (Memory step at))
+judged_by (Logic step m) o v = with_end v (Inadmissible (Logic step m))
+judged_by (Memory step at) o v = with_end v (Inadmissible (Memory step at))
 
 -- one step, judged by script and plain run
 abbrev pub guarded_by : Option Outcome → Trial → Voted → Voted
 guarded_by (Some e) o v = v
-guarded_by None o v = judged_by (judged o v.steps) o (prepared o v)
+guarded_by None o v = judged_by (judged o v.steps) o (begin_step o v)
 
 -- the same, by the end that has come
 abbrev pub guarded_step : Trial → Voted → Voted
@@ -72,23 +72,23 @@ abbrev pub recovers : Trial → Voted → Spot → Bool
 recovers o v at = is_recovered o.opening.banks at (word_at v.intended at) (λ twin. shows o v.steps v.twins twin at)
 
 -- what the machine says of the address that it is to read
-abbrev pub found_memory : Trial → Voted → Option Spot → Verdict
-found_memory o v None = Admissible
-found_memory o v (Some at) = if recovers o v at then Admissible else Memory v.steps at
+abbrev pub own_memory : Trial → Voted → Option Spot → Verdict
+own_memory o v None = Admissible
+own_memory o v (Some at) = if recovers o v at then Admissible else Memory v.steps at
 
 -- a module with two wrong copies comes first
-abbrev pub found_logic : Trial → Voted → Option ℕ → Verdict
-found_logic o v (Some m) = Logic v.steps m
-found_logic o v None = found_memory o v (read_of_wish (wished o v))
+abbrev pub own_logic : Trial → Voted → Option ℕ → Verdict
+own_logic o v (Some m) = Logic v.steps m
+own_logic o v None = own_memory o v (read_of_wish (wished o v))
 
 -- the verdict that the machine finds by its own votes, cells and intended words, once the step is prepared
-abbrev pub found : Trial → Voted → Verdict
-found o v = found_logic o v (wrong_module o.script v.steps)
+abbrev pub own_verdict : Trial → Voted → Verdict
+own_verdict o v = own_logic o v (wrong_module o.script v.steps)
 
 -- one step, judged so
 abbrev pub alone_by : Option Outcome → Trial → Voted → Voted
 alone_by (Some e) o v = v
-alone_by None o v = judged_by (found o (prepared o v)) o (prepared o v)
+alone_by None o v = judged_by (own_verdict o (begin_step o v)) o (begin_step o v)
 
 -- the same, by the end that has come
 abbrev pub alone_step : Trial → Voted → Voted

@@ -14,8 +14,8 @@ use Rattle.lvdc_fault.specs.declared.verdict.Verdict.TheVariants as verdicts
 use Rattle.lvdc_model.specs.declared.outcome.Outcome.{Outcome}
 use Rattle.lvdc_model.specs.declared.outcome.Outcome.TheVariants as outcomes
 use Rattle.lvdc_model.specs.declared.repair.Repair.{Repair}
-use Rattle.lvdc_model.specs.Exchanges.{prepared, ended, latches, repair_by, reading, exchanges, wished}
-use Rattle.lvdc_model.specs.Runs.{after_steps, through_step, through_by, alone_step, alone_by, judged_by, found}
+use Rattle.lvdc_model.specs.Exchanges.{begin_step, with_end, latches, repair_by, reading, exchanges, wished}
+use Rattle.lvdc_model.specs.Runs.{after_steps, through_step, through_by, alone_step, alone_by, judged_by, own_verdict}
 use Rattle.lvdc_model.specs.Trial.{Trial}
 use Rattle.lvdc_model.specs.Twins.{read_answer}
 use Rattle.lvdc_model.specs.Voted.{Voted, voted_start}
@@ -77,15 +77,15 @@ exchanges_noted f o v (PortWrite port word) n = record {
   dated = below_more v.steps (suc v.steps) v.repairs (omega arith) n.dated;
 }
 
-prepared_noted : (f : Voted) (o : Trial) (v : Voted) → IsNoted f v → IsNoted f (prepared o v)
+prepared_noted : (f : Voted) (o : Trial) (v : Voted) → IsNoted f v → IsNoted f (begin_step o v)
 prepared_noted f o v n = record { few = n.few; dated = n.dated }
 
-ended_noted : (f : Voted) (v : Voted) (e : Outcome) → IsNoted f v → IsNoted f (ended v e)
+ended_noted : (f : Voted) (v : Voted) (e : Outcome) → IsNoted f v → IsNoted f (with_end v e)
 ended_noted f v e n = record { few = n.few; dated = n.dated }
 
 through_by_noted : (f : Voted) (end : Option Outcome) (o : Trial) (v : Voted) → IsNoted f v → IsNoted f (through_by end o v)
 through_by_noted f (Some e) o v n = n
-through_by_noted f None o v n = exchanges_noted f o (prepared o v) (wished o (prepared o v)) (prepared_noted f o v n)
+through_by_noted f None o v n = exchanges_noted f o (begin_step o v) (wished o (begin_step o v)) (prepared_noted f o v n)
 
 -- the run of either kind from a state
 through_noted : (f : Voted) → AreBelow f.steps f.repairs → (o : Trial) (t : ℕ) → IsNoted f (after_steps (through_step o) f t)
@@ -101,7 +101,7 @@ judged_by_noted f (verdicts.Memory step at) o v n = ended_noted f v (outcomes.In
 
 alone_by_noted : (f : Voted) (end : Option Outcome) (o : Trial) (v : Voted) → IsNoted f v → IsNoted f (alone_by end o v)
 alone_by_noted f (Some e) o v n = n
-alone_by_noted f None o v n = judged_by_noted f (found o (prepared o v)) o (prepared o v) (prepared_noted f o v n)
+alone_by_noted f None o v n = judged_by_noted f (own_verdict o (begin_step o v)) o (begin_step o v) (prepared_noted f o v n)
 
 alone_noted : (f : Voted) → AreBelow f.steps f.repairs → (o : Trial) (t : ℕ) → IsNoted f (after_steps (alone_step o) f t)
 alone_noted f below o zero = record { few = omega arith; dated = below }
@@ -122,7 +122,7 @@ state_from_noted f below (Some (outcomes.Stopped step stop)) mode o n = run_from
 state_from_noted f below (Some (outcomes.Inadmissible verdict)) mode o n = run_from_noted f below mode o n
 state_from_noted f below (Some (outcomes.Device step port)) mode o n =
     let v = run_to mode o f step in
-    ended_noted f (prepared o v) (outcomes.Device step port) (prepared_noted f o v (run_from_noted f below mode o (steps_since f.steps step)))
+    ended_noted f (begin_step o v) (outcomes.Device step port) (prepared_noted f o v (run_from_noted f below mode o (steps_since f.steps step)))
 
 -- at the start nothing is noted
 pub start_below : (o : Trial) → AreBelow (voted_start o).steps (voted_start o).repairs

@@ -13,8 +13,8 @@ use Rattle.lvdc_plain.specs.declared.records.Exchange.{Exchange}
 use Rattle.lvdc_model.specs.declared.outcome.Outcome.{Outcome}
 use Rattle.lvdc_model.specs.declared.outcome.Outcome.TheVariants.{Done, Stopped, Inadmissible, Device}
 use Rattle.lvdc_model.specs.declared.repair.Repair.{Repair}
-use Rattle.lvdc_model.specs.Exchanges.{prepared, repair_by, reading, exchanges, wished}
-use Rattle.lvdc_model.specs.Runs.{alone_by, judged_by, found}
+use Rattle.lvdc_model.specs.Exchanges.{begin_step, repair_by, reading, exchanges, wished}
+use Rattle.lvdc_model.specs.Runs.{alone_by, judged_by, own_verdict}
 use Rattle.lvdc_model.specs.Trial.{Trial}
 use Rattle.lvdc_model.specs.Twins.{read_answer}
 use Rattle.lvdc_model.specs.Voted.{Voted}
@@ -63,12 +63,12 @@ module _ (log : List Exchange) (repairs : List Repair) where
   judged-behind (Logic step m) o v h = record { exchanges = h.exchanges; log_is = h.log_is; mended = h.mended; repairs_is = h.repairs_is }
   judged-behind (Memory step at) o v h = record { exchanges = h.exchanges; log_is = h.log_is; mended = h.mended; repairs_is = h.repairs_is }
 
-  prepared-behind : (o : Trial) (v : Voted) → IsBehind log repairs v → IsBehind log repairs (prepared o v)
+  prepared-behind : (o : Trial) (v : Voted) → IsBehind log repairs v → IsBehind log repairs (begin_step o v)
   prepared-behind o v h = record { exchanges = h.exchanges; log_is = h.log_is; mended = h.mended; repairs_is = h.repairs_is }
 
   step-behind : (end : Option Outcome) (o : Trial) (v : Voted) → IsBehind log repairs v → IsBehind log repairs (alone_by end o v)
   step-behind (Some e) o v h = h
-  step-behind None o v h = judged-behind (found o (prepared o v)) o (prepared o v) (prepared-behind o v h)
+  step-behind None o v h = judged-behind (own_verdict o (begin_step o v)) o (begin_step o v) (prepared-behind o v h)
 
   run-behind : (o : Trial) (first : Voted) (n : ℕ) → IsBehind log repairs first → IsBehind log repairs (run_from Guarded o first n)
   run-behind o first zero h = h

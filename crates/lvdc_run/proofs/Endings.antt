@@ -8,8 +8,8 @@ use Rattle.lvdc_modules.specs.declared.wanted.Wanted.{Wanted}
 use Rattle.lvdc_modules.specs.declared.wanted.Wanted.TheVariants.{Nothing, Fetch, Operand, Store, PortRead, PortWrite}
 use Rattle.lvdc_fault.specs.declared.verdict.Verdict.{Verdict}
 use Rattle.lvdc_fault.specs.declared.verdict.Verdict.TheVariants.{Admissible, Logic, Memory}
-use Rattle.lvdc_model.specs.Exchanges.{prepared, stop_of, exchanges, reading, wished}
-use Rattle.lvdc_model.specs.Runs.{alone_by, through_by, judged_by, found}
+use Rattle.lvdc_model.specs.Exchanges.{begin_step, stop_of, exchanges, reading, wished}
+use Rattle.lvdc_model.specs.Runs.{alone_by, through_by, judged_by, own_verdict}
 use Rattle.lvdc_model.specs.Trial.{Trial}
 use Rattle.lvdc_model.specs.Twins.{read_answer}
 use Rattle.lvdc_model.specs.Voted.{Voted}
@@ -56,12 +56,12 @@ judged-end (Logic step m) o v = tt
 judged-end (Memory step at) o v = tt
 
 alone-end : (end : Option Outcome) (o : Trial) (v : Voted) → v.end ≡ end → IsEndOf Guarded v.end → IsEndOf Guarded (alone_by end o v).end
-alone-end None o v is h = judged-end (found o (prepared o v)) o (prepared o v)
+alone-end None o v is h = judged-end (own_verdict o (begin_step o v)) o (begin_step o v)
 alone-end (Some e) o v is h = h
 
 -- a step of the run through every fault
 through-end : (end : Option Outcome) (o : Trial) (v : Voted) → v.end ≡ end → IsEndOf Through v.end → IsEndOf Through (through_by end o v).end
-through-end None o v is h = exchange-end Through (wished o (prepared o v)) o (prepared o v)
+through-end None o v is h = exchange-end Through (wished o (begin_step o v)) o (begin_step o v)
 through-end (Some e) o v is h = h
 
 step-end : (mode : Mode) (o : Trial) (v : Voted) → IsEndOf mode v.end → IsEndOf mode (step_of mode o v).end

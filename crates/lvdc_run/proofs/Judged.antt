@@ -7,7 +7,7 @@ use Rattle.lvdc_map.specs.Banks.{HasBank}
 use Rattle.lvdc_plain.specs.Run.{Opening, run}
 use Rattle.lvdc_fault.specs.declared.verdict.Verdict.TheVariants.{Admissible}
 use Rattle.lvdc_phases.specs.Standing.{Standing}
-use Rattle.lvdc_model.specs.Exchanges.{prepared, ended, wished}
+use Rattle.lvdc_model.specs.Exchanges.{begin_step, with_end, wished}
 use Rattle.lvdc_model.specs.Judging.{first_bad, first_bad_below, is_recoverable, is_recoverable_after}
 use Rattle.lvdc_model.specs.Known.{last_begun, is_known}
 use Rattle.lvdc_model.specs.Runs.{guarded, alone}
@@ -34,7 +34,7 @@ record GuardedLaws (o : Trial) (n : ℕ) (kept : Option Outcome) : Type 0 where
   pub known : KnownLaw o
   pub times : (k : ℕ) → (plain_at o k).stop ≡ None → (plain_at o k).times ≡ k
   pub tells : Tells o (account o n) (guarded o (3 * n)) (guarded o (3 * n))
-  pub exchanged : (step port : ℕ) → (guarded o step).end ≡ None → NamesPort (wished o (prepared o (guarded o step))) port → IsExchanged o step port
+  pub exchanged : (step port : ℕ) → (guarded o step).end ≡ None → NamesPort (wished o (begin_step o (guarded o step))) port → IsExchanged o step port
   pub broken : GuardedBy kept o (3 * n) (state_by kept Guarded o (3 * n))
 
 -- ---- where a device failed
@@ -45,16 +45,16 @@ module _ (o : Trial) (n : ℕ) (step port : ℕ) (law : GuardedLaws o n (Some (D
 
   admitted : ExchangesAdmitted o n step port
   admitted =
-      let wish = subst (λ (v : Voted). NamesPort (wished o (prepared o v)) port) (law.same step) h.asked in
+      let wish = subst (λ (v : Voted). NamesPort (wished o (begin_step o v)) port) (law.same step) h.asked in
       record {
         plainly = record { early = h.early; exchanged = law.exchanged step port going wish };
         admissible = law.broken.admissible;
       }
 
   -- the state in which it failed tells the account of its step
-  broken-told : Tells o (begun_account o step (Device step port)) (ended (prepared o (guarded o step)) (Device step port)) (guarded o step)
+  broken-told : Tells o (begun_account o step (Device step port)) (with_end (begin_step o (guarded o step)) (Device step port)) (guarded o step)
   broken-told =
-      begun-told o step (Device step port) (prepared o (guarded o step)) (guarded o step) law.known law.broken.begun
+      begun-told o step (Device step port) (begin_step o (guarded o step)) (guarded o step) law.known law.broken.begun
       (law.times (step / 3) (running-there o step (law.comes step) going)) refl refl refl
 
 -- ---- by the end
@@ -70,7 +70,7 @@ tells_by o n steps (Some (Stopped step stop)) law ends = alone-told o n (Some (S
 tells_by o n steps (Some (Inadmissible verdict)) law ends = alone-told o n (Some (Inadmissible verdict)) law
 tells_by o n steps (Some (Device step port)) law h = (
   admitted o n step port law h,
-  subst (λ (v : Voted). Tells o (begun_account o step (Device step port)) (ended (prepared o v) (Device step port)) (guarded o step))
+  subst (λ (v : Voted). Tells o (begun_account o step (Device step port)) (with_end (begin_step o v) (Device step port)) (guarded o step))
       (sym (law.same step)) (broken-told o n step port law h),
 )
 
@@ -82,13 +82,13 @@ pub has_judged : {B : Type 0} (device_of : B → device.Device) (faults : B → 
     → ((o : Trial) → IsOpening o.opening → (k : ℕ) → first_bad_below o k ≡ Admissible → (at : Spot) → HasBank o.opening.banks at
     → is_known o (guarded o k) at ≡ is_recoverable_after o (guarded o k).steps at)
     → ((o : Trial) (k : ℕ) (v : Voted) (e : Outcome) (at : Spot) → HasBank o.opening.banks at → IsBegun o k v → last_begun (Some e) k ≡ Some k
-    → is_known o (ended v e) at ≡ is_recoverable o k at)
+    → is_known o (with_end v e) at ≡ is_recoverable o k at)
     → ((o : Opening) (k : ℕ) → (run o k).plain.stop ≡ None → (run o k).plain.times ≡ k)
     → ((o : Trial) → IsOpening o.opening → (k : ℕ) → first_bad o k ≡ Admissible → ShowsTimes o k (guarded o (3 * k)))
     → ((o : Trial) → IsOpening o.opening → (k : ℕ) → first_bad o k ≡ Admissible
     → (guarded o (3 * k)).end ≡ stop_end (plain_at o k).stop (plain_at o k).times)
     → ((o : Trial) → IsOpening o.opening → (k : ℕ) → first_bad o k ≡ Admissible → (guarded o (3 * k)).steps ≡ 3 * (plain_at o k).times)
-    → ((o : Trial) → IsOpening o.opening → (step port : ℕ) → (guarded o step).end ≡ None → NamesPort (wished o (prepared o (guarded o step))) port
+    → ((o : Trial) → IsOpening o.opening → (step port : ℕ) → (guarded o step).end ≡ None → NamesPort (wished o (begin_step o (guarded o step))) port
     → IsExchanged o step port)
     → ((o : Trial) (k : ℕ) (m : View) (ds : List device.Device) → IsOpening o.opening → m.mode ≡ Guarded → Stands o k m ds
     → GuardedBy m.end o k (state_by m.end m.mode o k))

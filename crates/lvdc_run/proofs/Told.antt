@@ -12,10 +12,10 @@ use Rattle.lvdc_fault.specs.declared.verdict.Verdict.{Verdict}
 use Rattle.lvdc_fault.specs.declared.verdict.Verdict.TheVariants.{Admissible, Memory as Unread}
 use Rattle.lvdc_phases.specs.Standing.{Standing}
 use Rattle.lvdc_phases.specs.States.{ShowsRegisters}
-use Rattle.lvdc_model.specs.Exchanges.{prepared, ended, wished}
+use Rattle.lvdc_model.specs.Exchanges.{begin_step, with_end, wished}
 use Rattle.lvdc_model.specs.Judging.{first_bad, first_bad_below, is_recoverable, is_recoverable_after}
 use Rattle.lvdc_model.specs.Known.{last_begun, is_known}
-use Rattle.lvdc_model.specs.Runs.{guarded, found_logic, found_memory, read_of_wish, recovers}
+use Rattle.lvdc_model.specs.Runs.{guarded, own_logic, own_memory, read_of_wish, recovers}
 use Rattle.lvdc_model.specs.Trial.{Trial, plain_at, plain_in}
 use Rattle.lvdc_model.specs.Voted.{Voted, votes}
 use Rattle.lvdc_model.specs.declared.outcome.Outcome.{Outcome}
@@ -87,7 +87,7 @@ pub record KnownLaw (o : Trial) : Type 0 where
   pub made : (n : ℕ) → first_bad_below o n ≡ Admissible → (at : Spot) → HasBank o.opening.banks at
       → is_known o (guarded o n) at ≡ is_recoverable_after o (guarded o n).steps at
   pub begun : (n : ℕ) (v : Voted) (e : Outcome) (at : Spot) → HasBank o.opening.banks at → IsBegun o n v
-      → last_begun (Some e) n ≡ Some n → is_known o (ended v e) at ≡ is_recoverable o n at
+      → last_begun (Some e) n ≡ Some n → is_known o (with_end v e) at ≡ is_recoverable o n at
 
 -- ---- a run of all its times, or up to a stop
 
@@ -117,11 +117,11 @@ whole-told o n law good shows end steps =
 
 -- its counts and repairs are those of any state with the same
 pub begun-told : (o : Trial) (step : ℕ) (e : Outcome) (u w : Voted) → KnownLaw o → IsBegun o step u → (plain_in o step).times ≡ step / 3
-    → last_begun (Some e) step ≡ Some step → u.counts ≡ w.counts → u.repairs ≡ w.repairs → Tells o (begun_account o step e) (ended u e) w
+    → last_begun (Some e) step ≡ Some step → u.counts ≡ w.counts → u.repairs ≡ w.repairs → Tells o (begun_account o step e) (with_end u e) w
 begun-told o step e u w law begun times last counts repairs =
     record {
       end = refl;
-      registers = visible-same (ended u e) (plain_in o step) begun.registers (ap (λ (k : ℕ). k / 3) begun.steps ∙ sym times);
+      registers = visible-same (with_end u e) (plain_in o step) begun.registers (ap (λ (k : ℕ). k / 3) begun.steps ∙ sym times);
       log = begun.log;
       words = begun.intended;
       known = λ at bank. law.begun step u e at bank begun last;
@@ -132,20 +132,20 @@ begun-told o step e u w law begun times last counts repairs =
 
 -- ---- the verdict names its step
 
-found-memory_step : (o : Trial) (v : Voted) (at : Option Spot) (w : Verdict) → found_memory o v at ≡ w → w ≢ Admissible → (n : ℕ)
+found-memory_step : (o : Trial) (v : Voted) (at : Option Spot) (w : Verdict) → own_memory o v at ≡ w → w ≢ Admissible → (n : ℕ)
     → account_by w o n ≡ begun_account o v.steps (Inadmissible w)
 found-memory_step o v None w is bad n = absurd (bad (sym is))
 found-memory_step o v (Some at) w is bad n = by_cell (recovers o v at) refl
   where
     by_cell : (b : Bool) → recovers o v at ≡ b → account_by w o n ≡ begun_account o v.steps (Inadmissible w)
     by_cell true e =
-        let none : found_memory o v (Some at) ≡ Admissible = rw e refl in
+        let none : own_memory o v (Some at) ≡ Admissible = rw e refl in
         absurd (bad (sym is ∙ none))
     by_cell false e =
-        let named : found_memory o v (Some at) ≡ Unread v.steps at = rw e refl in
+        let named : own_memory o v (Some at) ≡ Unread v.steps at = rw e refl in
         subst (λ (x : Verdict). account_by x o n ≡ begun_account o v.steps (Inadmissible x)) (sym named ∙ is) refl
 
-found-logic_step : (o : Trial) (v : Voted) (number : Option ℕ) (w : Verdict) → found_logic o v number ≡ w → w ≢ Admissible → (n : ℕ)
+found-logic_step : (o : Trial) (v : Voted) (number : Option ℕ) (w : Verdict) → own_logic o v number ≡ w → w ≢ Admissible → (n : ℕ)
     → account_by w o n ≡ begun_account o v.steps (Inadmissible w)
 found-logic_step o v (Some m) w is bad n =
     subst (λ (x : Verdict). account_by x o n ≡ begun_account o v.steps (Inadmissible x)) is refl
@@ -164,16 +164,16 @@ bad-told : (o : Trial) (n m : ℕ) → KnownLaw o → ((k : ℕ) → (plain_at o
     → Tells o (account o n) (guarded o (3 * n)) (guarded o (3 * n))
 bad-told o n m law count comes same first ends =
     let w = first_bad_below o (suc m) in
-    let u = prepared o (guarded o m) in
-    let state : ended u (Inadmissible w) ≡ guarded o (3 * n) = sym (same ∙ ends.ends) in
+    let u = begin_step o (guarded o m) in
+    let state : with_end u (Inadmissible w) ≡ guarded o (3 * n) = sym (same ∙ ends.ends) in
     let here : account_by w o n ≡ begun_account o m (Inadmissible w) =
     found-logic_step o u (wrong_module o.script u.steps) w ends.found ends.bad n
     ∙ ap (λ (k : ℕ). begun_account o k (Inadmissible w)) ends.begun.steps in
     let is : begun_account o m (Inadmissible w) ≡ account o n = sym here ∙ ap (λ (x : Verdict). account_by x o n) (sym first) in
-    let there : Tells o (begun_account o m (Inadmissible w)) (ended u (Inadmissible w)) (ended u (Inadmissible w)) =
-    begun-told o m (Inadmissible w) u (ended u (Inadmissible w)) law ends.begun (count (m / 3) (running-there o m comes ends.came)) refl refl refl in
+    let there : Tells o (begun_account o m (Inadmissible w)) (with_end u (Inadmissible w)) (with_end u (Inadmissible w)) =
+    begun-told o m (Inadmissible w) u (with_end u (Inadmissible w)) law ends.begun (count (m / 3) (running-there o m comes ends.came)) refl refl refl in
     subst (λ (v : Voted). Tells o (account o n) v v) state
-    (subst (λ (a : Account). Tells o a (ended u (Inadmissible w)) (ended u (Inadmissible w))) is there)
+    (subst (λ (a : Account). Tells o a (with_end u (Inadmissible w)) (with_end u (Inadmissible w))) is there)
 
 pub guarded-told : (o : Trial) (n : ℕ) → KnownLaw o → ((k : ℕ) → (plain_at o k).stop ≡ None → (plain_at o k).times ≡ k)
     → ((k : ℕ) → Comes Standing o k)

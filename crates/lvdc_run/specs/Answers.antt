@@ -6,7 +6,7 @@ use Rattle.lvdc_plain.specs.Run.{run}
 use Rattle.lvdc_plain.specs.declared.records.PlainEnd.{PlainEnd}
 use Rattle.lvdc_plain.specs.declared.records.PlainEnd.TheVariants as plain
 use Rattle.lvdc_model.specs.declared.outcome.Outcome.TheVariants.{Device}
-use Rattle.lvdc_model.specs.Exchanges.{prepared, ended}
+use Rattle.lvdc_model.specs.Exchanges.{begin_step, with_end}
 use Rattle.lvdc_model.specs.Runs.{guarded, through}
 use Rattle.lvdc_model.specs.Trial.{Trial, plain_in, plugged_in}
 use Rattle.lvdc_model.specs.Voted.{Voted}
@@ -72,7 +72,7 @@ begun_world o step = record { plain = plain_in o step; devices = plugged_in o st
 -- the answer of a run in which the device at this port fails in this step: it is of the run so far
 abbrev pub failed_answer : Job → Trial → ℕ → ℕ → Answer
 failed_answer (job.Deck Guarded) o step port = account_answer o (begun_account o step (Device step port)) (guarded o step)
-failed_answer (job.Deck Through) o step port = through_answer o (ended (prepared o (through o step)) (Device step port))
+failed_answer (job.Deck Through) o step port = through_answer o (with_end (begin_step o (through o step)) (Device step port))
 failed_answer (job.Deck Plain) o step port = plain_answer (plain.Device step port) (begun_world o step)
 failed_answer (job.Soak number) o step port = soak_answer number (begun_account o step (Device step port)) (guarded o step)
 

@@ -5,7 +5,7 @@ use Rattle.lvdc_port.specs.Device as device
 use Rattle.lvdc_plain.specs.declared.records.Stop.{Stop}
 use Rattle.lvdc_fault.specs.declared.verdict.Verdict.{Verdict}
 use Rattle.lvdc_fault.specs.declared.verdict.Verdict.TheVariants.{Admissible, Logic, Memory}
-use Rattle.lvdc_model.specs.Exchanges.{prepared, wished}
+use Rattle.lvdc_model.specs.Exchanges.{begin_step, wished}
 use Rattle.lvdc_model.specs.Judging.{first_bad}
 use Rattle.lvdc_model.specs.Runs.{guarded, alone}
 use Rattle.lvdc_model.specs.Trial.{Trial, plain_at}
@@ -28,7 +28,7 @@ pub record GuardedLaws (o : Trial) : Type 0 where
   pub same : (n : ℕ) → alone o n ≡ guarded o n
   pub verdict : (times : ℕ) → first_bad o times ≢ Admissible → (guarded o (3 * times)).end ≡ Some (Inadmissible (first_bad o times))
   pub ends : (times : ℕ) → first_bad o times ≡ Admissible → (guarded o (3 * times)).end ≡ stop_end (plain_at o times).stop (plain_at o times).times
-  pub exchanged : (n port : ℕ) → (guarded o n).end ≡ None → NamesPort (wished o (prepared o (guarded o n))) port → IsExchanged o n port
+  pub exchanged : (n port : ℕ) → (guarded o n).end ≡ None → NamesPort (wished o (begin_step o (guarded o n))) port → IsExchanged o n port
   pub follows : (n : ℕ) (m : View) (ds : List device.Device) → m.mode ≡ Guarded → Stands o n m ds → GuardedBy m.end o n (state_by m.end m.mode o n)
 
 -- ---- the status
@@ -57,7 +57,7 @@ exchange-failed o times step port m ds law mode s is =
     subst (λ (k : Mode). EndsAs (Some (Device step port)) o (3 * times) k m.steps) mode
     (subst (λ (e : Option Outcome). EndsAs e o (3 * times) m.mode m.steps) is s.ends) in
     let going : (guarded o step).end ≡ None = ap (λ (v : Voted). v.end) (sym (law.same step)) ∙ failed.going in
-    let wish = subst (λ (v : Voted). NamesPort (wished o (prepared o v)) port) (law.same step) failed.asked in
+    let wish = subst (λ (v : Voted). NamesPort (wished o (begin_step o v)) port) (law.same step) failed.asked in
     let broken = subst (λ (e : Option Outcome). GuardedBy e o (3 * times) (state_by e m.mode o (3 * times))) is (law.follows (3 * times) m ds mode s) in
     record {
       plainly = record { early = failed.early; exchanged = law.exchanged step port going wish };
