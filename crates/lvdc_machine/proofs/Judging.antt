@@ -49,7 +49,7 @@ idle_right script step h same m c = sym (same m c) ∙ ap (λ (es : List Event).
 
 -- where no copy is wrong, no module has two wrong ones
 pub right_two : (script : List Event) (step : ℕ) → ((m c : ℕ) → is_wrong script step m c ≡ false) → (m : ℕ) → two_wrong script step m ≡ false
-right_two script step h m = rw (h m 1, h m 2, h m 3) refl
+right_two script step h m = rw (h m 1, h m 2) refl
 
 -- and none is named
 pub right_none : (script : List Event) (step : ℕ) → ((m c : ℕ) → is_wrong script step m c ≡ false) → None ≡ wrong_module script step
