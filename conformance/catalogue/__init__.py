@@ -24,9 +24,8 @@ class Case:
         who = "a worked example" if self.worked else "by hand"
         if self.text is not None:
             return "%s, whole" % who
-        if self.has or self.lacks:
-            return "%s: %d lines; simulator" % (who, len(self.has) + len(self.lacks))
-        return "simulator"
+        lines = len(self.has) + len(self.lacks)
+        return "%s: %d line%s; simulator" % (who, lines, "" if lines == 1 else "s") if lines else "simulator"
 
 
 def block(text):
