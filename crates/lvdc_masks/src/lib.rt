@@ -1,0 +1,2 @@
+//! What a script alone decides: whether each fault is masked, whatever program runs.
+#![tactic(auto)]
