@@ -45,7 +45,11 @@ two_in_one_half = refl
 one_stuck_in_each_half : masks (Stick 0 here 0 9 0o1000000001 0 ∷ []) 0 4 ≡ true
 one_stuck_in_each_half = refl
 
--- three stuck bits of one half may change two
+-- two stuck bits of one half may both change
+two_stuck_in_one_half : masks (Stick 0 here 0 9 0o3 0 ∷ []) 0 4 ≡ false
+two_stuck_in_one_half = refl
+
+-- of three stuck bits of one half two may change
 three_stuck_in_one_half : masks (Stick 0 here 0 9 0o7 0 ∷ []) 0 4 ≡ false
 three_stuck_in_one_half = refl
 
