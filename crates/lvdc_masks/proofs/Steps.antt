@@ -6,11 +6,11 @@ use Rattle.std.specs.List.Sorted.{IsPermutation}
 use Rattle.std.proofs.lemmas.Bool.{true≢false, ltb-true, ltb-false, eqb-true, cases_eq, and_from, and_left, and_right, false_from_ne_true}
 use Rattle.std.proofs.lemmas.List.Elements.{All-weaker, filter_passes}
 use Rattle.std.proofs.lemmas.List.Sorted.{list_any-IsPermutation, All-permutation}
-use Rattle.lvdc_fault.specs.Script.{first_of, hurts, is_wrong, two_wrong, wrong_module}
+use Rattle.lvdc_fault.specs.Script.{first_of, makes_wrong, is_wrong, two_wrong, wrong_module}
 use Rattle.lvdc_fault.specs.declared.event.Event.{Event}
 use Rattle.lvdc_masks.specs.Form.{lines_in, one_wrong_before}
 use Rattle.lvdc_masks.specs.Copies.{NeverTwo, HasTwo}
-use Rattle.lvdc_masks.proofs.Sweeps.{hurts-begun}
+use Rattle.lvdc_masks.proofs.Sweeps.{makes_wrong-begun}
 
 -- ---- the lines of the run
 
@@ -22,16 +22,16 @@ wrong-in count step number copy (e ∷ es) below = by_run (nat_lt (first_of e) (
     rest = lines_in count es
 
     by_run : (b : Bool) → nat_lt (first_of e) (3 * count) ≡ b → is_wrong rest step number copy ≡ is_wrong es step number copy
-        → is_wrong (cond b (e ∷ rest) rest) step number copy ≡ (hurts step number copy e || is_wrong es step number copy)
-    by_run true is more = ap (λ (b : Bool). hurts step number copy e || b) more
+        → is_wrong (cond b (e ∷ rest) rest) step number copy ≡ (makes_wrong step number copy e || is_wrong es step number copy)
+    by_run true is more = ap (λ (b : Bool). makes_wrong step number copy e || b) more
     by_run false is more =
         let late : 3 * count ≤ first_of e = ltb-false (first_of e) (3 * count) is in
-        let idle : hurts step number copy e ≡ false = false_from_ne_true (hurts step number copy e) (λ acts. let begun : first_of e ≤ step = hurts-begun step number copy e acts in omega arith) in
+        let idle : makes_wrong step number copy e ≡ false = false_from_ne_true (makes_wrong step number copy e) (λ acts. let begun : first_of e ≤ step = makes_wrong-begun step number copy e acts in omega arith) in
         more ∙ sym (ap (λ (b : Bool). b || is_wrong es step number copy) idle)
 
 module _ (count : ℕ) (script sorted : List Event) (moved : IsPermutation (lines_in count script) sorted) where
   wrong-sorted : (step number copy : ℕ) → step < 3 * count → is_wrong sorted step number copy ≡ is_wrong script step number copy
-  wrong-sorted step number copy below = sym (list_any-IsPermutation (hurts step number copy) (lines_in count script) sorted moved) ∙ wrong-in count step number copy script below
+  wrong-sorted step number copy below = sym (list_any-IsPermutation (makes_wrong step number copy) (lines_in count script) sorted moved) ∙ wrong-in count step number copy script below
 
   two-sorted : (step number : ℕ) → step < 3 * count → two_wrong sorted step number ≡ two_wrong script step number
   two-sorted step number below =

@@ -7,7 +7,7 @@ use Rattle.std.proofs.lemmas.List.Elements.{All-from_get_or, All-head, All-tail,
 use Rattle.std.proofs.lemmas.List.Folds.{list_any-append, list_any_at}
 use Rattle.std.specs.List.Sorted.{IsNonDecreasingBy}
 use Rattle.std.proofs.lemmas.List.{take_more, get_or-take, length-take}
-use Rattle.lvdc_fault.specs.Script.{is_within, first_of, hurts, is_wrong, two_wrong}
+use Rattle.lvdc_fault.specs.Script.{is_within, first_of, makes_wrong, is_wrong, two_wrong}
 use Rattle.lvdc_fault.specs.declared.event.Event.{Event}
 use Rattle.lvdc_fault.specs.declared.event.Event.TheVariants.{Flip, Force, Lag, Deaf, Damage, Stick, Dead}
 use Rattle.lvdc_masks.specs.Copies.{NeverMeet, Meet, NeverTwoOf, HasTwoOf, IsWrongUntil, GoesOn, Meets}
@@ -35,23 +35,23 @@ begun_within : (a : Bool) (first last step : ℕ) → (a && is_within first last
 begun_within a first last step h = leb-true first step (and_parts (nat_le first step) (nat_le step last) (and_parts a (is_within first last step) h).1).0
 
 -- a line that acts at a step has begun
-pub hurts-begun : (step number copy : ℕ) (e : Event) → hurts step number copy e ≡ true → first_of e ≤ step
-hurts-begun step number copy (Flip m c first last index mask) h = begun_within (m == number && c == copy) first last step h
-hurts-begun step number copy (Force m c first last index mask value) h = begun_within (m == number && c == copy) first last step h
-hurts-begun step number copy (Lag m c first last) h = begun_within (m == number && c == copy) first last step h
-hurts-begun step number copy (Deaf m c first last) h = begun_within (m == number && c == copy) first last step h
-hurts-begun step number copy (Damage w at t mask) h = absurd (true≢false (sym h))
-hurts-begun step number copy (Stick w at first last mask value) h = absurd (true≢false (sym h))
-hurts-begun step number copy (Dead w pair first last) h = absurd (true≢false (sym h))
+pub makes_wrong-begun : (step number copy : ℕ) (e : Event) → makes_wrong step number copy e ≡ true → first_of e ≤ step
+makes_wrong-begun step number copy (Flip m c first last index mask) h = begun_within (m == number && c == copy) first last step h
+makes_wrong-begun step number copy (Force m c first last index mask value) h = begun_within (m == number && c == copy) first last step h
+makes_wrong-begun step number copy (Lag m c first last) h = begun_within (m == number && c == copy) first last step h
+makes_wrong-begun step number copy (Deaf m c first last) h = begun_within (m == number && c == copy) first last step h
+makes_wrong-begun step number copy (Damage w at t mask) h = absurd (true≢false (sym h))
+makes_wrong-begun step number copy (Stick w at first last mask value) h = absurd (true≢false (sym h))
+makes_wrong-begun step number copy (Dead w pair first last) h = absurd (true≢false (sym h))
 
-wrong-more : (before : List Event) (e : Event) (step number copy : ℕ) → is_wrong (before ++ e ∷ []) step number copy ≡ (is_wrong before step number copy || (hurts step number copy e || false))
-wrong-more before e step number copy = list_any-append (hurts step number copy) before (e ∷ [])
+wrong-more : (before : List Event) (e : Event) (step number copy : ℕ) → is_wrong (before ++ e ∷ []) step number copy ≡ (is_wrong before step number copy || (makes_wrong step number copy e || false))
+wrong-more before e step number copy = list_any-append (makes_wrong step number copy) before (e ∷ [])
 
 -- with one line more a copy is wrong up to before another step
 until-next : (before : List Event) (e : Event) (number copy mine others until : ℕ) → IsWrongUntil before number copy mine → GoesOn e number copy mine others until
     → IsWrongUntil (before ++ e ∷ []) number copy until
 until-next before e number copy mine others until w g step begun =
-    wrong-more before e step number copy ∙ ap (λ (b : Bool). b || (hurts step number copy e || false)) (w step parts.0) ∙ by_line (hurts step number copy e) refl
+    wrong-more before e step number copy ∙ ap (λ (b : Bool). b || (makes_wrong step number copy e || false)) (w step parts.0) ∙ by_line (makes_wrong step number copy e) refl
   where
     parts : All (λ x. first_of x ≤ step) before × (first_of e ≤ step)
     parts = all-parts (λ x. first_of x ≤ step) before e begun
@@ -64,7 +64,7 @@ until-next before e number copy mine others until w g step begun =
     or_false true = refl
     or_false false = refl
 
-    by_line : (b : Bool) → hurts step number copy e ≡ b → (nat_lt step mine || (b || false)) ≡ nat_lt step until
+    by_line : (b : Bool) → makes_wrong step number copy e ≡ b → (nat_lt step mine || (b || false)) ≡ nat_lt step until
     by_line true acts = or_true (nat_lt step mine) ∙ sym (lt-ltb step until (g.reaches step parts.1 acts))
     by_line false idle = or_false (nat_lt step mine) ∙ by_step (cases_lt step mine) (cases_lt step until)
       where
@@ -102,32 +102,32 @@ module _ (before : List Event) (e : Event) (number one other u v : ℕ) (s : Swe
         apart = λ step. false_from_ne_true (is_wrong (before ++ e ∷ []) step number one && is_wrong (before ++ e ∷ []) step number other) (never step);
       }
     where
-      one_more : (step copy : ℕ) → is_wrong (before ++ e ∷ []) step number copy ≡ true → (is_wrong before step number copy ≡ true) ⊎ (hurts step number copy e ≡ true)
-      one_more step copy k = by_case (or_cases (is_wrong before step number copy) (hurts step number copy e || false) (sym (wrong-more before e step number copy) ∙ k))
+      one_more : (step copy : ℕ) → is_wrong (before ++ e ∷ []) step number copy ≡ true → (is_wrong before step number copy ≡ true) ⊎ (makes_wrong step number copy e ≡ true)
+      one_more step copy k = by_case (or_cases (is_wrong before step number copy) (makes_wrong step number copy e || false) (sym (wrong-more before e step number copy) ∙ k))
         where
           by_or : (b : Bool) → (b || false) ≡ true → b ≡ true
           by_or true r = refl
           by_or false r = r
 
-          by_case : (is_wrong before step number copy ≡ true) ⊎ ((hurts step number copy e || false) ≡ true) → (is_wrong before step number copy ≡ true) ⊎ (hurts step number copy e ≡ true)
+          by_case : (is_wrong before step number copy ≡ true) ⊎ ((makes_wrong step number copy e || false) ≡ true) → (is_wrong before step number copy ≡ true) ⊎ (makes_wrong step number copy e ≡ true)
           by_case (inl q) = inl q
-          by_case (inr q) = inr (by_or (hurts step number copy e) q)
+          by_case (inr q) = inr (by_or (makes_wrong step number copy e) q)
 
-      clash : (step : ℕ) → (is_wrong before step number one ≡ true) ⊎ (hurts step number one e ≡ true)
-          → (is_wrong before step number other ≡ true) ⊎ (hurts step number other e ≡ true) → ⊥
+      clash : (step : ℕ) → (is_wrong before step number one ≡ true) ⊎ (makes_wrong step number one e ≡ true)
+          → (is_wrong before step number other ≡ true) ⊎ (makes_wrong step number other e ≡ true) → ⊥
       clash step (inl p) (inl q) = true≢false (sym (and_from (is_wrong before step number one) (is_wrong before step number other) p q) ∙ s.apart step)
       clash step (inr p) (inl q) =
           let late : v ≤ step = g.apart step p in
-          let early : step < v = ltb-true step v (sym (s.second step (begun step (hurts-begun step number one e p))) ∙ q) in
+          let early : step < v = ltb-true step v (sym (s.second step (begun step (makes_wrong-begun step number one e p))) ∙ q) in
           omega arith
       clash step (inl p) (inr q) =
           let late : u' ≤ step = h.apart step q in
-          let early : step < u = ltb-true step u (sym (s.first step (begun step (hurts-begun step number other e q))) ∙ p) in
+          let early : step < u = ltb-true step u (sym (s.first step (begun step (makes_wrong-begun step number other e q))) ∙ p) in
           let still : step < u' = g.keeps step early in
           omega arith
       clash step (inr p) (inr q) =
           let late : u' ≤ step = h.apart step q in
-          let still : step < u' = g.reaches step (hurts-begun step number one e p) p in
+          let still : step < u' = g.reaches step (makes_wrong-begun step number one e p) p in
           omega arith
 
       never : (step : ℕ) → (is_wrong (before ++ e ∷ []) step number one && is_wrong (before ++ e ∷ []) step number other) ≡ true → ⊥
@@ -142,8 +142,8 @@ module _ (lines : List Event) (i number one other u v : ℕ) (e : Event) (within
   early : (steps : ℕ) → All (λ x. first_of x < steps) lines → first_of e < steps
   early steps all = let at : first_of (get_or lines i e) < steps = all i e within in omega (arith, ap first_of is)
 
-  acts_in : (copy : ℕ) → hurts (first_of e) number copy e ≡ true → is_wrong lines (first_of e) number copy ≡ true
-  acts_in copy h = list_any_at (hurts (first_of e) number copy) lines i e within (ap (hurts (first_of e) number copy) (sym is) ∙ h)
+  acts_in : (copy : ℕ) → makes_wrong (first_of e) number copy e ≡ true → is_wrong lines (first_of e) number copy ≡ true
+  acts_in copy h = list_any_at (makes_wrong (first_of e) number copy) lines i e within (ap (makes_wrong (first_of e) number copy) (sym is) ∙ h)
 
   -- the first copy is hurt while the other one is wrong
   pub first-meets : Meets e number one v → Meet lines number one other
@@ -152,7 +152,7 @@ module _ (lines : List Event) (i number one other u v : ℕ) (e : Event) (within
         step = first_of e;
         before = early;
         both = and_from (is_wrong lines (first_of e) number one) (is_wrong lines (first_of e) number other)
-            (acts_in one m.acts) (any-take (hurts (first_of e) number other) lines i (s.second (first_of e) rising ∙ lt-ltb (first_of e) v m.early));
+            (acts_in one m.acts) (any-take (makes_wrong (first_of e) number other) lines i (s.second (first_of e) rising ∙ lt-ltb (first_of e) v m.early));
       }
 
   -- and the other way round
@@ -163,7 +163,7 @@ module _ (lines : List Event) (i number one other u v : ℕ) (e : Event) (within
         step = first_of e;
         before = early;
         both = and_from (is_wrong lines (first_of e) number one) (is_wrong lines (first_of e) number other)
-            (any-take (hurts (first_of e) number one) lines (i + 1)
+            (any-take (makes_wrong (first_of e) number one) lines (i + 1)
             (ap (λ (xs : List Event). is_wrong xs (first_of e) number one) next
             ∙ until-next (take i lines) e number one u v u' s.first g (first_of e) all ∙ lt-ltb (first_of e) u' m.early))
             (acts_in other m.acts);

@@ -1,6 +1,6 @@
 -- When copies of a module are wrong in the same step, by the lines of a script.
 use Rattle.std.specs.Prelude.{◌≡◌, ℕ, ◌<◌, ◌≤◌, Bool, true, false, ◌&&◌, nat_lt, List, All}
-use Rattle.lvdc_fault.specs.Script.{first_of, hurts, is_wrong, two_wrong}
+use Rattle.lvdc_fault.specs.Script.{first_of, makes_wrong, is_wrong, two_wrong}
 use Rattle.lvdc_fault.specs.declared.event.Event.{Event}
 
 -- two copies of a module are never wrong in the same step
@@ -41,12 +41,12 @@ IsWrongUntil lines number copy until = (step : ℕ) → All (λ e. first_of e �
 -- with one line more, from its first step on, a copy is wrong up to before this step; and where the line acts on the copy, another
 -- one is no longer wrong
 pub record GoesOn (line : Event) (number copy mine others until : ℕ) : Type 0 where
-  pub reaches : (step : ℕ) → first_of line ≤ step → hurts step number copy line ≡ true → step < until
+  pub reaches : (step : ℕ) → first_of line ≤ step → makes_wrong step number copy line ≡ true → step < until
   pub keeps : (step : ℕ) → step < mine → step < until
-  pub ends : (step : ℕ) → first_of line ≤ step → step < until → hurts step number copy line ≡ false → step < mine
-  pub apart : (step : ℕ) → hurts step number copy line ≡ true → others ≤ step
+  pub ends : (step : ℕ) → first_of line ≤ step → step < until → makes_wrong step number copy line ≡ false → step < mine
+  pub apart : (step : ℕ) → makes_wrong step number copy line ≡ true → others ≤ step
 
 -- the line begins to act on a copy while another one is still wrong
 pub record Meets (line : Event) (number copy others : ℕ) : Type 0 where
-  pub acts : hurts (first_of line) number copy line ≡ true
+  pub acts : makes_wrong (first_of line) number copy line ≡ true
   pub early : first_of line < others

@@ -3,7 +3,7 @@
 ghost use Rattle.std.specs.Prelude.{◌≡◌, ℕ, ◌*◌, ◌≤◌, false, List, MatchBool, MatchOption};
 ghost use Rattle.std.specs.List.Sorted.{IsNonDecreasingBy};
 ghost use Rattle.lvdc_fault.specs.declared.event.Event.{Event};
-ghost use Rattle.lvdc_fault.specs.Script.{first_of, hurts, is_within};
+ghost use Rattle.lvdc_fault.specs.Script.{first_of, makes_wrong, is_within};
 ghost use Rattle.lvdc_masks.specs.Form.{lines_in, one_wrong_before};
 ghost use Rattle.lvdc_masks.specs.Copies.{NeverMeet, Meet, NeverTwoOf, HasTwoOf, NeverTwo, HasTwo, GoesOn, Meets};
 
@@ -88,8 +88,8 @@ struct Span {
 
 /// The steps at which a line acts on a copy of a module, if there are any.
 fn span_on(line: &Event, number: u8, copy: u8) -> Option<Span>
-    ensures { MatchOption result ((step : ℕ) → hurts step number copy line.now ≡ false)
-        (λ span. (span.first ≡ first_of line.now) × (span.first ≤ span.last) × ((step : ℕ) → hurts step number copy line.now ≡ is_within span.first span.last step)) }
+    ensures { MatchOption result ((step : ℕ) → makes_wrong step number copy line.now ≡ false)
+        (λ span. (span.first ≡ first_of line.now) × (span.first ≤ span.last) × ((step : ℕ) → makes_wrong step number copy line.now ≡ is_within span.first span.last step)) }
 {
     match *line {
         Event::Flip {

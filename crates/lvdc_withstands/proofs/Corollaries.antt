@@ -5,7 +5,7 @@ use Rattle.std.specs.List.{list_any, list_all, cons_option}
 use Rattle.std.proofs.lemmas.Bool.{true≢false, eqb-true, eq-eqb, and_from, and_parts, or_cases, or_left, or_right, or_from, and_left, not-true, not_from_false, false_from_ne_true}
 use Rattle.lvdc_word.specs.Cell.{ones}
 use Rattle.lvdc_map.specs.Address.{Spot, is_same}
-use Rattle.lvdc_fault.specs.Script.{first_of, hurts, is_within, is_wrong, two_wrong, wrong_module}
+use Rattle.lvdc_fault.specs.Script.{first_of, makes_wrong, is_within, is_wrong, two_wrong, wrong_module}
 use Rattle.lvdc_fault.specs.declared.event.Event.{Event}
 use Rattle.lvdc_fault.specs.declared.event.Event.TheVariants.{Flip, Force, Lag, Deaf, Damage, Stick, Dead}
 use Rattle.lvdc_masks.specs.Form.{lines_in, one_wrong_before, is_duplex_pair, is_duplex, is_odd, is_seen, is_lasting, place_of, none_twice, names_twin, kills_in, is_one_sound, masks}
@@ -150,7 +150,7 @@ module _ (copy : ℕ → ℕ) (banks count twin : ℕ) where
       let both = and_parts (number == m) (c == d) (and_parts (number == m && c == d) within hit).0 in
       sym (eqb-true c d both.1) ∙ eqb-true c (copy number) (left (c == copy number) h) ∙ ap copy (eqb-true number m both.0)
 
-  three_copy : (step m d : ℕ) (e : Event) → Of e → hurts step m d e ≡ true → d ≡ copy m
+  three_copy : (step m d : ℕ) (e : Event) → Of e → makes_wrong step m d e ≡ true → d ≡ copy m
   three_copy step m d (Flip number c first last index mask) h hit = copy_of_three number c m d (is_within first last step) h hit
   three_copy step m d (Force number c first last index mask value) h hit = copy_of_three number c m d (is_within first last step) h hit
   three_copy step m d (Lag number c first last) h hit = copy_of_three number c m d (is_within first last step) h hit
@@ -175,7 +175,7 @@ module _ (copy : ℕ → ℕ) (banks count twin : ℕ) where
 
   module _ (script : List Event) (all : list_all (is_of_three copy banks count twin) script ≡ true) where
     wrong_copy : (step m d : ℕ) → is_wrong script step m d ≡ true → d ≡ copy m
-    wrong_copy step m d h = any_of (hurts step m d) d (copy m) (three_copy step m d) script all h
+    wrong_copy step m d h = any_of (makes_wrong step m d) d (copy m) (three_copy step m d) script all h
 
     not_two : (step m c d : ℕ) → (c ≡ d → ⊥) → (is_wrong script step m c && is_wrong script step m d) ≡ false
     not_two step m c d differ =
