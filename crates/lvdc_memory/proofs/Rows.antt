@@ -3,7 +3,8 @@ use Rattle.std.proofs.Common.{◌≡◌, true, false, [], ◌∷◌, None, Some,
 use Rattle.lvdc_word.specs.Cell.{with_stuck}
 use Rattle.lvdc_map.specs.Address.{Spot}
 use Rattle.lvdc_fault.specs.declared.event.Event.TheVariants.{Damage, Stick, Dead}
-use Rattle.lvdc_memory.specs.Faults.{is_dead_since, stuck_beside, sticks_at, kills_in}
+use Rattle.lvdc_fault.specs.Damage.{stuck_beside}
+use Rattle.lvdc_memory.specs.Faults.{is_dead_since, sticks_at, kills_in}
 
 abbrev place : Spot
 place = record { pair = 2; sector = 3; loc = 4 }
