@@ -1,7 +1,6 @@
 -- Worked values of the definitions.
-use Rattle.std.proofs.Common.{◌≡◌, refl, List, [], ◌∷◌, true, false}
+use Rattle.std.proofs.Common.{◌≡◌, refl, [], ◌∷◌, true, false}
 use Rattle.lvdc_map.specs.Address.{Spot}
-use Rattle.lvdc_fault.specs.declared.event.Event.{Event}
 use Rattle.lvdc_fault.specs.declared.event.Event.TheVariants.{Flip, Lag, Deaf, Damage, Stick, Dead}
 use Rattle.lvdc_masks.specs.Form.{masks}
 

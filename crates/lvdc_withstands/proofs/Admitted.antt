@@ -1,5 +1,5 @@
 -- Under a script that masks by form each step of the run is admissible, and each word can be recovered.
-use Rattle.std.proofs.Common.{◌≡◌, ℕ, zero, suc, ◌+◌, ◌*◌, ◌/◌, ◌%◌, ◌^◌, ◌<◌, ◌≤◌, Bool, true, false, not, ◌&&◌, cond, List, [], ◌∷◌, refl, sym, ap, ◌∙◌, subst, arith, ⊎_elim}
+use Rattle.std.proofs.Common.{◌≡◌, ℕ, zero, suc, ◌*◌, ◌/◌, ◌%◌, ◌^◌, ◌<◌, ◌≤◌, Bool, true, false, ◌&&◌, cond, List, [], ◌∷◌, refl, sym, ap, ◌∙◌, arith, ⊎_elim}
 use Rattle.std.specs.Prelude.{is_none, filter_map}
 use Rattle.std.specs.List.{list_all}
 use Rattle.std.specs.declared.option.Option.{Option}
@@ -8,18 +8,17 @@ use Rattle.std.proofs.lemmas.Bool.{true≢false, and_parts, cases_eq}
 use Rattle.lvdc_map.specs.Address.{Spot}
 use Rattle.lvdc_map.specs.Banks.{is_simplex, home, holds, HasBank}
 use Rattle.lvdc_map.specs.Memory.{word_at}
-use Rattle.lvdc_plain.specs.Run.{Opening, run}
+use Rattle.lvdc_plain.specs.Run.{run}
 use Rattle.lvdc_fault.specs.Script.{wrong_module}
 use Rattle.lvdc_fault.specs.declared.event.Event.{Event}
-use Rattle.lvdc_fault.specs.declared.verdict.Verdict.{Verdict}
 use Rattle.lvdc_fault.specs.declared.verdict.Verdict.TheVariants as verdicts
 use Rattle.lvdc_phases.specs.Standing.{Standing}
 use Rattle.lvdc_model.specs.Trial.{Trial, plain_in, read_at}
-use Rattle.lvdc_model.specs.Judging.{judged, judged_logic, judged_memory, is_begun, is_recoverable, is_recoverable_after, or_else, first_bad_below}
+use Rattle.lvdc_model.specs.Judging.{judged, judged_logic, judged_memory, is_begun, is_recoverable, is_recoverable_after, first_bad_below}
 use Rattle.lvdc_model.specs.Runs.{guarded}
 use Rattle.lvdc_laws.specs.Ends.{IsOpening, Comes, Good, Bad}
 use Rattle.lvdc_laws.specs.Laws.{PortLaw, DeviceWords, BankLaw}
-use Rattle.lvdc_laws.specs.Relation.{Follows, Goes, Halts}
+use Rattle.lvdc_laws.specs.Relation.{Goes, Halts}
 use Rattle.lvdc_masks.specs.Form.{lines_in, one_wrong_before, is_duplex, is_seen, is_lasting, place_of, none_twice, is_one_sound, masks}
 use Rattle.lvdc_withstands.proofs.Lines.{lone}
 use Rattle.lvdc_withstands.proofs.Runs.{WordsLaw, HasWords, run-words, HasBanks, read-bank, next-word}

@@ -1,18 +1,16 @@
 -- Under a script that masks by form each twin that is alive stores and shows the plain run's word, or a bad cell, and one of the
 -- two shows the word.
-use Rattle.std.proofs.Common.{◌≡◌, ℕ, zero, suc, ◌+◌, ◌*◌, ◌/◌, ◌%◌, ◌^◌, ◌<◌, ◌≤◌, Bool, true, false, not, ◌&&◌, ◌||◌, cond, ◌==◌, bit_or, bit_xor, List, [], ◌∷◌, ◌⊎◌, inl, inr, refl, sym, ap, ◌∙◌, subst, arith}
-use Rattle.std.specs.Prelude.{nat_lt, nat_le}
-use Rattle.std.specs.List.{list_any, list_all}
+use Rattle.std.proofs.Common.{◌≡◌, ℕ, suc, ◌<◌, Bool, true, false, not, ◌&&◌, ◌||◌, cond, ◌==◌, bit_or, bit_xor, ◌⊎◌, inl, inr, refl, sym, ap, ◌∙◌, arith}
 use Rattle.std.specs.Int.Bits.{or_zero_l}
 use Rattle.std.specs.declared.option.Option.{Option}
 use Rattle.std.specs.declared.option.Option.TheVariants.{None, Some}
-use Rattle.std.proofs.lemmas.Bool.{true≢false, eqb-true, eq-eqb, and_from, and_parts, or_left, or_right, not_from_false}
+use Rattle.std.proofs.lemmas.Bool.{eqb-true, eq-eqb, and_from, and_parts, or_left, or_right, not_from_false}
 use Rattle.lvdc_word.specs.Cell.{code_of, is_good, with_stuck}
 use Rattle.lvdc_map.specs.Address.{Spot, is_same}
-use Rattle.lvdc_map.specs.Banks.{is_simplex, home, holds}
+use Rattle.lvdc_map.specs.Banks.{home, holds}
 use Rattle.lvdc_twin.specs.Store.{nothing, survives}
 use Rattle.lvdc_fault.specs.Script.{is_within}
-use Rattle.lvdc_fault.specs.Damage.{damaged_by, stuck_by, stuck, is_dead, shown_of}
+use Rattle.lvdc_fault.specs.Damage.{damaged_by, stuck_by, is_dead}
 use Rattle.lvdc_fault.specs.declared.event.Event.{Event}
 use Rattle.lvdc_fault.specs.declared.event.Event.TheVariants.{Flip, Force, Lag, Deaf, Damage, Stick, Dead}
 use Rattle.lvdc_plain.specs.Accesses.{Store}

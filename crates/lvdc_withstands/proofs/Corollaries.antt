@@ -1,14 +1,14 @@
 -- Faults of the three kinds mask by form.
-use Rattle.std.proofs.Common.{◌≡◌, ℕ, zero, suc, ◌+◌, ◌*◌, ◌/◌, ◌%◌, ◌^◌, ◌<◌, ◌≤◌, Bool, true, false, not, ◌&&◌, ◌||◌, cond, ◌==◌, List, [], ◌∷◌, ◌⊎◌, inl, inr, refl, sym, ap, ◌∙◌, arith}
+use Rattle.std.proofs.Common.{◌≡◌, ℕ, zero, suc, ◌+◌, ◌*◌, ◌/◌, ◌%◌, ◌^◌, Bool, true, false, not, ◌&&◌, ◌||◌, cond, ◌==◌, List, [], ◌∷◌, ◌⊎◌, inl, inr, refl, sym, ap, ◌∙◌, arith}
 use Rattle.std.specs.Prelude.{Option, None, Some, is_none, nat_lt, nat_le, find, filter_map}
 use Rattle.std.specs.List.{list_any, list_all, cons_option}
-use Rattle.std.proofs.lemmas.Bool.{true≢false, eqb-true, eq-eqb, and_from, and_parts, or_cases, or_left, or_right, or_from, and_left, not-true, not_from_false, false_from_ne_true}
+use Rattle.std.proofs.lemmas.Bool.{true≢false, eqb-true, eq-eqb, and_from, and_parts, or_cases, or_left, or_right, or_from, not-true, not_from_false, false_from_ne_true}
 use Rattle.lvdc_word.specs.Cell.{ones}
 use Rattle.lvdc_map.specs.Address.{Spot, is_same}
 use Rattle.lvdc_fault.specs.Script.{first_of, makes_wrong, is_within, is_wrong, two_wrong, wrong_module}
 use Rattle.lvdc_fault.specs.declared.event.Event.{Event}
 use Rattle.lvdc_fault.specs.declared.event.Event.TheVariants.{Flip, Force, Lag, Deaf, Damage, Stick, Dead}
-use Rattle.lvdc_masks.specs.Form.{lines_in, one_wrong_before, is_duplex_pair, is_duplex, is_odd, is_seen, is_lasting, place_of, none_twice, names_twin, kills_in, is_one_sound, masks}
+use Rattle.lvdc_masks.specs.Form.{lines_in, one_wrong_before, is_duplex_pair, is_duplex, is_seen, is_lasting, place_of, none_twice, names_twin, kills_in, is_one_sound, masks}
 use Rattle.lvdc_withstands.specs.Kinds.{is_in_copy, is_death, is_bit_damage, is_of_three, OneBitEach, AllThree}
 
 -- ---- lists of lines

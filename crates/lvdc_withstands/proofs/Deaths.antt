@@ -1,9 +1,8 @@
 -- Which twins die under a script that masks by form.
-use Rattle.std.proofs.Common.{◌≡◌, ℕ, zero, suc, ◌+◌, ◌*◌, ◌<◌, ◌≤◌, Bool, true, false, not, ◌&&◌, ◌||◌, cond, ◌==◌, List, [], ◌∷◌, ◌⊎◌, inl, inr, refl, sym, ap, ◌∙◌, arith}
+use Rattle.std.proofs.Common.{◌≡◌, ℕ, ◌+◌, ◌*◌, ◌<◌, ◌≤◌, Bool, true, false, not, ◌&&◌, ◌||◌, cond, ◌==◌, List, [], ◌∷◌, ◌⊎◌, inl, inr, refl, sym, ap, ◌∙◌, arith}
 use Rattle.std.specs.Prelude.{nat_lt, nat_le}
 use Rattle.std.specs.List.{list_any, list_all}
-use Rattle.std.proofs.lemmas.Bool.{true≢false, eqb-true, ltb-true, ltb-false, lt-ltb, leb-true, le-leb, or_cases, or_from, or_left, or_right, and_from, and_parts, not-true, not_from_true, false_from_ne_true}
-use Rattle.lvdc_map.specs.Address.{Spot}
+use Rattle.std.proofs.lemmas.Bool.{true≢false, eqb-true, lt-ltb, leb-true, le-leb, or_cases, or_from, or_left, or_right, and_from, and_parts, not-true, false_from_ne_true}
 use Rattle.lvdc_map.specs.Banks.{is_simplex}
 use Rattle.lvdc_fault.specs.Script.{is_within, first_of}
 use Rattle.lvdc_fault.specs.Damage.{kills, is_dead}

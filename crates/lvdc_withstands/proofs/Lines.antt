@@ -1,19 +1,17 @@
 -- What the lines of a script that masks by form do to one place and to one pair.
-use Rattle.std.proofs.Common.{◌≡◌, ℕ, zero, suc, ◌+◌, ◌*◌, ◌<◌, ◌≤◌, Bool, true, false, not, ◌&&◌, ◌||◌, cond, ◌==◌, bit_or, bit_xor, List, [], ◌∷◌, Option, None, Some, ◌⊎◌, inl, inr, refl, sym, ap, ◌∙◌, subst, arith}
+use Rattle.std.proofs.Common.{◌≡◌, ℕ, ◌*◌, ◌<◌, ◌≤◌, Bool, true, false, not, ◌&&◌, ◌||◌, cond, ◌==◌, bit_or, bit_xor, List, [], ◌∷◌, Option, None, Some, refl, ap, ◌∙◌, arith}
 use Rattle.std.specs.Prelude.{nat_lt, nat_le, filter_map}
 use Rattle.std.specs.List.{list_any, list_all, cons_option}
-use Rattle.std.proofs.lemmas.Bool.{true≢false, eqb-true, ne_eqb, eq-eqb, ltb-true, ltb-false, lt-ltb, leb-true, le-leb, lt-leb, or_cases, or_from, or_left, or_right, and_from, and_parts, and_left, and_right, not-true, not_from_true, cond-false, false_from_ne_true}
+use Rattle.std.proofs.lemmas.Bool.{true≢false, ne_eqb, ltb-false, lt-leb, or_from, or_left, or_right, and_parts, and_left, not-true}
 use Rattle.lvdc_word.specs.Cell.{with_stuck}
 use Rattle.lvdc_map.specs.Address.{Spot, is_same}
-use Rattle.lvdc_map.specs.Banks.{is_simplex}
 use Rattle.lvdc_map.proofs.Addresses.{same-spot}
-use Rattle.lvdc_twin.specs.Store.{nothing}
 use Rattle.lvdc_twin.specs.declared.stuck.Stuck.{Stuck}
 use Rattle.lvdc_fault.specs.Script.{is_within, first_of}
-use Rattle.lvdc_fault.specs.Damage.{damaged, damaged_by, stuck_by, stuck_after, stuck, kills, is_dead}
+use Rattle.lvdc_fault.specs.Damage.{damaged, damaged_by, stuck_by, stuck_after}
 use Rattle.lvdc_fault.specs.declared.event.Event.{Event}
-use Rattle.lvdc_fault.specs.declared.event.Event.TheVariants.{Flip, Force, Lag, Deaf, Damage, Stick, Dead}
-use Rattle.lvdc_masks.specs.Form.{lines_in, is_duplex, is_seen, is_lasting, place_of, none_twice, names_twin, kills_in, is_one_sound}
+use Rattle.lvdc_fault.specs.declared.event.Event.TheVariants.{Lag, Damage, Stick}
+use Rattle.lvdc_masks.specs.Form.{lines_in, is_seen, place_of, none_twice, names_twin}
 
 -- ---- a line that does nothing at a place
 

@@ -1,22 +1,21 @@
 -- Under a script that masks by form each word can be recovered, in each step of the run and after it, and each step is admissible.
-use Rattle.std.proofs.Common.{◌≡◌, ℕ, zero, suc, ◌+◌, ◌*◌, ◌/◌, ◌%◌, ◌^◌, ◌<◌, ◌≤◌, Bool, true, false, not, ◌&&◌, ◌||◌, cond, ◌==◌, List, [], ◌∷◌, ◌⊎◌, inl, inr, refl, sym, ap, ◌∙◌, subst, arith}
-use Rattle.std.specs.Prelude.{nat_lt}
+use Rattle.std.proofs.Common.{◌≡◌, ℕ, zero, suc, ◌*◌, ◌/◌, ◌%◌, ◌^◌, ◌<◌, ◌≤◌, Bool, true, false, ◌==◌, List, ◌⊎◌, inl, inr, refl, sym, ◌∙◌, subst, arith}
 use Rattle.std.specs.List.{list_any, list_all}
-use Rattle.std.proofs.lemmas.Bool.{true≢false, eqb-true, eq-eqb, and_parts, cases_Bool, false_from_ne_true}
-use Rattle.lvdc_word.specs.Cell.{code_of, is_good, with_stuck}
+use Rattle.std.proofs.lemmas.Bool.{true≢false, eqb-true, eq-eqb, and_parts, false_from_ne_true}
+use Rattle.lvdc_word.specs.Cell.{code_of, is_good}
 use Rattle.lvdc_word.proofs.Parity.{good-code}
 use Rattle.lvdc_map.specs.Address.{Spot}
 use Rattle.lvdc_map.specs.Banks.{is_simplex, home, holds, HasBank}
 use Rattle.lvdc_map.specs.Memory.{word_at}
 use Rattle.lvdc_twin.specs.Store.{nothing, survives}
-use Rattle.lvdc_fault.specs.Damage.{is_dead, stuck, stuck_by, damaged, damaged_by}
+use Rattle.lvdc_fault.specs.Damage.{is_dead}
 use Rattle.lvdc_fault.specs.Recoverable.{is_recovered, recovers_by}
 use Rattle.lvdc_fault.specs.declared.event.Event.{Event}
 use Rattle.lvdc_fault.specs.declared.event.Event.TheVariants.{Flip, Force, Lag, Deaf, Damage, Stick, Dead}
 use Rattle.lvdc_model.specs.Trial.{Trial, plain_in, store_at}
-use Rattle.lvdc_model.specs.CellsBefore.{cell_before, damaged_at, is_mended, mended, overwritten, shown_with}
+use Rattle.lvdc_model.specs.CellsBefore.{cell_before, damaged_at, is_mended, mended, shown_with}
 use Rattle.lvdc_model.specs.Judging.{is_recoverable, is_recoverable_after}
-use Rattle.lvdc_masks.specs.Form.{lines_in, is_duplex, is_seen, is_lasting, names_twin, kills_in, is_one_sound}
+use Rattle.lvdc_masks.specs.Form.{lines_in, is_duplex, is_lasting, names_twin, is_one_sound}
 use Rattle.lvdc_withstands.proofs.Lines.{LoneAt}
 use Rattle.lvdc_withstands.proofs.Deaths.{dead-dies, dead-named, dead-stays, simplex-unnamed, both-live}
 use Rattle.lvdc_withstands.proofs.Cells.{Sound, Shows, damage-sound, mended-sound, stored-sound, stuck-shown, survives-first, survives-second, word_after}

@@ -1,12 +1,12 @@
 -- A reader of parity sees damage of an odd number of bits in some half, and stuck bits of which each half has at most one.
-use Rattle.std.proofs.Common.{◌≡◌, ℕ, zero, suc, ◌+◌, ◌*◌, ◌/◌, ◌%◌, ◌^◌, ◌<◌, ◌≤◌, Bool, true, false, ◌&&◌, ◌||◌, ◌==◌, bit_and, bit_xor, min, ◌⊎◌, inl, inr, refl, sym, ap, ◌∙◌, arith}
+use Rattle.std.proofs.Common.{◌≡◌, ℕ, zero, suc, ◌+◌, ◌*◌, ◌/◌, ◌%◌, ◌^◌, ◌<◌, ◌≤◌, true, false, ◌&&◌, ◌||◌, ◌==◌, bit_and, bit_xor, min, ◌⊎◌, inl, inr, refl, sym, ap, ◌∙◌, arith}
 use Rattle.std.specs.Prelude.{nat_lt, nat_le}
 use Rattle.std.specs.Int.Bits.{xor_zero_r}
 use Rattle.std.proofs.lemmas.Bool.{eqb-true, ne_eqb, eq-eqb, leb-true, ltb-true, or_cases, or_left, or_right, and_parts, and_left, and_right}
 use Rattle.std.proofs.lemmas.Nat.{xor_shr, xor_mod, and_shr, and_mod, and_le_r}
 use Rattle.std.proofs.lemmas.Nat.Bits.{bit_at_lowest, bit_at_xor, bit_at_and}
 use Rattle.lvdc_word.specs.Cell.{ones, is_good_half, is_good, with_stuck}
-use Rattle.lvdc_masks.specs.Form.{is_odd, is_single, is_seen}
+use Rattle.lvdc_masks.specs.Form.{is_odd, is_single}
 
 -- ---- ones
 

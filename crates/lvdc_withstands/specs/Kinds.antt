@@ -1,5 +1,5 @@
 -- Kinds of faults that every program withstands.
-use Rattle.std.specs.Prelude.{◌≡◌, ℕ, ◌+◌, ◌*◌, ◌/◌, ◌%◌, ◌^◌, Bool, true, false, not, ◌&&◌, ◌||◌, ◌==◌, nat_le, List, filter_map}
+use Rattle.std.specs.Prelude.{◌≡◌, ℕ, ◌+◌, ◌*◌, ◌/◌, ◌%◌, ◌^◌, Bool, true, false, ◌&&◌, ◌||◌, ◌==◌, nat_le, List, filter_map}
 use Rattle.std.specs.List.{list_all}
 use Rattle.lvdc_word.specs.Cell.{ones}
 use Rattle.lvdc_fault.specs.declared.event.Event.{Event}

@@ -1,6 +1,6 @@
 -- The ones of a half are those of its 14 bits.
 use Rattle.std.proofs.Common.{ℕ, Bool, ◌^◌, ◌&&◌, sym, ap, ◌∙◌}
-use Rattle.std.specs.Prelude.{nat_lt, nat_le}
+use Rattle.std.specs.Prelude.{nat_le}
 use Rattle.std.proofs.lemmas.Bool.{lt-ltb}
 use Rattle.lvdc_word.specs.Cell.{ones}
 use Rattle.lvdc_word.proofs.Parity.{ones-count}
