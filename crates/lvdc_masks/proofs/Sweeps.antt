@@ -7,7 +7,7 @@ use Rattle.std.proofs.lemmas.List.Elements.{All-from_get_or, All-head, All-tail,
 use Rattle.std.proofs.lemmas.List.Folds.{list_any-append, list_any_at}
 use Rattle.std.specs.List.Sorted.{IsNonDecreasingBy}
 use Rattle.std.proofs.lemmas.List.{take_more, get_or-take, length-take}
-use Rattle.lvdc_fault.specs.Script.{is_within, first_of, hurts, is_wrong}
+use Rattle.lvdc_fault.specs.Script.{is_within, first_of, makes_wrong, is_wrong}
 use Rattle.lvdc_fault.specs.declared.event.Event.{Event}
 use Rattle.lvdc_fault.specs.declared.event.Event.TheVariants.{Flip, Force, Lag, Deaf, Damage, Stick, Dead}
 use Rattle.lvdc_masks.specs.Copies.{NeverMeet, Meet, NeverTwoOf, HasTwoOf, IsWrongUntil, GoesOn, Meets}

@@ -1,6 +1,6 @@
 -- When copies of a module are wrong in the same step, by the lines of a script.
 use Rattle.std.specs.Prelude.{◌≡◌, ℕ, ◌<◌, ◌≤◌, true, false, ◌&&◌, nat_lt, List, All}
-use Rattle.lvdc_fault.specs.Script.{first_of, hurts, is_wrong, two_wrong}
+use Rattle.lvdc_fault.specs.Script.{first_of, makes_wrong, is_wrong, two_wrong}
 use Rattle.lvdc_fault.specs.declared.event.Event.{Event}
 
 -- two copies of a module are never wrong in the same step
