@@ -1,5 +1,5 @@
 ghost use Rattle.std.specs.Prelude.{◌≡◌, ◌+◌, ◌-◌, ◌^◌, ◌≤◌, ◌<◌, ◌↔◌, min, IsTrue, IsErr, IfOk, OnOk, OnErr, Contains};
-ghost use Rattle.lvdc_port.specs.Causes.{Rose, HasCause};
+ghost use Rattle.lvdc_port.specs.Causes.{HasCause};
 ghost use Rattle.lvdc_port.specs.Device.{read_word, after_read, after_write, after_supply, AreWords};
 ghost use Rattle.lvdc_port.specs.declared.device.Kind.TheVariants.{Tape as TapeKind, Recorder as RecorderKind};
 
@@ -49,7 +49,7 @@ impl<D: PortDevice> Failing<D> {
         ensures inner { self.new.inner ≡ self.old.inner }
         ensures fails { self.new.fails ≡ self.old.fails }
         ensures calls { self.new.calls ≡ self.old.calls }
-        ensures faults { Rose self.old.faults self.new.faults }
+        ensures faults { self.new.faults ≡ min (self.old.faults + 1) (2 ^ 64 - 1) }
     {
         self.faults = self.faults.saturating_add(1);
         Failed
@@ -113,6 +113,9 @@ impl<D: PortDevice> PortDevice for Failing<D> {
         ensures spare { D.spare self.new.inner ≡ D.spare self.old.inner }
         ensures cause { HasCause self.old.faults self.new.faults result }
 
+        // A failure is counted once, up to the greatest u64.
+        ensures by_one { OnErr result (self.new.faults ≡ min (self.old.faults + 1) (2 ^ 64 - 1)) }
+
         // A call of the list fails, and the device inside is not asked. Another fails where that device fails.
         ensures due { Contains self.old.fails.items self.new.calls
             → IsErr result × (self.new.inner ≡ self.old.inner) }
@@ -138,6 +141,9 @@ impl<D: PortDevice> PortDevice for Failing<D> {
         ensures spare { D.spare self.old.inner ≤ D.spare self.new.inner + 1 }
         ensures spare_err { OnErr result (D.spare self.new.inner ≡ D.spare self.old.inner) }
         ensures cause { HasCause self.old.faults self.new.faults result }
+
+        // A failure is counted once, up to the greatest u64.
+        ensures by_one { OnErr result (self.new.faults ≡ min (self.old.faults + 1) (2 ^ 64 - 1)) }
 
         // A call of the list fails, and the device inside is not asked. Another fails where that device fails.
         ensures due { Contains self.old.fails.items self.new.calls

@@ -1,4 +1,4 @@
-ghost use Rattle.std.specs.Prelude.{◌≡◌, ◌+◌, ◌-◌, ◌^◌, ◌<◌, ◌≤◌, ◌↔◌, [], drop, length, min, Some, IsErr, IfOk, Contains, vec_len, vec_capacity};
+ghost use Rattle.std.specs.Prelude.{◌≡◌, ◌+◌, ◌-◌, ◌^◌, ◌<◌, ◌≤◌, ◌↔◌, [], drop, length, min, Some, IsErr, IfOk, OnErr, Contains, vec_len, vec_capacity};
 ghost use Rattle.std.specs.Io.{ReadsAtMost};
 ghost use Rattle.std.specs.Io.KnownBytes.{ReadConsumes, WriteAppends};
 ghost use Rattle.lvdc_text.specs.Causes.{HasCause};
@@ -36,6 +36,8 @@ impl Calls {
     /// Counts one more call, which fails where it is named.
     fn begin(&mut self) -> Result<(), Failed>
         ensures cause { HasCause self.old.faults self.new.faults result }
+        // A failure is counted once, up to the greatest u64.
+        ensures by_one { OnErr result (self.new.faults ≡ min (self.old.faults + 1) (2 ^ 64 - 1)) }
         ensures fails { IsErr result ↔ Contains self.old.fails.items self.new.made }
         ensures kept { self.new.fails ≡ self.old.fails }
         ensures counted { self.new.made ≡ min (self.old.made + 1) (2 ^ 64 - 1) }
@@ -84,6 +86,9 @@ impl Source for FaultySource {
         ensures bytes { ReadConsumes (Some (drop self.old.at self.old.bytes.items))
             (Some (drop self.new.at self.new.bytes.items)) result buf.new }
         ensures cause { HasCause self.old.calls.faults self.new.calls.faults result }
+        // A failure is counted once, up to the greatest u64.
+        ensures by_one { OnErr result
+            (self.new.calls.faults ≡ min (self.old.calls.faults + 1) (2 ^ 64 - 1)) }
         // It fails at the calls that were named, and at no other.
         ensures fails { IsErr result ↔ Contains self.old.calls.fails.items self.new.calls.made }
         ensures kept { self.new.calls.fails ≡ self.old.calls.fails }
@@ -143,6 +148,9 @@ impl Sink for FaultySink {
             result piece.now }
         ensures room { UsesRoom (Some self.old.room) (Some self.new.room) result }
         ensures cause { HasCause self.old.calls.faults self.new.calls.faults result }
+        // A failure is counted once, up to the greatest u64.
+        ensures by_one { OnErr result
+            (self.new.calls.faults ≡ min (self.old.calls.faults + 1) (2 ^ 64 - 1)) }
         // It fails at the calls that were named, and at no other.
         ensures fails { IsErr result ↔ Contains self.old.calls.fails.items self.new.calls.made }
         ensures kept { self.new.calls.fails ≡ self.old.calls.fails }
