@@ -8,9 +8,9 @@ use Rattle.lvdc_map.specs.Address.{Spot, is_same}
 use Rattle.lvdc_twin.specs.declared.stuck.Stuck.{Stuck}
 use Rattle.lvdc_fault.specs.declared.event.Event.{Event}
 use Rattle.lvdc_fault.specs.declared.event.Event.TheVariants.{Flip, Force, Lag, Deaf, Damage, Stick, Dead}
-use Rattle.lvdc_fault.specs.Script.{is_within, makes_wrong, makes_wrong_in, deafens, is_wrong, is_active, put_if, active_from, active_at, active_events}
+use Rattle.lvdc_fault.specs.Script.{is_within, makes_wrong, deafens, is_active, put_if, active_from, active_events}
 use Rattle.lvdc_fault.specs.Damage.{damaged_by, damaged, stuck_by, stuck_after, kills}
-use Rattle.lvdc_fault.proofs.Starts.{Stand, stand-all, stand-head, stand-tail}
+use Rattle.lvdc_fault.proofs.Starts.{Stand, stand-head, stand-tail}
 
 -- ---- an event that isn't active does nothing
 
@@ -108,18 +108,3 @@ module _ (script : List Event) (step : ℕ) where
   active_within k [] h = All-nil (λ p. p < length script)
   active_within k (e ∷ es) h =
       within_put (is_active step e) k (active_from (suc k) es step) (slice_get_within script k e (stand-head script k e es h)) (active_within (suc k) es (stand-tail script k e es h))
-
-  -- a copy is wrong where an event at an active position acts on it
-  hurt_put : (b : Bool) (m c k : ℕ) (ps : List ℕ) (e : Event) (fs : List Event) → slice_get script k ≡ Some e
-      → list_any (λ p. makes_wrong_in (slice_get script p) step m c) ps ≡ list_any (makes_wrong step m c) fs
-      → list_any (λ p. makes_wrong_in (slice_get script p) step m c) (put_if b k ps) ≡ list_any (makes_wrong step m c) (cond b (e ∷ fs) fs)
-  hurt_put true m c k ps e fs here rest = ap (λ o. makes_wrong_in o step m c || list_any (λ p. makes_wrong_in (slice_get script p) step m c) ps) here ∙ ap (λ r. makes_wrong step m c e || r) rest
-  hurt_put false m c k ps e fs here rest = rest
-
-  hurt_active : (m c k : ℕ) (es : List Event) → Stand script k es → list_any (λ p. makes_wrong_in (slice_get script p) step m c) (active_from k es step) ≡ list_any (makes_wrong step m c) (active_events es step)
-  hurt_active m c k [] h = refl
-  hurt_active m c k (e ∷ es) h =
-      hurt_put (is_active step e) m c k (active_from (suc k) es step) e (active_events es step) (stand-head script k e es h) (hurt_active m c (suc k) es (stand-tail script k e es h))
-
-  pub wrong_active : (m c : ℕ) → list_any (λ p. makes_wrong_in (slice_get script p) step m c) (active_at script step) ≡ is_wrong script step m c
-  wrong_active m c = hurt_active m c 0 script (stand-all script) ∙ any_active (makes_wrong step m c) step (idle_makes_none_wrong step m c) script

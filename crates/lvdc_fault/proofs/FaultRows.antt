@@ -1,5 +1,5 @@
 -- Worked values of the definitions.
-use Rattle.std.proofs.Common.{◌≡◌, ℕ, refl, List, [], ◌∷◌, true, false, Some, None}
+use Rattle.std.proofs.Common.{◌≡◌, refl, List, [], ◌∷◌, true, false, Some, None}
 use Rattle.lvdc_word.specs.Cell.{code_of, with_stuck}
 use Rattle.lvdc_map.specs.Address.{Spot}
 use Rattle.lvdc_fault.specs.declared.event.Event.{Event}

@@ -1,6 +1,7 @@
 pub mod Actives
 mod FaultRows
 pub mod Lowest
+pub mod Marks
 pub mod Moves
 pub mod Placing
 pub mod Rising

@@ -23,11 +23,6 @@ makes_wrong step m c (Lag number copy first last) = acts_on number copy first la
 makes_wrong step m c (Deaf number copy first last) = acts_on number copy first last step m c
 makes_wrong step m c _ = false
 
--- does the event, if there is one?
-abbrev pub makes_wrong_in : Option Event → ℕ → ℕ → ℕ → Bool
-makes_wrong_in None step m c = false
-makes_wrong_in (Some e) step m c = makes_wrong step m c e
-
 -- a copy is wrong at a step where an event acts on it
 abbrev pub is_wrong : List Event → ℕ → ℕ → ℕ → Bool
 is_wrong script step m c = list_any (makes_wrong step m c) script
@@ -43,6 +38,11 @@ two_wrong script step m = are_two (is_wrong script step m)
 -- the lowest module with two wrong copies
 abbrev pub wrong_module : List Event → ℕ → Option ℕ
 wrong_module script step = find (two_wrong script step) (1 ∷ 2 ∷ 3 ∷ 4 ∷ 5 ∷ 6 ∷ 7 ∷ [])
+
+-- is a number, if there is one, this one?
+abbrev pub is_number : ℕ → Option ℕ → Bool
+is_number n None = false
+is_number n (Some m) = m == n
 
 -- no module has two wrong copies
 abbrev pub NoneWrong : List Event → ℕ → Type 0

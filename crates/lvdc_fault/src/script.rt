@@ -1,6 +1,6 @@
 ghost use Rattle.std.specs.Prelude.{◌≡◌, ◌<◌, [], ◌∷◌, ◌++◌, length, slice_get, All, Some, OnOk, OnErr};
 ghost use Rattle.lvdc_fault.specs.Activity.{Fits, is_active_at};
-ghost use Rattle.lvdc_fault.specs.Script.{active_at, makes_wrong_in};
+ghost use Rattle.lvdc_fault.specs.Script.{active_at};
 
 use crate::laws::active_suffice;
 use crate::{Active, Event};
@@ -82,16 +82,6 @@ impl Script {
     {
         match self.events.get(position) {
             Some(event) => event.is_active(step),
-            None => false,
-        }
-    }
-
-    /// Is there an event at a position that makes this copy of this module wrong at the step?
-    pub(crate) fn makes_wrong_at(&self, step: u64, number: u8, copy: u8, position: usize) -> bool
-        ensures { result ≡ makes_wrong_in (slice_get self.now position) step number copy }
-    {
-        match self.events.get(position) {
-            Some(event) => event.makes_wrong(step, number, copy),
             None => false,
         }
     }
