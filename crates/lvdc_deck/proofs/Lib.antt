@@ -3,7 +3,6 @@ pub mod Left
 pub mod Ends
 pub mod FirstLines
 pub mod Steps
-pub mod Banked
 pub mod Loaded
 pub mod Types
 pub mod MovedSource

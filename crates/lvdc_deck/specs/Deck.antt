@@ -1,7 +1,8 @@
 -- The deck that bytes mean, or its first refusal.
-use Rattle.std.specs.Prelude.{ℕ, ◌+◌, Bool, true, false, not, ◌||◌, List, [], ◌∷◌, take, drop, length, position, codes, if◌then◌else◌, bit_or, is_some, unwrap_or, Result, Ok, Err}
+use Rattle.std.specs.Prelude.{ℕ, ◌+◌, Bool, true, false, not, ◌||◌, List, [], ◌∷◌, take, drop, length, position, codes, if◌then◌else◌, is_some, unwrap_or, Result, Ok, Err}
 use Rattle.std.specs.declared.option.Option.{Option}
 use Rattle.std.specs.declared.option.Option.TheVariants.{None, Some}
+use Rattle.lvdc_map.specs.Banks.{union}
 use Rattle.lvdc_map.specs.Hop.{HopConstant, hop_of}
 use Rattle.lvdc_text.specs.Lines.{lines_of, part_of, word_texts_of, numbered, is_long, is_comment}
 use Rattle.lvdc_text.specs.declared.cutting.Line.{Line}
@@ -132,7 +133,7 @@ deck_with contents start told count =
     record {
       image = contents;
       start = start;
-      banks = bit_or contents.banks told.sections.simplex;
+      banks = union contents.banks told.sections.simplex;
       supplies = told.sections.supplies;
       unplugs = told.sections.unplugs;
       script = told.sections.script;

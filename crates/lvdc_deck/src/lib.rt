@@ -1,7 +1,6 @@
 //! Decks: a program, the sections that say how it is run, and each refusal with its line.
 #![tactic(auto)]
 
-mod banks;
 mod commands;
 mod deck;
 mod entry;

@@ -1,4 +1,4 @@
-ghost use Rattle.std.specs.Prelude.{◌≡◌, ◌≢◌, ℕ, List, ◌+◌, ◌-◌, ◌^◌, ◌<◌, ◌≤◌, ◌∷◌, length, map, true, IfOk, IfErr, All, Ok, Err, bit_or};
+ghost use Rattle.std.specs.Prelude.{◌≡◌, ◌≢◌, ℕ, List, ◌+◌, ◌-◌, ◌^◌, ◌<◌, ◌≤◌, ◌∷◌, length, map, true, IfOk, IfErr, All, Ok, Err};
 ghost use Rattle.lvdc_map.specs.Hop.{HopConstant};
 ghost use Rattle.lvdc_map.specs.Memory.{are_rising, AllThere};
 ghost use Rattle.lvdc_text.specs.Lines.{IsWithin, part_of, word_texts_of};
@@ -10,7 +10,6 @@ ghost use Rattle.lvdc_text.specs.declared.comment.TheConstants.{LONGEST_LINE};
 ghost use Rattle.lvdc_deck.specs.declared.TheConstants.{MOST_TIMES, MOST_EVENTS};
 ghost use Rattle.lvdc_deck.specs.declared.fault.DeckFault.TheVariants.{NoMemory as WantsMemory};
 
-use crate::banks::in_either;
 use crate::commands::commands_in;
 use crate::entry::EntryPoint;
 use crate::fields::pairs_in;
@@ -383,7 +382,7 @@ impl Said {
             Err(fault) => return Err(fault),
         };
         let image = program.into_image();
-        let banks = in_either(image.banks(), self.simplex);
+        let banks = image.banks().union(self.simplex);
         Ok(Deck {
             image,
             start,

@@ -3,3 +3,4 @@ pub mod Holders
 pub mod HopLaws
 mod MapRows
 pub mod Images
+pub mod Unions

@@ -1,7 +1,7 @@
 -- Worked values of the definitions.
 use Rattle.std.proofs.Common.{◌≡◌, ℕ, refl, true, false, ◌∷◌, []}
 use Rattle.lvdc_map.specs.Address.{Spot}
-use Rattle.lvdc_map.specs.Banks.{bank_of, is_there, home, holds, held_at}
+use Rattle.lvdc_map.specs.Banks.{union, bank_of, is_there, home, holds, held_at}
 use Rattle.lvdc_map.specs.Hop.{hop_of, word_of_hop, after}
 use Rattle.lvdc_map.specs.Memory.{word_at, memory_of, are_rising}
 use Rattle.lvdc_map.specs.Place.{a9, place_of}
@@ -30,6 +30,12 @@ each_field : hop_of 0o267524665 ≡ record { imod = 5; isec = 11; syl = 1; loc =
 each_field = refl
 
 -- ---- banks
+
+simplex_in_one_or_the_other : union 5 4 ≡ 5
+simplex_in_one_or_the_other = refl
+
+simplex_in_each : union 1 8 ≡ 9
+simplex_in_each = refl
 
 odd_module_of_a_duplex_pair : bank_of 0 5 ≡ 2
 odd_module_of_a_duplex_pair = refl

@@ -1,10 +1,14 @@
 -- The banks of the memory. A pair of modules is duplex, and then both hold the same words, or simplex.
-use Rattle.std.specs.Prelude.{◌≡◌, ℕ, ◌+◌, ◌-◌, ◌*◌, ◌/◌, ◌%◌, ◌^◌, ◌<◌, Bool, true, ◌==◌, ◌||◌, nat_lt, if◌then◌else◌}
+use Rattle.std.specs.Prelude.{◌≡◌, ℕ, ◌+◌, ◌-◌, ◌*◌, ◌/◌, ◌%◌, ◌^◌, ◌<◌, Bool, true, ◌==◌, ◌||◌, nat_lt, if◌then◌else◌, bit_or}
 use Rattle.lvdc_map.specs.Address.{Spot}
 
 -- which pairs are simplex: a bit each
 abbrev pub is_simplex : ℕ → ℕ → Bool
 is_simplex banks pair = banks / 2 ^ pair % 2 == 1
+
+-- the pairs that are simplex in one or the other
+abbrev pub union : ℕ → ℕ → ℕ
+union one other = bit_or one other
 
 -- the bank that the number of a module means: its pair, and for the odd module of a simplex pair the pair and 4
 abbrev pub bank_of : ℕ → ℕ → ℕ

@@ -1,6 +1,6 @@
-ghost use Rattle.std.specs.Prelude.{◌≡◌, ◌<◌, ◌%◌, ℕ, true, false, SomeIff};
+ghost use Rattle.std.specs.Prelude.{◌≡◌, ◌<◌, ◌%◌, ◌||◌, ℕ, true, false, SomeIff};
 ghost use Rattle.lvdc_map.specs.Address.{Spot};
-ghost use Rattle.lvdc_map.specs.Banks.{is_simplex, bank_of, holds, HasBank};
+ghost use Rattle.lvdc_map.specs.Banks.{is_simplex, bank_of, is_there, holds, HasBank};
 
 use crate::Address;
 use std::marker::Model;
@@ -25,7 +25,7 @@ impl Model for Banks {
 }
 
 impl Banks {
-    ghost use Rattle.lvdc_map.specs.Banks.{is_simplex, bank_of, is_there, holds};
+    ghost use Rattle.lvdc_map.specs.Banks.{is_simplex, union, bank_of, is_there, holds};
 
     /// Every pair is duplex.
     pub const DUPLEX: Banks = Banks { simplex: 0 };
@@ -47,6 +47,20 @@ impl Banks {
         ensures { result ≡ is_simplex self pair }
     {
         (self.simplex >> pair) & 1 == 1
+    }
+
+    /// The pairs that are simplex in one or the other.
+    #[tactic(auto, using(crate::proofs::Unions::union_is_small))]
+    pub fn union(self, other: Banks) -> Banks
+        ensures value { result ≡ union self other }
+        ensures pairs { (pair : ℕ) → is_simplex result pair
+            ≡ (is_simplex self pair || is_simplex other pair) }
+        // No bank that is there in one of them goes.
+        ensures there { (at : Spot) → is_there self at ≡ true → is_there result at ≡ true }
+    {
+        Banks {
+            simplex: self.simplex | other.simplex,
+        }
     }
 
     /// The bank that the number of a module means. Its low bit counts in a simplex pair alone.
