@@ -5,5 +5,7 @@ pub mod Marks
 pub mod Moves
 pub mod Placing
 pub mod Rising
+pub mod Same
 pub mod Starts
+pub mod Staying
 pub mod Found

@@ -1,5 +1,5 @@
 -- Two rising lists of numbers with the same sums are equal.
-use Rattle.std.proofs.Common.{◌≡◌, ℕ, ◌<◌, ◌≤◌, cond, nat_le, List, [], ◌∷◌, get_or, refl, sym, ap, ◌∙◌, arith}
+use Rattle.std.proofs.Common.{◌≡◌, ℕ, zero, suc, ◌<◌, ◌≤◌, cond, nat_le, List, [], ◌∷◌, length, get_or, refl, sym, ap, ◌∙◌, arith}
 use Rattle.std.specs.List.{sum_by}
 use Rattle.std.specs.List.Sorted.{IsNonDecreasing}
 use Rattle.std.proofs.lemmas.List.Sums.{sum_by-cons}
@@ -23,6 +23,22 @@ rises_on k (x ∷ y ∷ ys) h up =
 
 pub rises_from_sorted : (xs : List ℕ) → IsNonDecreasing xs → Rises 0 xs
 rises_from_sorted xs up = rises_on 0 xs (λ d. omega arith) up
+
+-- and no number is below k
+rises_above : (k : ℕ) (xs : List ℕ) → Rises k xs → (j d : ℕ) → j < length xs → k ≤ get_or xs j d
+rises_above k [] up j d h = absurd (omega (arith, h))
+rises_above k (x ∷ xs) up zero d h = up.0
+rises_above k (x ∷ xs) up (suc j) d h = omega (arith, up.0, rises_above x xs up.1 j d (omega (arith, h)))
+
+sorted_on : (k : ℕ) (xs : List ℕ) → Rises k xs → (i j d : ℕ) → i ≤ j → j < length xs → get_or xs i d ≤ get_or xs j d
+sorted_on k [] up i j d low high = absurd (omega (arith, high))
+sorted_on k (x ∷ xs) up zero zero d low high = omega arith
+sorted_on k (x ∷ xs) up zero (suc j) d low high = rises_above x xs up.1 j d (omega (arith, high))
+sorted_on k (x ∷ xs) up (suc i) zero d low high = absurd (omega (arith, low))
+sorted_on k (x ∷ xs) up (suc i) (suc j) d low high = sorted_on x xs up.1 i j d (omega (arith, low)) (omega (arith, high))
+
+pub sorted_from_rises : (k : ℕ) (xs : List ℕ) → Rises k xs → IsNonDecreasing xs
+sorted_from_rises k xs up = λ i j d low high. sorted_on k xs up i j d (omega (arith, low)) high
 
 -- 1 at the numbers that are at most x
 abbrev at_most : ℕ → ℕ → ℕ

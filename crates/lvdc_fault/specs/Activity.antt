@@ -1,18 +1,19 @@
 -- What is kept to tell the events active at one step after another.
-use Rattle.std.specs.Prelude.{◌≡◌, ℕ, suc, ◌<◌, ◌≤◌, Bool, false, List, [], ◌∷◌, length, map, filter, take, drop, All, Option, None, Some, slice_get, IfSome, MatchOption}
+use Rattle.std.specs.Prelude.{◌≡◌, ℕ, suc, ◌+◌, ◌<◌, ◌≤◌, Bool, false, List, [], ◌∷◌, length, map, filter, take, drop, All, Option, None, Some, slice_get, IfSome, IsSomeAnd, MatchOption}
 use Rattle.std.specs.List.Sorted.{IsPermutation, IsNonDecreasingBy}
 use Rattle.lvdc_fault.specs.declared.event.Event.{Event}
 use Rattle.lvdc_fault.specs.declared.start.Start.{Start}
-use Rattle.lvdc_fault.specs.Script.{is_active, first_of, active_at}
+use Rattle.lvdc_fault.specs.Script.{is_active, span_of, first_of, active_at}
 
--- the positions of the events by rising first step, how many of them have begun, the positions held, the room for such, and
--- the step that they are held for
+-- the positions of the events by rising first step, how many of them have begun, the positions held, the room for such, the
+-- step that they are held for, and the first step after it for which others may have to be held
 pub record Activity : Type 0 where
   pub order : List Start
   pub begun : ℕ
   pub held : List ℕ
   pub room : ℕ
   pub last : Option ℕ
+  pub until : ℕ
 
 -- the first steps of a list of events, whose first one has this position
 abbrev pub starts_from : ℕ → List Event → List Start
@@ -33,17 +34,36 @@ pub record Holds (script : List Event) (a : Activity) (step : ℕ) : Type 0 wher
   pub begun : HaveBegun step a.order a.begun
   pub held : a.held ≡ active_at script step
 
+-- what is held for a step is what is active at it and at each one up to that at which others may be
+abbrev pub HoldsUntil : List Event → Activity → ℕ → Type 0
+HoldsUntil script a step = (t : ℕ) → step ≤ t → t < a.until → Holds script a t
+
 -- an activity fits a script: there is room for each event; the order holds each position once and no other, by rising first
--- step; and what is held is right for the step that it is held for
+-- step; and what is held is right for the step that it is held for, and until others may have to be held
 pub record Fits (script : List Event) (a : Activity) : Type 0 where
   pub room : length script ≤ a.room
   pub order : IsPermutation (starts_of script) a.order
   pub rising : IsNonDecreasingBy (λ s. s.first) a.order
   pub kept : IfSome a.last (Holds script a)
+  pub lasting : IfSome a.last (HoldsUntil script a)
 
 -- it is ready to move on to a step: what is held is held for the step before, or nothing is
 abbrev pub IsReady : ℕ → Activity → Type 0
 IsReady step a = MatchOption a.last ((a.begun ≡ 0) × (a.held ≡ [])) (λ last. suc last ≡ step)
+
+-- what is held is held for the step before this one, and this one comes before others may have to be held
+pub record Lasts (a : Activity) (step : ℕ) : Type 0 where
+  pub next : IsSomeAnd a.last (λ before. suc before ≡ step)
+  pub until : step < a.until
+
+-- what is held for the step before this one is active at this one too: the same events as before
+pub record Stays (script : List Event) (a : Activity) (step : ℕ) : Type 0 where
+  pub held : a.held ≡ active_at script step
+  pub same : IsSomeAnd a.last (λ before. (suc before ≡ step) × (active_at script step ≡ active_at script before))
+
+-- the event at a position, if there is one, isn't active from a step on, if it was before
+abbrev pub EndsFrom : List Event → ℕ → ℕ → Type 0
+EndsFrom script until position = IfSome (slice_get script position) (λ e. until ≤ (span_of e).last + 1)
 
 -- is the event, if there is one, active at a step?
 abbrev pub is_active_in : Option Event → ℕ → Bool

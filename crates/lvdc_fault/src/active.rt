@@ -1,9 +1,9 @@
-ghost use Rattle.std.specs.Prelude.{◌≡◌, ℕ, ◌+◌, ◌<◌, ◌≤◌, [], ◌++◌, length, map, take, filter, All, IfOk, None, Some, slice_index_or};
-ghost use Rattle.std.specs.List.Sorted.{IsPermutation, IsNonDecreasingBy};
+ghost use Rattle.std.specs.Prelude.{◌≡◌, ℕ, ◌+◌, ◌<◌, ◌≤◌, [], ◌++◌, length, map, take, filter, All, IfOk, None, Some, true, slice_index_or};
+ghost use Rattle.std.specs.List.Sorted.{IsPermutation, IsNonDecreasing, IsNonDecreasingBy};
 ghost use Rattle.smallvec.specs.SmallVec.{small_vec_len};
 ghost use Rattle.lvdc_fault.specs.declared.start.Start.{Start};
 ghost use Rattle.lvdc_fault.specs.Script.{active_at};
-ghost use Rattle.lvdc_fault.specs.Activity.{Fits, starts_of, is_active_at, active_of, IsReady};
+ghost use Rattle.lvdc_fault.specs.Activity.{EndsFrom, Fits, Lasts, starts_of, is_active_at, active_of, IsReady};
 
 use crate::Script;
 use crate::start::Start;
@@ -13,13 +13,14 @@ use std::alloc::Global;
 use std::marker::Model;
 
 /// The positions of the events that are active at a step. It is made for one script, and asked through `Script::active`. Steps
-/// asked in order cost the events that begin, end or are in force.
+/// asked in order cost the events in force where one begins or ends, and nothing else.
 #[derive(Drop)]
 pub struct Active {
     order: Vec<Start>,
     begun: usize,
     held: SmallVec<usize, 8>,
     last: Option<u64>,
+    until: u64,
 }
 
 impl Model for Active {
@@ -28,7 +29,7 @@ impl Model for Active {
 
     ghost Value = { Activity };
 
-    ghost view = { λ a. record { order = a.order.items; begun = a.begun; held = a.held.items; room = a.held.capacity; last = a.last } };
+    ghost view = { λ a. record { order = a.order.items; begun = a.begun; held = a.held.items; room = a.held.capacity; last = a.last; until = a.until } };
 
     ghost invariant = { λ a. a.begun ≤ vec_len a.order };
 }
@@ -45,6 +46,7 @@ impl Active {
             begun: 0,
             held: SmallVec::with_capacity(alloc, script.len())?,
             last: None,
+            until: 0,
         })
     }
 
@@ -55,8 +57,32 @@ impl Active {
         self.held.as_slice()
     }
 
-    /// Holds the positions of the events active at a step.
+    /// Holds the positions of the events active at a step. Where no event begins or ends with it, the step is noted alone.
     pub(crate) fn go_to(&mut self, script: &Script, step: u64)
+        requires { Fits script.now self.old }
+        ensures fits { Fits script.now self.new }
+        ensures held { self.new.held ≡ active_at script.now step }
+        ensures last { self.new.last ≡ Some step }
+    {
+        if self.lasts(step) {
+            self.last = Some(step);
+        } else {
+            self.change(script, step);
+        }
+    }
+
+    /// Does what is held, for the step before this one, last up to this one?
+    pub(crate) fn lasts(&self, step: u64) -> bool
+        ensures { result ≡ true → Lasts self.now step }
+    {
+        if step == 0 || step >= self.until {
+            return false;
+        }
+        self.last == Some(step - 1)
+    }
+
+    /// Takes up the events that have begun, and lets those go that have ended.
+    fn change(&mut self, script: &Script, step: u64)
         requires { Fits script.now self.old }
         ensures fits { Fits script.now self.new }
         ensures held { self.new.held ≡ active_at script.now step }
@@ -64,8 +90,10 @@ impl Active {
     {
         self.make_ready(script, step);
         retain_active(script, step, &mut self.held);
-        self.begun += take_up(script, step, &self.order[self.begun..], &mut self.held);
-        self.held.sort_unstable();
+        let taken = take_up(script, step, &self.order[self.begun..], &mut self.held);
+        self.begun += taken;
+        sort_taken(taken, &mut self.held);
+        self.until = next_change(script, &self.order[self.begun..], self.held.as_slice());
         self.last = Some(step);
     }
 
@@ -126,4 +154,31 @@ fn take_up(script: &Script, step: u64, order: &[Start], held: &mut SmallVec<usiz
         }
     }
     order.len()
+}
+
+/// Sorts the positions, of which so many were taken up last. Where none was, they are sorted.
+fn sort_taken(taken: usize, held: &mut SmallVec<usize, 8>)
+    requires { taken ≡ 0 → IsNonDecreasing held.old.items }
+    ensures items { IsPermutation held.old.items held.new.items }
+    ensures sorted { IsNonDecreasing held.new.items }
+    ensures capacity { held.new.capacity ≡ held.old.capacity }
+{
+    if taken > 0 {
+        held.sort_unstable();
+    }
+}
+
+/// The first step at which one of an order begins, or one of those held has ended.
+fn next_change(script: &Script, order: &[Start], held: &[usize]) -> u64
+    ensures begins { (d : Start) → 0 < length order.now → result ≤ (slice_index_or order.now 0 d).first }
+    ensures ends { All (EndsFrom script.now result) held.now }
+{
+    let mut next = match order.first() {
+        Some(start) => start.first,
+        None => u64::MAX,
+    };
+    for position in held {
+        next = next.min(script.after(*position));
+    }
+    next
 }

@@ -1,4 +1,4 @@
-ghost use Rattle.std.specs.Prelude.{◌≡◌, ℕ};
+ghost use Rattle.std.specs.Prelude.{◌≡◌, ℕ, ◌+◌, ◌≤◌};
 ghost use Rattle.lvdc_fault.specs.Script.{first_of, span_of, makes_wrong, is_active, is_within};
 
 use lvdc_map::Address;
@@ -99,6 +99,13 @@ impl Event {
         ensures { result ≡ first_of self.now }
     {
         self.span().first
+    }
+
+    /// The first step after its last one, or the greatest number where there is none.
+    pub(crate) fn after(&self) -> u64
+        ensures { result ≤ (span_of self.now).last + 1 }
+    {
+        self.span().last.saturating_add(1)
     }
 
     /// Is it active at the step?

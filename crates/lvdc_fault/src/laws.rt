@@ -1,6 +1,6 @@
 //! Laws of the definitions, as contracts of functions that do nothing.
 
-ghost use Rattle.std.specs.Prelude.{◌≡◌, ℕ, ◌<◌, true, false, List, None, length, slice_get, slice_index, All};
+ghost use Rattle.std.specs.Prelude.{◌≡◌, ℕ, ◌+◌, ◌<◌, true, false, List, None, length, slice_get, slice_index, All};
 ghost use Rattle.lvdc_map.specs.Address.{Spot};
 ghost use Rattle.lvdc_twin.specs.declared.stuck.Stuck.{Stuck};
 ghost use Rattle.lvdc_fault.specs.Script.{is_active, active_at, active_events, makes_wrong, deafens, is_wrong, is_deaf, wrong_module, NoneWrong};
@@ -41,6 +41,20 @@ pub fn active_suffice(script: &Script, step: u64)
         ≡ stuck_after step twin place script.now s }
     ensures twins { (twin pair : ℕ) → is_dead (active_events script.now step) step twin pair
         ≡ is_dead script.now step twin pair }
+{}
+
+/// Where the events active at a step are those of the step before, each is active at both or at neither. Then the same copies are
+/// wrong and deaf, the same bits are stuck and the same twins dead, and no cell is damaged.
+pub fn same_actives(script: &Script, before: u64)
+    requires { active_at script.now (before + 1) ≡ active_at script.now before }
+    ensures each { All (λ event. is_active (before + 1) event ≡ is_active before event) script.now }
+    ensures copies { (m c : ℕ) → is_wrong script.now (before + 1) m c ≡ is_wrong script.now before m c }
+    ensures named { wrong_module script.now (before + 1) ≡ wrong_module script.now before }
+    ensures deaf { (m c : ℕ) → is_deaf script.now (before + 1) m c ≡ is_deaf script.now before m c }
+    ensures cells { (twin : ℕ) (place : Spot) (cell : ℕ) → damaged (before + 1) twin place script.now cell ≡ cell }
+    ensures bits { (twin : ℕ) (place : Spot) (s : Stuck)
+        → stuck_after (before + 1) twin place script.now s ≡ stuck_after before twin place script.now s }
+    ensures twins { (twin pair : ℕ) → is_dead script.now (before + 1) twin pair ≡ is_dead script.now before twin pair }
 {}
 
 /// Where no module is named, none has two wrong copies.

@@ -14,7 +14,7 @@ mod wrong;
 
 pub use active::Active;
 pub use event::Event;
-pub use laws::{active_suffice, inactive_idles, none_wrong};
+pub use laws::{active_suffice, inactive_idles, none_wrong, same_actives};
 pub use ledger::Ledger;
 pub use named::Named;
 pub use script::Script;

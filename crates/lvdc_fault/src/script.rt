@@ -1,5 +1,5 @@
-ghost use Rattle.std.specs.Prelude.{◌≡◌, ◌<◌, [], ◌∷◌, ◌++◌, length, slice_get, All, Some, OnOk, OnErr};
-ghost use Rattle.lvdc_fault.specs.Activity.{Fits, is_active_at};
+ghost use Rattle.std.specs.Prelude.{◌≡◌, ◌<◌, [], ◌∷◌, ◌++◌, length, slice_get, All, true, Some, OnOk, OnErr};
+ghost use Rattle.lvdc_fault.specs.Activity.{EndsFrom, Fits, Stays, is_active_at};
 ghost use Rattle.lvdc_fault.specs.Script.{active_at};
 
 use crate::laws::active_suffice;
@@ -69,6 +69,15 @@ impl Script {
         active_suffice(self, step);
     }
 
+    /// Are the events active at the step those that are held, for the step before? Then none begins or ends with the step, and
+    /// `active` does no more than note it.
+    pub fn stays(&self, step: u64, active: &Active) -> bool
+        requires { Fits self.now active.now }
+        ensures { result ≡ true → Stays self.now active.now step }
+    {
+        active.lasts(step)
+    }
+
     /// The events, in their order.
     pub(crate) fn events(&self) -> &[Event]
         ensures { result.now ≡ self.now }
@@ -83,6 +92,16 @@ impl Script {
         match self.events.get(position) {
             Some(event) => event.is_active(step),
             None => false,
+        }
+    }
+
+    /// The first step after the event at a position, or the greatest number where there is none.
+    pub(crate) fn after(&self, position: usize) -> u64
+        ensures { EndsFrom self.now result position }
+    {
+        match self.events.get(position) {
+            Some(event) => event.after(),
+            None => u64::MAX,
         }
     }
 }
