@@ -3,3 +3,4 @@ mod Carrying
 mod Positions
 mod Releasing
 mod Rows
+mod Staying

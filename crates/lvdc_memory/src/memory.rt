@@ -1,6 +1,6 @@
 //! The memory of the voted machine.
 
-ghost use Rattle.std.specs.Prelude.{◌≡◌, ℕ, ◌<◌, true, All, List, [], ◌∷◌, ◌++◌, length, Option, None, Some, IfOk, IfSome, OnErr};
+ghost use Rattle.std.specs.Prelude.{◌≡◌, ℕ, ◌+◌, ◌<◌, true, All, List, [], ◌∷◌, ◌++◌, length, Option, None, Some, IfOk, IfSome, OnErr};
 ghost use Rattle.lvdc_map.specs.Banks.{is_there, IsPlace};
 ghost use Rattle.lvdc_map.specs.Memory.{Memory, word_at, stored, memory_of, AllThere};
 ghost use Rattle.lvdc_twin.specs.Store.{IsStore, stuck_in, with_stuck_bits};
@@ -16,7 +16,7 @@ ghost use Rattle.lvdc_model.specs.Twins.{read_answer, after_read, after_store, t
 ghost use Rattle.lvdc_memory.specs.Faults.{NamesMemory, Releases};
 ghost use Rattle.lvdc_memory.specs.Holds.{Carries, Holds};
 
-use lvdc_fault::{Active, Event, Ledger, Script, active_suffice};
+use lvdc_fault::{Active, Event, Ledger, Script, active_suffice, same_actives};
 use lvdc_map::{Address, Banks, Placed, same_address};
 use lvdc_twin::{BothBad, ReadOut, Twins, changes_are_local};
 use lvdc_word::{Cell, NoMemory, Word};
@@ -88,6 +88,16 @@ impl VotedMemory {
         for position in active.positions() {
             self.begin_one(script.event(*position));
         }
+    }
+
+    /// A law, which does nothing when it runs. Where the events active at a step are those of the step before, what was in force at
+    /// that one is in force at this one, and no cell is damaged.
+    pub fn stays(&self, script: &Script, before: u64)
+        requires { active_at script.now (before + 1) ≡ active_at script.now before }
+        ensures { (o : Trial) (t : model.Twins) (i : Memory) → o.script ≡ script.now → Holds o (Some before) self.now t i
+            → Holds o (Some (before + 1)) self.now (damages (before + 1) o.script t) i }
+    {
+        same_actives(script, before);
     }
 
     /// Can the intended word of an address be recovered from what the twins show there?
