@@ -1,1 +1,1 @@
-pub mod Racks
+mod Over

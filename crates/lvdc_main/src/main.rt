@@ -2,7 +2,6 @@
 #![tactic(auto)]
 
 mod program;
-mod rack;
 
 use lvdc_text::{StdSink, StdSource};
 use program::run;
