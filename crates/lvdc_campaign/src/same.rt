@@ -31,14 +31,14 @@ fn is_same_end(voted: Option<Outcome>, plain: Option<PlainEnd>) -> bool
     }
 }
 
-/// Are they the same registers?
+/// Are they the same registers? It stands for its clause alone, which proofs cite.
 fn are_same_registers(voted: &Visible, plain: &Visible) -> bool
     ensures { result ≡ are_same_registers voted.now plain.now }
 {
     voted == plain
 }
 
-/// Is it the same port log?
+/// Is it the same port log? It stands for its clause alone, which proofs cite.
 fn is_same_log(voted: &[Exchange], plain: &[Exchange]) -> bool
     ensures { result ≡ is_same_log voted.now plain.now }
 {

@@ -44,7 +44,7 @@ impl Model for Scripts {
         × (length (with_last s.before.items s.last) ≤ MOST_SCRIPTS) };
 }
 
-/// Is it a name?
+/// Is it a name? It stands for its clauses alone, which proofs cite.
 fn is_short_name(text: &[u8]) -> bool
     ensures name { result ≡ is_name text.now }
     ensures short { IsTrue result → length text.now ≤ 8 }

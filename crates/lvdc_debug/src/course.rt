@@ -41,7 +41,8 @@ fn rests(machine: &Machine, breaks: &Breaks) -> bool
     machine.ended().is_some() || !machine.holding() && breaks.has(&place_of(machine))
 }
 
-/// Makes so many times more than were asked for, or fewer where an end comes.
+/// Makes so many times more than were asked for, or fewer where an end comes. It stands for its clauses alone, which
+/// proofs cite.
 fn make(
     asked: u64,
     times: u64,

@@ -77,7 +77,7 @@ pub fn guarded_words()
     lvdc_laws::words_known();
 }
 
-/// What is placed is a word, by its type.
+/// What is placed is a word, by its type. The call has no effect.
 fn places_word(placed: &Placed)
     ensures { placed.now.word < 2 ^ 26 }
 {

@@ -28,7 +28,8 @@ pub struct Ready {
     pub commands: Seq<Line>,
 }
 
-/// Puts the words of a deck's TAPE lines behind those that the tapes still have.
+/// Puts the words of a deck's TAPE lines behind those that the tapes still have. It stands for its clauses alone,
+/// which proofs cite.
 pub(crate) fn supply_tapes(
     devices: &mut Vec<Box<dyn PortDevice>>,
     deck: &Deck,

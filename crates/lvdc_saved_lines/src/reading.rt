@@ -124,7 +124,7 @@ fn place_of(entry: &Entry) -> u64
     }
 }
 
-/// The kind of the device at this port.
+/// The kind of the device at this port. It stands for its clause alone, which proofs cite.
 fn kind_in(devices: &Vec<Box<dyn PortDevice>>, port: u8) -> Option<Kind>
     requires { port < 2 ^ 8 }
     ensures { result ≡ kind_at (λ device. device) port (map device_of devices.now.items) }

@@ -90,7 +90,7 @@ fn one_admissible(verdict: &Verdict) -> usize
     }
 }
 
-/// 1 where the outcome is the same.
+/// 1 where the outcome is the same. It stands for its clauses alone, which proofs cite.
 fn one_same(same: bool) -> usize
     ensures value { result ≡ one_same same }
     ensures few { result ≤ 1 }

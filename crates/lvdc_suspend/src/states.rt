@@ -11,14 +11,14 @@ use std::alloc::Global;
 /// How many ports there are.
 const PORTS: u16 = 256;
 
-/// The port of a device.
+/// The port of a device. It stands for its clause alone, which proofs cite.
 fn port_of(device: &Box<dyn PortDevice>) -> u8
     ensures { result ≡ (device_of device.now).port }
 {
     device.port()
 }
 
-/// The word at this index of those that a device holds.
+/// The word at this index of those that a device holds. It stands for its clause alone, which proofs cite.
 fn held(device: &Box<dyn PortDevice>, index: usize) -> Option<Word>
     ensures { result ≡ slice_get (device_of device.now).state index }
 {
