@@ -1,6 +1,7 @@
 ghost use Rattle.std.specs.Prelude.{◌≡◌};
 ghost use Rattle.lvdc_isa.specs.Instr.{IsInstruction};
 
+use crate::rows::{column, comes, same, shown};
 use lvdc_isa::{Instr, Op, decode, encode, mnemonic, print};
 use lvdc_word::Syllable;
 use std::test::Fail;
@@ -20,57 +21,53 @@ fn decoded_again(instruction: Instr) -> Instr
     decode(encode(instruction))
 }
 
+/// The operations, and how they are printed with an address.
+const OPERATIONS: &str = "\
+    Some(Hop)|HOP 052;Some(Mpy)|MPY 052;Some(Sub)|SUB 052;Some(Div)|DIV 052;Some(Tnz)|TNZ 052;Some(Mph)|MPH 052;\
+    Some(And)|AND 052;Some(Add)|ADD 052;Some(Tra)|TRA 052;Some(Xor)|XOR 052;Some(Pio)|PIO 052;Some(Sto)|STO 052;\
+    Some(Tmi)|TMI 052;Some(Rsu)|RSU 052;Some(Cds)|CDS 052;Some(Shf)|SHF 052;Some(Exm)|EXM 052;Some(Cla)|CLA 052;\
+";
+
 #[test]
 fn the_eighteen_mnemonics_are_printed_and_read_back(rt: HostRuntime) -> Result<(), Fail> {
-    let table: [(Op, &[u8]); 18] = [
-        (Op::Hop, b"HOP 052"),
-        (Op::Mpy, b"MPY 052"),
-        (Op::Sub, b"SUB 052"),
-        (Op::Div, b"DIV 052"),
-        (Op::Tnz, b"TNZ 052"),
-        (Op::Mph, b"MPH 052"),
-        (Op::And, b"AND 052"),
-        (Op::Add, b"ADD 052"),
-        (Op::Tra, b"TRA 052"),
-        (Op::Xor, b"XOR 052"),
-        (Op::Pio, b"PIO 052"),
-        (Op::Sto, b"STO 052"),
-        (Op::Tmi, b"TMI 052"),
-        (Op::Rsu, b"RSU 052"),
-        (Op::Cds, b"CDS 052"),
-        (Op::Shf, b"SHF 052"),
-        (Op::Exm, b"EXM 052"),
-        (Op::Cla, b"CLA 052"),
-    ];
-    for (op, text) in table {
+    let alloc = rt.alloc();
+    for row in OPERATIONS.split_terminator(";") {
+        let (due, text) = column(row)?;
+        let (name, _) = text.split_once(" ").ok_or("a name")?;
+        let found = mnemonic(name.as_bytes());
+        comes(&rt, shown(alloc, &found)?.as_str(), due);
+        let op = found.ok_or("an operation")?;
         let printed = print(Instr { op, address: 0o52 });
-        assert_eq!(rt; printed.as_slice(), text);
-        assert_eq!(rt; mnemonic(&printed[..3]), Some(op));
+        same(&rt, printed.as_slice(), text.as_bytes());
     }
-    assert_eq!(rt; mnemonic(b"NOP").is_none(), true);
+    same(&rt, mnemonic(b"NOP").is_none(), true);
     Ok(())
 }
 
+/// Syllables, in octal, their operations and how they are printed.
+const SYLLABLES: &str = "\
+    17000|Cla|CLA 000;02775|Sub|SUB 775;14052|Tmi|TMI 052;16437|Cds|CDS 437;16201|Shf|SHF 201;16203|WrongShift|SHF 203;\
+    16600|Exm|EXM 600;\
+";
+
 #[test]
 fn syllables_are_instructions(rt: HostRuntime) -> Result<(), Fail> {
-    let table: [(u16, Op, &[u8]); 7] = [
-        (0o17000, Op::Cla, b"CLA 000"),
-        (0o02775, Op::Sub, b"SUB 775"),
-        (0o14052, Op::Tmi, b"TMI 052"),
-        (0o16437, Op::Cds, b"CDS 437"),
-        (0o16201, Op::Shf, b"SHF 201"),
-        (0o16203, Op::WrongShift, b"SHF 203"),
-        (0o16600, Op::Exm, b"EXM 600"),
-    ];
-    for (bits, op, text) in table {
+    let alloc = rt.alloc();
+    for row in SYLLABLES.split_terminator(";") {
+        let (digits, row) = column(row)?;
+        let (op, text) = column(row)?;
+        let bits = u16::from_str_radix(digits, 8).map_err(|_| "octal digits")?;
         let syllable = Syllable::new(bits).ok_or("a syllable")?;
         let instruction = decode(syllable);
-        assert_eq!(rt; instruction.op, op);
-        assert_eq!(rt; print(instruction).as_slice(), text);
-        assert_eq!(rt; encoded_again(syllable).value(), bits);
-        assert_eq!(rt; decoded_again(instruction), instruction);
+        comes(&rt, shown(alloc, &instruction.op)?.as_str(), op);
+        same(&rt, print(instruction).as_slice(), text.as_bytes());
+        same(&rt, encoded_again(syllable).value(), bits);
+        same(&rt, decoded_again(instruction), instruction);
     }
-    assert_eq!(rt; Op::Hop.takes_operand(), true);
-    assert_eq!(rt; Op::Sto.takes_operand(), false);
+    same(
+        &rt,
+        (Op::Hop.takes_operand(), Op::Sto.takes_operand()),
+        (true, false),
+    );
     Ok(())
 }

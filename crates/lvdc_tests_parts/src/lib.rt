@@ -1,4 +1,5 @@
-//! Tests of the values, the map, the voters, the twins, the faults and the devices, over the public calls of their crates.
+//! Tests of the values, the map, the voters, the twins, the faults and their form, and the devices, over the public calls of their
+//! crates.
 #![tactic(auto)]
 
 #[cfg(test)]
@@ -8,11 +9,15 @@ mod isa;
 #[cfg(test)]
 mod map;
 #[cfg(test)]
+mod masks;
+#[cfg(test)]
 mod mul;
 #[cfg(test)]
 mod orders;
 #[cfg(test)]
 mod port;
+#[cfg(test)]
+mod rows;
 #[cfg(test)]
 mod script_lines;
 #[cfg(test)]

@@ -1,5 +1,6 @@
 ghost use Rattle.std.specs.Prelude.{◌<◌, ◌^◌};
 
+use crate::rows::same;
 use lvdc_mul::{Kind, Unit};
 use lvdc_word::Word;
 use std::test::Fail;
@@ -14,11 +15,11 @@ const GREATEST: u32 = 0o177777774;
 fn the_only_product_that_wraps(rt: HostRuntime) -> Result<(), Fail> {
     let minus_one = Word::within(MINUS_ONE);
     let unit = Unit::issue_multiply(minus_one, minus_one, true);
-    assert_eq!(rt; unit.kind(), Kind::MultiplyHigh);
-    assert_eq!(rt; unit.after(10).lands(), None);
-    assert_eq!(rt; unit.after(11).lands(), Some(minus_one));
-    assert_eq!(rt; unit.after(12).lands(), None);
-    assert_eq!(rt; unit.after(12).kind(), Kind::MultiplyHigh);
+    same(&rt, unit.kind(), Kind::MultiplyHigh);
+    same(&rt, unit.after(10).lands(), None);
+    same(&rt, unit.after(11).lands(), Some(minus_one));
+    same(&rt, unit.after(12).lands(), None);
+    same(&rt, unit.after(12).kind(), Kind::MultiplyHigh);
     Ok(())
 }
 
@@ -33,10 +34,10 @@ fn quotient(a: u32, m: u32) -> Option<Word>
 
 #[test]
 fn quotients_at_the_extremes(rt: HostRuntime) -> Result<(), Fail> {
-    assert_eq!(rt; quotient(HALF / 2, HALF), Some(Word::within(HALF)));
-    assert_eq!(rt; quotient(MINUS_ONE, 4), Some(Word::within(MINUS_ONE)));
-    assert_eq!(rt; quotient(HALF, HALF), Some(Word::within(GREATEST)));
-    assert_eq!(rt; quotient(0, 0), Some(Word::within(GREATEST)));
+    same(&rt, quotient(HALF / 2, HALF), Some(Word::within(HALF)));
+    same(&rt, quotient(MINUS_ONE, 4), Some(Word::within(MINUS_ONE)));
+    same(&rt, quotient(HALF, HALF), Some(Word::within(GREATEST)));
+    same(&rt, quotient(0, 0), Some(Word::within(GREATEST)));
     Ok(())
 }
 
@@ -44,8 +45,8 @@ fn quotients_at_the_extremes(rt: HostRuntime) -> Result<(), Fail> {
 fn a_multiply_cancelled_half_way_lands_nothing(rt: HostRuntime) -> Result<(), Fail> {
     let half = Word::within(HALF);
     let unit = Unit::issue_multiply(half, half, false).after(6).cancel();
-    assert_eq!(rt; unit.kind(), Kind::Idle);
-    assert_eq!(rt; unit.after(5).lands(), None);
+    same(&rt, unit.kind(), Kind::Idle);
+    same(&rt, unit.after(5).lands(), None);
     Ok(())
 }
 
@@ -57,8 +58,8 @@ fn a_multiply_of_31_phases_shifts_the_sign_in(rt: HostRuntime) -> Result<(), Fai
         h: Word::within(0o377777777),
         q: Word::ZERO,
     };
-    assert_eq!(rt; unit.after(29).lands(), None);
-    assert_eq!(rt; unit.after(30).lands(), Some(Word::within(0o377777777)));
-    assert_eq!(rt; unit.after(31).control.value(), 0o377777001);
+    same(&rt, unit.after(29).lands(), None);
+    same(&rt, unit.after(30).lands(), Some(Word::within(0o377777777)));
+    same(&rt, unit.after(31).control.value(), 0o377777001);
     Ok(())
 }

@@ -1,3 +1,4 @@
+use crate::rows::same;
 use lvdc_orders::{Order, Orders};
 use std::test::Fail;
 
@@ -9,15 +10,19 @@ const BACKWARDS: [u8; 21] = [
 #[test]
 fn orders_take_turns(rt: HostRuntime) -> Result<(), Fail> {
     let mut orders = Orders::plain();
-    assert_eq!(rt; (orders.count(), orders.at_step(7).at(20)), (1, 20));
+    same(&rt, (orders.count(), orders.at_step(7).at(20)), (1, 20));
     orders.add(Order::new(&BACKWARDS).ok_or("an order")?)?;
     orders.add(Order::default())?;
-    assert_eq!(rt; (orders.count(), orders.order(0).at(0)), (2, 20));
-    assert_eq!(rt; (orders.at_step(4).at(0), orders.at_step(5).at(0)), (20, 0));
+    same(&rt, (orders.count(), orders.order(0).at(0)), (2, 20));
+    same(
+        &rt,
+        (orders.at_step(4).at(0), orders.at_step(5).at(0)),
+        (20, 0),
+    );
     for _more in 2..16 {
         orders.add(Order::default())?;
     }
-    assert_eq!(rt; orders.add(Order::default()).is_err(), true);
-    assert_eq!(rt; orders.count(), 16);
+    same(&rt, orders.add(Order::default()).is_err(), true);
+    same(&rt, orders.count(), 16);
     Ok(())
 }

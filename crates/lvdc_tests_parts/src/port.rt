@@ -1,5 +1,6 @@
 ghost use Rattle.std.specs.Prelude.{◌<◌, ◌^◌};
 
+use crate::rows::{holds, same};
 use lvdc_port::{
     DeviceFault, Failing, Kind, Latch, PortDevice, PortRequest, Recorder, Supply, Tape, Ticker,
     exchange, kind_at, prepare_all, supply_all, unplug,
@@ -15,6 +16,18 @@ fn write(devices: &mut Vec<Box<dyn PortDevice>>, port: u8, word: u32) -> Result<
     let word = Word::within(word);
     Ok(exchange(devices, Word::ZERO, PortRequest::Write { port, word })?)
 }
+
+/// Reads in this order, and their answers.
+const ANSWERS: [(u8, u32); 8] = [
+    (0o13, 0o113),
+    (0o13, 0o6),
+    (0o13, 0),
+    (0o14, 0),
+    (0o15, 0o7),
+    (0o16, 9),
+    (0o17, 0),
+    (0o20, 0),
+];
 
 #[test]
 fn sixteen_devices_answer_by_their_kinds(rt: HostRuntime) -> Result<(), Fail> {
@@ -34,26 +47,17 @@ fn sixteen_devices_answer_by_their_kinds(rt: HostRuntime) -> Result<(), Fail> {
     }
     write(&mut devices, 0o15, 0o7)?;
     write(&mut devices, 0o17, 0o5)?;
-    for (port, answer) in [
-        (0o13, 0o113),
-        (0o13, 0o6),
-        (0o13, 0),
-        (0o14, 0),
-        (0o15, 0o7),
-        (0o16, 9),
-        (0o17, 0),
-        (0o20, 0),
-    ] {
+    for (port, answer) in ANSWERS {
         let word = exchange(&mut devices, Word::within(9), PortRequest::Read { port })?;
-        assert_eq!(rt; word.value(), answer, "at port {port:o}");
+        same(&rt, word.value(), answer);
     }
-    assert!(rt; unplug(&mut devices, 0o16));
-    assert!(rt; !unplug(&mut devices, 0o16));
-    assert_eq!(rt; devices.len(), 15);
+    holds(&rt, unplug(&mut devices, 0o16));
+    holds(&rt, !unplug(&mut devices, 0o16));
+    same(&rt, devices.len(), 15);
     let recorder = devices.last().ok_or("no device")?;
-    assert_eq!(rt; recorder.kind(), Kind::Recorder);
-    assert_eq!(rt; recorder.held(0), Some(Word::within(0o5)));
-    assert_eq!(rt; recorder.held(1), None);
+    same(&rt, recorder.kind(), Kind::Recorder);
+    same(&rt, recorder.held(0), Some(Word::within(0o5)));
+    same(&rt, recorder.held(1), None);
     Ok(())
 }
 
@@ -63,17 +67,21 @@ fn a_failing_tape_keeps_its_words(rt: HostRuntime) -> Result<(), Fail> {
     let mut tape = Failing::new(Tape::new(alloc, 3), Vec::from_slice(alloc, &[2, 3])?);
     tape.supply(Word::within(0o5))?;
     tape.supply(Word::within(0o7))?;
-    assert_eq!(rt; tape.read(Word::ZERO)?.value(), 0o5);
-    assert!(rt; tape.write(Word::ZERO, Word::ZERO).is_err());
+    same(&rt, tape.read(Word::ZERO)?.value(), 0o5);
+    holds(&rt, tape.write(Word::ZERO, Word::ZERO).is_err());
     let mut devices: Vec<Box<dyn PortDevice>> = Vec::new(alloc);
     devices.push(Box::new(alloc, tape)?)?;
     prepare_all(&mut devices, 1)?;
     let request = PortRequest::Read { port: 3 };
     let fault = DeviceFault { port: 3, faults: 2 };
     let message = "the device at port 003 failed; it has counted 2 faults";
-    assert_eq!(rt; format!(in alloc; "{fault}")?.as_str(), message);
-    assert_eq!(rt; exchange(&mut devices, Word::ZERO, request), Err(fault));
-    assert_eq!(rt; exchange(&mut devices, Word::ZERO, request)?.value(), 0o7);
+    same(&rt, format!(in alloc; "{fault}")?.as_str(), message);
+    same(&rt, exchange(&mut devices, Word::ZERO, request), Err(fault));
+    same(
+        &rt,
+        exchange(&mut devices, Word::ZERO, request)?.value(),
+        0o7,
+    );
     Ok(())
 }
 
@@ -83,11 +91,11 @@ fn a_tape_and_a_recorder_show_their_words(rt: HostRuntime) -> Result<(), Fail> {
     let word = Word::within(0o5);
     let mut tape = Tape::new(alloc, 0);
     tape.supply(word)?;
-    assert_eq!(rt; tape.left(), [word].as_slice());
+    same(&rt, tape.left(), [word].as_slice());
     let mut recorder = Recorder::new(alloc, 0o17);
     recorder.prepare(1)?;
     recorder.write(Word::ZERO, word)?;
-    assert_eq!(rt; recorder.words(), [word].as_slice());
+    same(&rt, recorder.words(), [word].as_slice());
     Ok(())
 }
 
@@ -97,12 +105,12 @@ fn words_are_supplied_to_tapes_alone(rt: HostRuntime) -> Result<(), Fail> {
     let mut devices: Vec<Box<dyn PortDevice>> = Vec::new(alloc);
     devices.push(Box::new(alloc, Tape::new(alloc, 0))?)?;
     devices.push(Box::new(alloc, Latch::new(0o14))?)?;
-    assert_eq!(rt; kind_at(&devices, 0o14), Some(Kind::Latch));
-    assert_eq!(rt; kind_at(&devices, 0o15), None);
+    same(&rt, kind_at(&devices, 0o14), Some(Kind::Latch));
+    same(&rt, kind_at(&devices, 0o15), None);
     let word = Word::within(0o5);
     let supplies = [0, 0o14, 0o15].map(|port| Supply { port, word });
     supply_all(&mut devices, &supplies)?;
-    assert_eq!(rt; devices[0].held(0), Some(word));
-    assert_eq!(rt; devices[1].held(0), Some(Word::ZERO));
+    same(&rt, devices[0].held(0), Some(word));
+    same(&rt, devices[1].held(0), Some(Word::ZERO));
     Ok(())
 }

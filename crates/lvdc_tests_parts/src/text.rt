@@ -1,3 +1,4 @@
+use crate::rows::same;
 use lvdc_text::{
     FaultySink, FaultySource, Line, MemorySink, MemorySource, ReadEnd, StdSink, StdSource,
     WriteFault, decimal, lines, octal, part, put_decimal, put_octal, read_all, tokens, write_all,
@@ -10,9 +11,9 @@ fn lines_end_at_lf_and_lose_the_cr_before_it(rt: HostRuntime) -> Result<(), Fail
     let found = lines(rt.alloc(), bytes)?;
     let want = [(1, 0, 2), (2, 4, 4), (3, 5, 8)];
     let want = want.map(|(number, start, end)| Line { number, start, end });
-    assert_eq!(rt; found.as_slice(), want.as_slice());
-    assert_eq!(rt; part(bytes, &found[2]), b"cd\r".as_slice());
-    assert_eq!(rt; lines(rt.alloc(), b"END\n")?.len(), 1);
+    same(&rt, found.as_slice(), want.as_slice());
+    same(&rt, part(bytes, &found[2]), b"cd\r".as_slice());
+    same(&rt, lines(rt.alloc(), b"END\n")?.len(), 1);
     Ok(())
 }
 
@@ -20,28 +21,29 @@ fn lines_end_at_lf_and_lose_the_cr_before_it(rt: HostRuntime) -> Result<(), Fail
 fn tokens_stand_between_blanks(rt: HostRuntime) -> Result<(), Fail> {
     let text = b" RUN \t17";
     let found = tokens(rt.alloc(), text)?;
-    assert_eq!(rt; found.len(), 2);
-    assert_eq!(rt; part(text, &found[0]), b"RUN".as_slice());
-    assert_eq!(rt; part(text, &found[1]), b"17".as_slice());
-    assert_eq!(rt; found[1].number, 2);
+    same(&rt, found.len(), 2);
+    same(&rt, part(text, &found[0]), b"RUN".as_slice());
+    same(&rt, part(text, &found[1]), b"17".as_slice());
+    same(&rt, found[1].number, 2);
     Ok(())
 }
 
 #[test]
 fn numbers_have_one_to_so_many_digits(rt: HostRuntime) -> Result<(), Fail> {
-    assert_eq!(rt; octal(b"777777777777777777", 18), Some((1 << 54) - 1));
-    assert_eq!(rt; octal(b"0000", 3), None);
-    assert_eq!(rt; octal(b"8", 3), None);
-    assert_eq!(rt; octal(b"", 3), None);
-    assert_eq!(rt; decimal(b"007", 3), Some(7));
-    assert_eq!(rt;
+    same(&rt, octal(b"777777777777777777", 18), Some((1 << 54) - 1));
+    same(&rt, octal(b"0000", 3), None);
+    same(&rt, octal(b"8", 3), None);
+    same(&rt, octal(b"", 3), None);
+    same(&rt, decimal(b"007", 3), Some(7));
+    same(
+        &rt,
         decimal(b"999999999999999999", 18),
-        Some(999999999999999999)
+        Some(999999999999999999),
     );
     let mut out = Vec::new(rt.alloc());
     put_octal(&mut out, 0o17, 3)?;
     put_decimal(&mut out, u64::MAX)?;
-    assert_eq!(rt; out.as_slice(), b"01718446744073709551615".as_slice());
+    same(&rt, out.as_slice(), b"01718446744073709551615".as_slice());
     Ok(())
 }
 
@@ -50,23 +52,26 @@ fn a_source_is_read_to_its_end(rt: HostRuntime) -> Result<(), Fail> {
     let alloc = rt.alloc();
     let deck = vec![in alloc; b'*'; 100]?;
     let mut source = MemorySource::new(deck.clone()?);
-    assert_eq!(rt;
+    same(
+        &rt,
         read_all(alloc, &mut source, 100)?.as_slice(),
-        deck.as_slice()
+        deck.as_slice(),
     );
     let mut source = MemorySource::new(deck.clone()?);
-    assert_eq!(rt;
+    same(
+        &rt,
         read_all(alloc, &mut source, 99).err(),
-        Some(ReadEnd::TooLong)
+        Some(ReadEnd::TooLong),
     );
     let fails = Vec::from_slice(alloc, &[2])?;
     let mut source = FaultySource::new(deck.clone()?, fails);
-    assert_eq!(rt;
+    same(
+        &rt,
         read_all(alloc, &mut source, 100).err(),
-        Some(ReadEnd::ReadFault)
+        Some(ReadEnd::ReadFault),
     );
     let mut source = StdSource::new(deck.as_slice());
-    assert_eq!(rt; read_all(alloc, &mut source, 100)?.len(), 100);
+    same(&rt, read_all(alloc, &mut source, 100)?.len(), 100);
     Ok(())
 }
 
@@ -75,16 +80,17 @@ fn a_sink_takes_all_or_says_how_much(rt: HostRuntime) -> Result<(), Fail> {
     let alloc = rt.alloc();
     let text = [b'*'; 100];
     let mut sink = MemorySink::with_room(alloc, 100)?;
-    assert_eq!(rt; write_all(&mut sink, &text), Ok(()));
-    assert_eq!(rt; sink.bytes(), text.as_slice());
-    assert_eq!(rt; write_all(&mut MemorySink::new(alloc), b""), Ok(()));
+    same(&rt, write_all(&mut sink, &text), Ok(()));
+    same(&rt, sink.bytes(), text.as_slice());
+    same(&rt, write_all(&mut MemorySink::new(alloc), b""), Ok(()));
     let fails = Vec::from_slice(alloc, &[2])?;
     let mut sink = FaultySink::with_room(alloc, 100, fails)?;
-    assert_eq!(rt;
+    same(
+        &rt,
         write_all(&mut sink, &text),
-        Err(WriteFault { written: 64 })
+        Err(WriteFault { written: 64 }),
     );
-    assert_eq!(rt; sink.bytes(), &text[..64]);
+    same(&rt, sink.bytes(), &text[..64]);
     Ok(())
 }
 
@@ -92,9 +98,10 @@ fn a_sink_takes_all_or_says_how_much(rt: HostRuntime) -> Result<(), Fail> {
 fn a_full_writer_of_std_fails(rt: HostRuntime) -> Result<(), Fail> {
     let mut card = [0u8; 4];
     let mut sink = StdSink::new(card.as_mut_slice());
-    assert_eq!(rt;
+    same(
+        &rt,
         write_all(&mut sink, b"END\nRUN"),
-        Err(WriteFault { written: 4 })
+        Err(WriteFault { written: 4 }),
     );
     Ok(())
 }

@@ -1,5 +1,6 @@
 ghost use Rattle.std.specs.Prelude.{◌≡◌, IfOk};
 
+use crate::rows::same;
 use lvdc_map::{Address, Banks, Placed};
 use lvdc_twin::{BothBad, ReadOut, Twins};
 use lvdc_word::{Cell, Word};
@@ -34,12 +35,12 @@ fn found(repaired: Option<u8>, switched: bool) -> Result<ReadOut, BothBad> {
 fn a_read_repairs_and_switches(rt: HostRuntime) -> Result<(), Fail> {
     let mut twins = one_word(&rt, Banks::DUPLEX)?;
     twins.damage(1, HERE, Cell::within(1));
-    assert_eq!(rt; twins.read(HERE), found(Some(1), false));
+    same(&rt, twins.read(HERE), found(Some(1), false));
     twins.damage(0, HERE, Cell::within(1));
-    assert_eq!(rt; twins.read(HERE), found(Some(0), true));
-    assert_eq!(rt; twins.selected(1), 1);
-    assert_eq!(rt; twins.view(0, HERE), Cell::encode(Word::within(0o17)));
-    assert_eq!(rt; twins.read(HERE), found(None, false));
+    same(&rt, twins.read(HERE), found(Some(0), true));
+    same(&rt, twins.selected(1), 1);
+    same(&rt, twins.view(0, HERE), Cell::encode(Word::within(0o17)));
+    same(&rt, twins.read(HERE), found(None, false));
     Ok(())
 }
 
@@ -47,11 +48,11 @@ fn a_read_repairs_and_switches(rt: HostRuntime) -> Result<(), Fail> {
 fn a_dead_twin_shows_zero_and_misses_a_store(rt: HostRuntime) -> Result<(), Fail> {
     let mut twins = one_word(&rt, Banks::DUPLEX)?;
     twins.dead(0, 1, true);
-    assert_eq!(rt; twins.view(0, HERE).bits(), 0);
+    same(&rt, twins.view(0, HERE).bits(), 0);
     twins.write(HERE, Word::within(0o20));
     twins.dead(0, 1, false);
-    assert_eq!(rt; twins.view(0, HERE).decode(), Some(Word::within(0o17)));
-    assert_eq!(rt; twins.view(1, HERE).decode(), Some(Word::within(0o20)));
+    same(&rt, twins.view(0, HERE).decode(), Some(Word::within(0o17)));
+    same(&rt, twins.view(1, HERE).decode(), Some(Word::within(0o20)));
     Ok(())
 }
 
@@ -59,11 +60,11 @@ fn a_dead_twin_shows_zero_and_misses_a_store(rt: HostRuntime) -> Result<(), Fail
 fn what_sticks_replaces_what_stuck(rt: HostRuntime) -> Result<(), Fail> {
     let mut twins = one_word(&rt, Banks::DUPLEX)?;
     twins.stick(0, HERE, Cell::within(0o14), Cell::within(0));
-    assert_eq!(rt; twins.view(0, HERE).bits(), 0o1000020003);
+    same(&rt, twins.view(0, HERE).bits(), 0o1000020003);
     twins.stick(0, HERE, Cell::within(0o6), Cell::within(0o2));
-    assert_eq!(rt; twins.view(0, HERE).bits(), 0o1000020013);
-    assert_eq!(rt; twins.read(HERE), found(Some(0), true));
-    assert_eq!(rt; twins.view(0, HERE).bits(), 0o1000020013);
+    same(&rt, twins.view(0, HERE).bits(), 0o1000020013);
+    same(&rt, twins.read(HERE), found(Some(0), true));
+    same(&rt, twins.view(0, HERE).bits(), 0o1000020013);
     Ok(())
 }
 
@@ -71,13 +72,13 @@ fn what_sticks_replaces_what_stuck(rt: HostRuntime) -> Result<(), Fail> {
 fn one_twin_holds_a_bank_of_a_simplex_pair(rt: HostRuntime) -> Result<(), Fail> {
     let banks = Banks::new(2).ok_or("pair 1")?;
     let mut twins = one_word(&rt, banks)?;
-    assert_eq!(rt; twins.view(1, HERE).decode(), Some(Word::ZERO));
-    assert_eq!(rt; twins.read(HERE), found(None, false));
+    same(&rt, twins.view(1, HERE).decode(), Some(Word::ZERO));
+    same(&rt, twins.read(HERE), found(None, false));
     twins.damage(0, HERE, Cell::within(1));
-    assert_eq!(rt; twins.read(HERE), Err(BothBad));
+    same(&rt, twins.read(HERE), Err(BothBad));
     let other = Address { pair: 5, ..HERE };
     twins.write(other, Word::within(0o17));
-    assert_eq!(rt; twins.read(other), found(None, false));
+    same(&rt, twins.read(other), found(None, false));
     Ok(())
 }
 
@@ -86,17 +87,18 @@ fn a_memory_is_made_again_of_its_cells(rt: HostRuntime) -> Result<(), Fail> {
     let mut twins = one_word(&rt, Banks::DUPLEX)?;
     twins.damage(1, HERE, Cell::within(1));
     let held = twins.held(rt.alloc())?;
-    assert_eq!(rt; held.len(), 2);
-    assert_eq!(rt; held[0].cell, Cell::encode(Word::within(0o17)));
-    assert_eq!(rt; (held[1].twin, held[1].at), (1, HERE));
-    assert_eq!(rt; held[1].cell, twins.stored(1, HERE));
+    same(&rt, held.len(), 2);
+    same(&rt, held[0].cell, Cell::encode(Word::within(0o17)));
+    same(&rt, (held[1].twin, held[1].at), (1, HERE));
+    same(&rt, held[1].cell, twins.stored(1, HERE));
     let mut again = Twins::from_cells(rt.alloc(), &held, &[0, 1, 0, 1], Banks::DUPLEX)?;
-    assert_eq!(rt; again.stored(1, HERE), twins.stored(1, HERE));
-    assert_eq!(rt; again.all_selected(), [0, 1, 0, 1]);
-    assert_eq!(rt;
+    same(&rt, again.stored(1, HERE), twins.stored(1, HERE));
+    same(&rt, again.all_selected(), [0, 1, 0, 1]);
+    same(
+        &rt,
         again.view(0, Address { pair: 2, ..HERE }).decode(),
-        Some(Word::ZERO)
+        Some(Word::ZERO),
     );
-    assert_eq!(rt; again.read(HERE), found(Some(1), true));
+    same(&rt, again.read(HERE), found(Some(1), true));
     Ok(())
 }

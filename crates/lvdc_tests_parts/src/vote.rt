@@ -5,6 +5,7 @@ ghost use Rattle.lvdc_vote.specs.Latches.{FitsLatches};
 ghost use Rattle.lvdc_vote.specs.Copies.{IsFullOrder};
 ghost use Rattle.lvdc_vote.specs.declared.hurt.Hurt.TheVariants.{Flip, Force};
 
+use crate::rows::same;
 use lvdc_vote::{
     Call, Feed, Hurt, LogicModule, Triple, Vote, WholeTriple, answers_agree, flipped, forced,
     latched_state, majority, step_in_order,
@@ -126,13 +127,14 @@ fn state(total: u32, last: u32) -> Total
 fn bits_are_voted_over_turned_and_set(rt: HostRuntime) -> Result<(), Fail> {
     let word = Word::within(0o17);
     let other = Word::within(0o360);
-    assert_eq!(rt; majority(word, other, word).value(), 0o17);
+    same(&rt, majority(word, other, word).value(), 0o17);
     let (three, five, six) = (Word::within(3), Word::within(5), Word::within(6));
-    assert_eq!(rt; majority(three, five, six).value(), 7);
-    assert_eq!(rt; flipped(word, Word::within(0o21)).value(), 0o36);
-    assert_eq!(rt;
+    same(&rt, majority(three, five, six).value(), 7);
+    same(&rt, flipped(word, Word::within(0o21)).value(), 0o36);
+    same(
+        &rt,
         forced(word, Word::within(0o70), Word::within(0o52)).value(),
-        0o57
+        0o57,
     );
     Ok(())
 }
@@ -172,13 +174,13 @@ fn force(index: u8, mask: u32, value: u32) -> Hurt
 
 #[test]
 fn a_lag_comes_first_and_the_other_hurts_in_order(rt: HostRuntime) -> Result<(), Fail> {
-    assert_eq!(rt; latched(&[]), (0o17, 5));
-    assert_eq!(rt; latched(&[Hurt::Lag]), (3, 7));
-    assert_eq!(rt; latched(&[flip()]), (0o16, 5));
-    assert_eq!(rt; latched(&[force(1, 0o70, 0o52)]), (0o17, 0o55));
-    assert_eq!(rt; latched(&[force(0, 1, 0), flip()]), (0o17, 5));
-    assert_eq!(rt; latched(&[flip(), force(0, 1, 0)]), (0o16, 5));
-    assert_eq!(rt; latched(&[flip(), Hurt::Lag]), (2, 7));
+    same(&rt, latched(&[]), (0o17, 5));
+    same(&rt, latched(&[Hurt::Lag]), (3, 7));
+    same(&rt, latched(&[flip()]), (0o16, 5));
+    same(&rt, latched(&[force(1, 0o70, 0o52)]), (0o17, 0o55));
+    same(&rt, latched(&[force(0, 1, 0), flip()]), (0o17, 5));
+    same(&rt, latched(&[flip(), force(0, 1, 0)]), (0o16, 5));
+    same(&rt, latched(&[flip(), Hurt::Lag]), (2, 7));
     Ok(())
 }
 
@@ -207,25 +209,26 @@ fn voted_after(order: &[u8]) -> (u32, u32)
 
 #[test]
 fn every_order_gives_the_next_state(rt: HostRuntime) -> Result<(), Fail> {
-    assert_eq!(rt; voted_after(&[0, 1, 2]), (0o17, 5));
-    assert_eq!(rt; voted_after(&[0, 2, 1]), (0o17, 5));
-    assert_eq!(rt; voted_after(&[1, 0, 2]), (0o17, 5));
-    assert_eq!(rt; voted_after(&[1, 2, 0]), (0o17, 5));
-    assert_eq!(rt; voted_after(&[2, 0, 1]), (0o17, 5));
-    assert_eq!(rt; voted_after(&[2, 1, 0]), (0o17, 5));
+    same(&rt, voted_after(&[0, 1, 2]), (0o17, 5));
+    same(&rt, voted_after(&[0, 2, 1]), (0o17, 5));
+    same(&rt, voted_after(&[1, 0, 2]), (0o17, 5));
+    same(&rt, voted_after(&[1, 2, 0]), (0o17, 5));
+    same(&rt, voted_after(&[2, 0, 1]), (0o17, 5));
+    same(&rt, voted_after(&[2, 1, 0]), (0o17, 5));
     Ok(())
 }
 
 #[test]
 fn one_copy_differs(rt: HostRuntime) -> Result<(), Fail> {
     let triple = Triple::<Adder>::from_copies(state(1, 2), state(1, 2), state(1, 3));
-    assert_eq!(rt; triple.voted().last.value(), 2);
-    assert_eq!(rt; triple.word(2, 1).value(), 3);
-    assert_eq!(rt;
+    same(&rt, triple.voted().last.value(), 2);
+    same(&rt, triple.word(2, 1).value(), 3);
+    same(
+        &rt,
         (triple.differs(0), triple.differs(1), triple.differs(2)),
-        (false, false, true)
+        (false, false, true),
     );
-    assert_eq!(rt; triple.latched(2), false);
+    same(&rt, triple.latched(2), false);
     Ok(())
 }
 
@@ -275,8 +278,8 @@ fn differences_answer_as_whole_copies(rt: HostRuntime) -> Result<(), Fail> {
         total: Word::within(0o12),
         addend: Word::within(5),
     };
-    assert_eq!(rt; both_forms_agree(&bus, &[], &[]), true);
-    assert_eq!(rt; both_forms_agree(&bus, &[], &[Hurt::Lag]), true);
-    assert_eq!(rt; both_forms_agree(&bus, &[], &[flip(), Hurt::Lag]), true);
+    same(&rt, both_forms_agree(&bus, &[], &[]), true);
+    same(&rt, both_forms_agree(&bus, &[], &[Hurt::Lag]), true);
+    same(&rt, both_forms_agree(&bus, &[], &[flip(), Hurt::Lag]), true);
     Ok(())
 }
