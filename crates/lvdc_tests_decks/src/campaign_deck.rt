@@ -1,44 +1,43 @@
-use lvdc_campaign_deck::{CampaignFault, read_campaign};
+use crate::rows::same;
+use lvdc_campaign_deck::{CampaignDeck, CampaignFault, read_campaign};
 use lvdc_port::PortDevice;
 use std::alloc::Global;
 use std::test::Fail;
 
-/// The refusal of a campaign over no devices, if it is refused.
-fn refusal(alloc: Global, text: &str) -> Result<Option<CampaignFault>, Fail> {
+/// A campaign over no devices, or its refusal.
+fn campaign(alloc: Global, text: &[u8]) -> Result<Result<CampaignDeck, CampaignFault>, Fail> {
     if text.len() > 100_000 {
         return Err("a short campaign".into());
     }
     let devices: Vec<Box<dyn PortDevice>> = Vec::new(alloc);
-    match read_campaign(alloc, text.as_bytes(), &devices) {
-        Ok(_) => Ok(None),
-        Err(fault) => Ok(Some(fault)),
-    }
+    Ok(read_campaign(alloc, text, &devices))
 }
 
 #[test]
 fn scripts_are_named_and_have_their_events(rt: HostRuntime) -> Result<(), Fail> {
+    let alloc = rt.alloc();
     let text =
         b"IMAGE\nLVDC 1\nEND\nRUN 3\n CAMPAIGN\t\n* TWO\nSCRIPT A\nLAG 5 1 0 0\nLAG 5 2 0 0\nSCRIPT B1\n";
-    let devices: Vec<Box<dyn PortDevice>> = Vec::new(rt.alloc());
-    let Ok(deck) = read_campaign(rt.alloc(), text, &devices) else {
+    let Ok(deck) = campaign(alloc, text)? else {
         return Err("a campaign".into());
     };
-    assert_eq!(rt; deck.count, 3);
+    same(&rt, deck.count, 3);
     let [first, second] = deck.scripts.items() else {
         return Err("two scripts".into());
     };
-    assert_eq!(rt; first.name.items(), b"A".as_slice());
-    assert_eq!(rt; first.script.len(), 2);
-    assert_eq!(rt; second.name.items(), b"B1".as_slice());
-    assert_eq!(rt; second.script.len(), 0);
-    Ok(())
-}
-
-#[test]
-fn a_campaign_ends_its_deck(rt: HostRuntime) -> Result<(), Fail> {
-    let found = refusal(rt.alloc(), "IMAGE\nLVDC 1\nEND\nRUN 3\n")?;
-    assert_eq!(rt; found, Some(CampaignFault::BadSection(5)));
-    let found = refusal(rt.alloc(), "IMAGE\nLVDC 1\nEND\nRUN 3\nPORTS\nCAMPAIGN\n")?;
-    assert_eq!(rt; found.is_some(), true);
+    same(
+        &rt,
+        (first.name.items(), first.script.len()),
+        (b"A".as_slice(), 2),
+    );
+    same(
+        &rt,
+        (second.name.items(), second.script.len()),
+        (b"B1".as_slice(), 0),
+    );
+    let open = campaign(alloc, b"IMAGE\nLVDC 1\nEND\nRUN 3\n")?.err();
+    same(&rt, open, Some(CampaignFault::BadSection(5)));
+    let ports = campaign(alloc, b"IMAGE\nLVDC 1\nEND\nRUN 3\nPORTS\nCAMPAIGN\n")?;
+    same(&rt, ports.err().is_some(), true);
     Ok(())
 }

@@ -1,3 +1,4 @@
+use crate::rows::{column, comes, same, shown};
 use lvdc_deck::{Deck, DeckFault, read_deck};
 use lvdc_image::ImageFault;
 use lvdc_map::{Banks, Hop};
@@ -24,35 +25,61 @@ fn deck_for(alloc: Global, text: &[u8], debugging: bool) -> Result<Result<Deck, 
     Ok(read_deck(alloc, text, &devices, debugging))
 }
 
+/// Refusals, and the decks.
+const REFUSED: &str = "\
+    Some(NoProgram(1))|;\
+    Some(BadSection(1))|IMAGE\r\nLVDC 1\r\n;\
+    Some(CountTooLarge(4))|IMAGE\nLVDC 1\nEND\nRUN 1000001\n;\
+    Some(BadLine(4))|IMAGE\r\nLVDC 1\r\nEND\r\nRUN 1x\r\n;\
+    Some(NoDevice(5))|IMAGE\nLVDC 1\nEND\nPORTS\nTAPE 016 1\n;\
+    Some(BadLine(5))|IMAGE\nLVDC 1\nEND\nRUN 3\nDEBUG X\n;\
+    Some(Image(BadImageLine(2)))|IMAGE\nLVDC 3\nEND\nRUN 3;\
+";
+
+/// Refusals; the word of a section, a line, and how often it stands there.
+const LIMITS: &str = "\
+    None|FAULTS\n|LAG 1 1 0 0\n|65536;\
+    Some(TooManyEvents(65541))|FAULTS\n|LAG 1 1 0 0\n|65537;\
+    None|ORDER\n|UTSRQPONMLKJIHGFEDCBA\n|16;\
+    Some(BadLine(21))|ORDER\n|UTSRQPONMLKJIHGFEDCBA\n|17;\
+";
+
+/// A deck whose section of this word has so many lines of this text.
+fn with_lines(alloc: Global, word: &str, line: &str, count: u32) -> Result<String, Fail> {
+    let mut text = format!(in alloc; "IMAGE\nLVDC 1\nEND\n{word}")?;
+    for _line in 0..count {
+        text.push_str(line)?;
+    }
+    text.push_str("RUN 1\n")?;
+    Ok(text)
+}
+
 #[test]
 fn refusals_name_their_lines(rt: HostRuntime) -> Result<(), Fail> {
-    for (text, fault) in [
-        (b"".as_slice(), DeckFault::NoProgram(1)),
-        (b"IMAGE\r\nLVDC 1\r\n", DeckFault::BadSection(1)),
-        (
-            b"IMAGE\nLVDC 1\nEND\nRUN 1000001\n",
-            DeckFault::CountTooLarge(4),
-        ),
-        (
-            b"IMAGE\r\nLVDC 1\r\nEND\r\nRUN 1x\r\n",
-            DeckFault::BadLine(4),
-        ),
-        (b"IMAGE\nLVDC 1\nEND\nRUN 1\xff\n", DeckFault::BadLine(4)),
-        (
-            b"IMAGE\nLVDC 1\nEND\nPORTS\nTAPE 016 1\n",
-            DeckFault::NoDevice(5),
-        ),
-        (
-            b"IMAGE\nLVDC 1\nEND\nRUN 3\nDEBUG X\n",
-            DeckFault::BadLine(5),
-        ),
-        (
-            b"IMAGE\nLVDC 3\nEND\nRUN 3",
-            DeckFault::Image(ImageFault::BadImageLine(2)),
-        ),
-    ] {
-        assert_eq!(rt; deck(rt.alloc(), text)?.err(), Some(fault));
+    let alloc = rt.alloc();
+    for row in REFUSED.split_terminator(";") {
+        let (due, text) = column(row)?;
+        let found = shown(alloc, &deck(alloc, text.as_bytes())?.err())?;
+        comes(&rt, found.as_str(), due);
     }
+    for row in LIMITS.split_terminator(";") {
+        let (due, row) = column(row)?;
+        let (word, row) = column(row)?;
+        let (line, count) = column(row)?;
+        let count: u32 = count.parse().map_err(|_| "a count")?;
+        let text = with_lines(alloc, word, line, count)?;
+        let found = shown(alloc, &deck(alloc, text.as_bytes())?.err())?;
+        comes(&rt, found.as_str(), due);
+    }
+    let no_text = deck(alloc, b"IMAGE\nLVDC 1\nEND\nRUN 1\xff\n")?;
+    same(&rt, no_text.err(), Some(DeckFault::BadLine(4)));
+    let fault = DeckFault::Image(ImageFault::BadWord(3));
+    same(
+        &rt,
+        (fault.name(), fault.line()),
+        (b"BadWord".as_slice(), 3),
+    );
+    same(&rt, DeckFault::NoDevice(7).name(), b"NoDevice".as_slice());
     Ok(())
 }
 
@@ -65,21 +92,17 @@ fn sections_are_kept_in_a_deck(rt: HostRuntime) -> Result<(), Fail> {
         port: 0,
         word: Word::within(5),
     };
-    assert_eq!(rt; deck.image.words().len(), 1);
-    assert_eq!(rt; deck.start, Hop::of(Word::within(0o216)));
-    assert_eq!(rt; Some(deck.banks), Banks::new(9));
-    assert_eq!(rt; deck.supplies.items(), [supply].as_slice());
-    assert_eq!(rt;
-        deck.unplugs.items(),
-        [Unplug {
-            port: 0o14,
-            time: 3
-        }]
-        .as_slice()
-    );
-    assert_eq!(rt; (deck.script.len(), deck.orders.count()), (1, 1));
-    assert_eq!(rt; deck.orders.at_step(2).at(0), 20);
-    assert_eq!(rt; deck.count, 4);
+    let unplug = Unplug {
+        port: 0o14,
+        time: 3,
+    };
+    let start = Hop::of(Word::within(0o216));
+    same(&rt, (deck.image.words().len(), deck.start), (1, start));
+    same(&rt, Some(deck.banks), Banks::new(9));
+    same(&rt, deck.supplies.items(), [supply].as_slice());
+    same(&rt, deck.unplugs.items(), [unplug].as_slice());
+    same(&rt, (deck.script.len(), deck.orders.count()), (1, 1));
+    same(&rt, (deck.orders.at_step(2).at(0), deck.count), (20, 4));
     Ok(())
 }
 
@@ -88,44 +111,15 @@ fn a_source_and_a_session_are_kept_in_a_deck(rt: HostRuntime) -> Result<(), Fail
     let text =
         b"SOURCE\n        CODE\n        HOP   000\nMAIN    CLA   000\n        END\nSTART MAIN\nRUN 2\nDEBUG\n* NOTE\nRUN 4\n";
     let deck = deck_for(rt.alloc(), text.as_slice(), true)??;
-    assert_eq!(rt; deck.image.words().len(), 2);
-    assert_eq!(rt; deck.start, Hop::of(Word::within(0o2016)));
-    assert_eq!(rt; deck.count, 2);
+    let start = Hop::of(Word::within(0o2016));
+    same(&rt, (deck.image.words().len(), deck.start), (2, start));
     let command = Line {
         number: 10,
         start: 98,
         end: 103,
     };
-    assert_eq!(rt; deck.commands.items(), [command].as_slice());
-    Ok(())
-}
-
-/// A deck whose section of this word has so many lines of this text.
-fn with_lines(alloc: Global, word: &[u8], line: &[u8], count: usize) -> Result<Vec<u8>, Fail> {
-    let mut text = Vec::new(alloc);
-    text.extend_from_slice(b"IMAGE\nLVDC 1\nEND\n")?;
-    text.extend_from_slice(word)?;
-    for _line in 0..count {
-        text.extend_from_slice(line)?;
-    }
-    text.extend_from_slice(b"RUN 1\n")?;
-    Ok(text)
-}
-
-#[test]
-fn events_and_orders_have_their_limits(rt: HostRuntime) -> Result<(), Fail> {
-    let alloc = rt.alloc();
-    for (count, refused) in [
-        (65_536, None),
-        (65_537, Some(DeckFault::TooManyEvents(65_541))),
-    ] {
-        let text = with_lines(alloc, b"FAULTS\n", b"LAG 1 1 0 0\n", count)?;
-        assert_eq!(rt; deck(alloc, text.as_slice())?.err(), refused);
-    }
-    for (count, refused) in [(16, None), (17, Some(DeckFault::BadLine(21)))] {
-        let text = with_lines(alloc, b"ORDER\n", b"UTSRQPONMLKJIHGFEDCBA\n", count)?;
-        assert_eq!(rt; deck(alloc, text.as_slice())?.err(), refused);
-    }
+    same(&rt, deck.commands.items(), [command].as_slice());
+    same(&rt, deck.count, 2);
     Ok(())
 }
 
@@ -141,31 +135,21 @@ fn sixteen_orders_take_turns(rt: HostRuntime) -> Result<(), Fail> {
     }
     text.extend_from_slice(b"RUN 1\n")?;
     let deck = deck(alloc, text.as_slice())??;
-    assert_eq!(rt; deck.orders.count(), 16);
+    same(&rt, deck.orders.count(), 16);
     for step in 0..48u64 {
-        assert_eq!(rt; u64::from(deck.orders.at_step(step).at(0)), step % 16);
+        same(&rt, u64::from(deck.orders.at_step(step).at(0)), step % 16);
     }
     Ok(())
 }
 
 #[test]
 fn without_start_the_image_says_where_to_start(rt: HostRuntime) -> Result<(), Fail> {
-    let one = deck(rt.alloc(), b"IMAGE\nLVDC 1\nEND\nRUN 0\n")??;
-    assert_eq!(rt; one.start, Hop::of(Word::within(0o16)));
-    let two = deck(
-        rt.alloc(),
-        b"IMAGE\nLVDC 2\nSTART 000000216\nSIMPLEX 1\nEND\nSIMPLEX 0\nRUN 0\n",
-    )??;
-    assert_eq!(rt; two.start, Hop::of(Word::within(0o216)));
-    assert_eq!(rt; Some(two.banks), Banks::new(3));
-    Ok(())
-}
-
-#[test]
-fn a_cause_has_a_name_and_a_line(rt: HostRuntime) -> Result<(), Fail> {
-    assert_eq!(rt; DeckFault::NoDevice(7).name(), b"NoDevice".as_slice());
-    let fault = DeckFault::Image(ImageFault::BadWord(3));
-    assert_eq!(rt; fault.name(), b"BadWord".as_slice());
-    assert_eq!(rt; fault.line(), 3);
+    let alloc = rt.alloc();
+    let one = deck(alloc, b"IMAGE\nLVDC 1\nEND\nRUN 0\n")??;
+    same(&rt, one.start, Hop::of(Word::within(0o16)));
+    let text = b"IMAGE\nLVDC 2\nSTART 000000216\nSIMPLEX 1\nEND\nSIMPLEX 0\nRUN 0\n";
+    let two = deck(alloc, text)??;
+    same(&rt, two.start, Hop::of(Word::within(0o216)));
+    same(&rt, Some(two.banks), Banks::new(3));
     Ok(())
 }

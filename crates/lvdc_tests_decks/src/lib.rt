@@ -6,6 +6,8 @@ mod campaign_deck;
 #[cfg(test)]
 mod deck;
 #[cfg(test)]
+mod rows;
+#[cfg(test)]
 mod save;
 #[cfg(test)]
 mod saved_lines;

@@ -1,3 +1,4 @@
+use crate::rows::same;
 use lvdc_save::{CopyState, Entry, SaveFault, put_entry};
 use lvdc_word::{Seq, Word};
 use std::test::Fail;
@@ -14,17 +15,13 @@ fn a_copy_is_a_line(rt: HostRuntime) -> Result<(), Fail> {
     };
     let mut out = Vec::new(alloc);
     put_entry(&mut out, &Entry::Copy(copy))?;
-    assert_eq!(rt;
-        out.as_slice(),
-        b"COPY 2 1 0 000002004 000000000\n".as_slice()
-    );
-    Ok(())
-}
-
-#[test]
-fn a_cause_has_a_name_and_a_line(rt: HostRuntime) -> Result<(), Fail> {
+    let line = b"COPY 2 1 0 000002004 000000000\n";
+    same(&rt, out.as_slice(), line.as_slice());
     let fault = SaveFault::NoDevice(5);
-    assert_eq!(rt; fault.name(), b"NoDevice".as_slice());
-    assert_eq!(rt; fault.line(), 5);
+    same(
+        &rt,
+        (fault.name(), fault.line()),
+        (b"NoDevice".as_slice(), 5),
+    );
     Ok(())
 }

@@ -1,5 +1,6 @@
+use crate::rows::{column, comes, shown};
 use lvdc_port::{Latch, PortDevice, Recorder, Tape, Ticker};
-use lvdc_save::{SaveFault, print_saved};
+use lvdc_save::print_saved;
 use lvdc_saved_lines::read_saved;
 use std::alloc::Global;
 use std::test::Fail;
@@ -66,66 +67,46 @@ fn devices(alloc: Global) -> Result<Vec<Box<dyn PortDevice>>, Fail> {
     Ok(devices)
 }
 
-/// What is printed of what the text says.
-fn again(alloc: Global, text: &[u8]) -> Result<Vec<u8>, Fail> {
+/// What is printed of what the text says, or the refusal of the text.
+fn told(alloc: Global, text: &str) -> Result<String, Fail> {
     if text.len() > 10_000 {
         return Err("a short text".into());
     }
     let devices = devices(alloc)?;
-    let saved = read_saved(alloc, text, &devices)?;
-    Ok(print_saved(alloc, &saved)?)
-}
-
-/// The refusal of the text.
-fn refusal(alloc: Global, text: &[u8]) -> Result<Option<SaveFault>, Fail> {
-    if text.len() > 10_000 {
-        return Err("a short text".into());
+    match read_saved(alloc, text.as_bytes(), &devices) {
+        Ok(saved) => match String::from_utf8(print_saved(alloc, &saved)?) {
+            Ok(text) => Ok(text),
+            Err(_) => Err("a byte of the text is no ASCII".into()),
+        },
+        Err(fault) => shown(alloc, &fault),
     }
-    let devices = devices(alloc)?;
-    Ok(read_saved(alloc, text, &devices).err())
 }
 
 #[test]
 fn a_saved_text_is_read_and_printed_back(rt: HostRuntime) -> Result<(), Fail> {
     let alloc = rt.alloc();
     let text = format!(in alloc; "LVDC SAVE 1\nSTEPS 3\nCOUNT 3\nSIMPLEX 0 3\n{COPIES}{LISTS}")?;
-    let printed = again(alloc, text.as_bytes())?;
-    assert_eq!(rt; printed.as_slice(), text.as_bytes());
+    comes(&rt, told(alloc, text.as_str())?.as_str(), text.as_str());
+    let step = told(alloc, "LVDC SAVE 1\nSTEPS 4\nCOUNT 3\n")?;
+    comes(&rt, step.as_str(), "BadSave(2)");
     Ok(())
 }
+
+/// Refusals, and the lines that stand behind those of the copies: the first line that shows it, or lacks its device, is named.
+const REFUSED: &str = "\
+    BadSave(26)|;\
+    BadSave(26)|END\n;\
+    NoDevice(26)|STATE 016 000000001\n;\
+    NoDevice(26)|STATE 001 000000007\nSTATE 001 000000006\nUNPLUG 001 0\n;\
+";
 
 #[test]
 fn a_refusal_names_the_first_line_that_shows_it(rt: HostRuntime) -> Result<(), Fail> {
     let alloc = rt.alloc();
-    let step = b"LVDC SAVE 1\nSTEPS 4\nCOUNT 3\n";
-    assert_eq!(rt; refusal(alloc, step)?, Some(SaveFault::BadSave(2)));
-    let open = format!(in alloc; "LVDC SAVE 1\nSTEPS 3\nCOUNT 3\n{COPIES}")?;
-    assert_eq!(rt;
-        refusal(alloc, open.as_bytes())?,
-        Some(SaveFault::BadSave(26))
-    );
-    let orders = format!(in alloc; "{open}END\n")?;
-    assert_eq!(rt;
-        refusal(alloc, orders.as_bytes())?,
-        Some(SaveFault::BadSave(26))
-    );
-    Ok(())
-}
-
-#[test]
-fn a_line_without_its_device_is_named(rt: HostRuntime) -> Result<(), Fail> {
-    let alloc = rt.alloc();
-    let open = format!(in alloc; "LVDC SAVE 1\nSTEPS 3\nCOUNT 3\n{COPIES}")?;
-    let ticker = format!(in alloc; "{open}STATE 016 000000001\n")?;
-    assert_eq!(rt;
-        refusal(alloc, ticker.as_bytes())?,
-        Some(SaveFault::NoDevice(26))
-    );
-    let states = "STATE 001 000000007\nSTATE 001 000000006\n";
-    let gone = format!(in alloc; "{open}{states}UNPLUG 001 0\n")?;
-    assert_eq!(rt;
-        refusal(alloc, gone.as_bytes())?,
-        Some(SaveFault::NoDevice(26))
-    );
+    for row in REFUSED.split_terminator(";") {
+        let (due, lines) = column(row)?;
+        let text = format!(in alloc; "LVDC SAVE 1\nSTEPS 3\nCOUNT 3\n{COPIES}{lines}")?;
+        comes(&rt, told(alloc, text.as_str())?.as_str(), due);
+    }
     Ok(())
 }
