@@ -1,5 +1,25 @@
-//! Tests of the top call: worked rows, refusals, statuses, and streams and devices that fail.
+//! Tests of the top call: worked rows of each command, refusals, statuses, limits, and streams and devices that fail.
 #![tactic(auto)]
 
 #[cfg(test)]
-mod call;
+mod commands;
+#[cfg(test)]
+mod decks;
+#[cfg(test)]
+mod devices;
+#[cfg(test)]
+mod exchanges;
+#[cfg(test)]
+mod inputs;
+#[cfg(test)]
+mod limits;
+#[cfg(test)]
+mod refusals;
+#[cfg(test)]
+mod rows;
+#[cfg(test)]
+mod saves;
+#[cfg(test)]
+mod streams;
+#[cfg(test)]
+mod told;

@@ -1,6 +1,7 @@
 //! Each exchange with a device fails in turn.
-use super::inputs::{CAMPAIGN, MACROS, SOURCE, UPLINK, deck, saved};
-use super::{Fails, NONE, is_told, told};
+use crate::inputs::{OTHERS, deck, is_as, is_told, saved, tells};
+use crate::rows::ends;
+use crate::told::{Fails, NONE};
 use std::alloc::Global;
 use std::process::Abort;
 use std::test::Fail;
@@ -28,8 +29,8 @@ fn ends_in(
     shown_by: &str,
     (port, call, time): (u64, u64, u32),
 ) -> Result<(), Fail> {
-    let ended = told(alloc, line, input, failing(port, call))?;
-    let before = told(alloc, shown_by, deck(alloc, time, "")?.as_str(), NONE)?;
+    let ended = tells(alloc, line, input, failing(port, call))?;
+    let before = tells(alloc, shown_by, deck(alloc, time, "")?.as_str(), NONE)?;
     let (front, back) = before
         .text
         .as_str()
@@ -49,15 +50,9 @@ fn is_whole(
     input: &str,
     fails: Fails,
 ) -> Result<(), Fail> {
-    let whole = told(alloc, line, input, NONE)?;
-    let ended = told(alloc, line, input, fails)?;
-    is_told(
-        rt,
-        &ended,
-        whole.status,
-        whole.text.as_str(),
-        whole.held.as_str(),
-    );
+    let whole = tells(alloc, line, input, NONE)?;
+    let ended = tells(alloc, line, input, fails)?;
+    is_as(rt, &ended, &whole);
     Ok(())
 }
 
@@ -102,8 +97,8 @@ fn exchanges_of_a_session_fail(rt: HostRuntime) -> Result<(), Fail> {
     let alloc = rt.alloc();
     let session = deck(alloc, 10, "DEBUG\nSTEP 10\nSTEP 1\n")?;
     for (port, call, time) in EXCHANGES {
-        let ended = told(alloc, "debug", session.as_str(), failing(port, call))?;
-        let before = told(alloc, "run", deck(alloc, time, "")?.as_str(), NONE)?;
+        let ended = tells(alloc, "debug", session.as_str(), failing(port, call))?;
+        let before = tells(alloc, "run", deck(alloc, time, "")?.as_str(), NONE)?;
         let step = u64::from(time) * 3 + 2;
         let end = format!(in alloc; "END DEVICE {step} {port:03o}\n")?;
         let text = format!(in alloc; "LVDC DEBUG\n> STEP 10\n{end}> STEP 1\n{end}")?;
@@ -115,48 +110,51 @@ fn exchanges_of_a_session_fail(rt: HostRuntime) -> Result<(), Fail> {
     Ok(())
 }
 
+/// The exchanges that are left to the saved run, with the numbers that they have there.
+const RESUMED: [(u64, u64, u32); 4] = [(0, 1, 6), (0o14, 2, 7), (0o14, 3, 8), (0o17, 2, 9)];
+
+/// How often each device is asked then, and once more.
+const NO_MORE_RESUMED: [(u64, u64); 3] = [(0, 2), (0o14, 4), (0o17, 3)];
+
 /// The latch and the recorder are written once each while they are given their words, and the tape is supplied.
 #[test]
 fn devices_of_a_saved_run_fail(rt: HostRuntime) -> Result<(), Fail> {
     let alloc = rt.alloc();
     let saved = saved(alloc)?;
     let text = saved.as_str();
-    let ended = told(alloc, "resume", text, failing(0o14, 1))?;
-    is_told(
-        &rt,
-        &ended,
-        10,
-        "REFUSED Device 014\n",
-        "000: 7;014: 0;017:;",
-    );
-    let ended = told(alloc, "resume", text, failing(0o17, 1))?;
-    is_told(
-        &rt,
-        &ended,
-        10,
-        "REFUSED Device 017\n",
-        "000: 7;014: 5;017:;",
-    );
-    for exchange in [(0, 1, 6), (0o14, 2, 7), (0o14, 3, 8), (0o17, 2, 9)] {
+    for (port, due) in [
+        (0o14, "10|REFUSED Device 014\n|000: 7/014: 0/017:/"),
+        (0o17, "10|REFUSED Device 017\n|000: 7/014: 5/017:/"),
+    ] {
+        let ended = tells(alloc, "resume", text, failing(port, 1))?;
+        ends(&rt, alloc, &ended, due)?;
+    }
+    for exchange in RESUMED {
         ends_in(&rt, alloc, ("resume", text), "run", exchange)?;
     }
-    for (port, call) in [(0, 2), (0o14, 4), (0o17, 3)] {
+    for (port, call) in NO_MORE_RESUMED {
         is_whole(&rt, alloc, "resume", text, failing(port, call))?;
     }
     Ok(())
 }
 
+/// The calls of the recorder that fail, and what a soak run then tells.
+const SOAKS: [(u64, &str); 4] = [
+    (1, "~|LVDC SOAK 1\nEND DEVICE 20 017\nTIMES 6\n~"),
+    (2, "~|LVDC SOAK 1\nEND DEVICE 59 017\nTIMES 19\n~"),
+    (
+        15_385,
+        "~|LVDC SOAK 1\nEND DEVICE 599996 017\nTIMES 199998\n~",
+    ),
+    (15_386, "~|LVDC SOAK 1\nEND DONE\nTIMES 200000\n~"),
+];
+
 #[test]
 fn exchanges_of_a_soak_run_fail(rt: HostRuntime) -> Result<(), Fail> {
     let alloc = rt.alloc();
-    for (call, front) in [
-        (1, "LVDC SOAK 1\nEND DEVICE 20 017\nTIMES 6\n"),
-        (2, "LVDC SOAK 1\nEND DEVICE 59 017\nTIMES 19\n"),
-        (15_385, "LVDC SOAK 1\nEND DEVICE 599996 017\nTIMES 199998\n"),
-        (15_386, "LVDC SOAK 1\nEND DONE\nTIMES 200000\n"),
-    ] {
-        let ended = told(alloc, "soak 1", "", failing(0o17, call))?;
-        assert!(rt; ended.text.as_str().starts_with(front), "{front}");
+    for (call, due) in SOAKS {
+        let ended = tells(alloc, "soak 1", "", failing(0o17, call))?;
+        ends(&rt, alloc, &ended, due)?;
     }
     Ok(())
 }
@@ -172,14 +170,7 @@ fn other_commands_leave_devices_alone(rt: HostRuntime) -> Result<(), Fail> {
         latch: 1,
         recorder: 1,
     };
-    for (line, input) in [
-        ("asm", SOURCE),
-        ("asm --image", SOURCE),
-        ("macro", MACROS),
-        ("macro --image", MACROS),
-        ("uplink", UPLINK),
-        ("campaign", CAMPAIGN),
-    ] {
+    for (line, input) in OTHERS {
         is_whole(&rt, alloc, line, input, fails)?;
     }
     Ok(())
@@ -190,9 +181,9 @@ fn a_device_that_is_taken_away_before_its_use_fails_nothing(rt: HostRuntime) -> 
     let alloc = rt.alloc();
     let deck =
         "IMAGE\nLVDC 1\n0 00 000 000012400\n0 00 001 000013000\n0 00 002 000010000\nEND\nPORTS\nTAPE 000 5\nUNPLUG 000 0\nRUN 4\n";
-    let ended = told(alloc, "run", deck, failing(0, 1))?;
+    let ended = tells(alloc, "run", deck, failing(0, 1))?;
     let text =
         "LVDC RUN\nEND DONE\nTIMES 4\nPLACE 0 00 0 001\nDATA 0 01\nDUP 1 1\nA 000000000\nPQ 000000000\nSAVER 000006016\nIN 0 000 000000000\nIN 3 000 000000000\nMEM 0 00 000 000012400\nMEM 0 00 001 000013000\nMEM 0 00 002 000010000\n";
-    is_told(&rt, &ended, 0, text, "014: 0;017:;");
+    is_told(&rt, &ended, 0, text, "014: 0/017:/");
     Ok(())
 }

@@ -1,0 +1,121 @@
+//! Decks over devices.
+use crate::rows::{comes, ends, inputs_come};
+use crate::told::{Fails, NONE, Rack, told};
+use std::alloc::Global;
+use std::test::Fail;
+
+/// Decks over a tape and a recorder.
+const DECKS: &str = "\
+    run|IMAGE\nLVDC 1\n0 00 000 000016600\nEND\nRUN 5\n|6|LVDC RUN\nEND STOPPED 2 EXM\nTIMES 1\n~;\
+    run|SOURCE\n        CODE\nMAIN    HOP   000\n        END\nSTART X\nRUN 1\n|3|REFUSED UndefinedName 5\n|~;\
+    run|SOURCE\n        WORDS 0,01\nX       OCT   5\n        END\nSTART X\nRUN 1\n|3|REFUSED OutOfSector 5\n|~;\
+    run|SOURCE\n        CODE\n        CLA   Y\n        END\nSTART X\nRUN 1\n|3|REFUSED UndefinedName 3\n|~;\
+    run|* A DECK\nSOURCE\n        CODE\n        FLY   000\n        END\nRUN 1\n|3|REFUSED UnknownOperation 4\n|~;\
+    run|IMAGE\nLVDC 1\nEND\nPORTS\nUNPLUG 020 0\nRUN 1\n|2|REFUSED NoDevice 5\n|~;\
+    run|IMAGE\nLVDC 1\nEND\nRUN 0\nDEBUG\nGO\nRUN 5\nFLY\n|0|LVDC RUN\nEND DONE\nTIMES 0\n~;\
+    run|IMAGE\nLVDC 1\n0 00 000 000012400\n0 00 001 000013000\n0 00 002 000010000\nEND\nPORTS\nTAPE 000 5 7\nUNPLUG 000 3\nRUN 4|0|LVDC RUN\nEND DONE\nTIMES 4\nPLACE 0 00 0 001\nDATA 0 01\nDUP 1 1\nA 000000000\nPQ 000000000\nSAVER 000006016\nIN 0 000 000000005\nIN 3 000 000000000\nMEM ~|017:/;\
+";
+
+/// Runs that are saved, over a recorder and a tape.
+const SAVES: &str = "\
+    save 1|IMAGE\nLVDC 1\n0 00 000 000017000\n0 00 001 000007001\n0 00 002 000013002\n0 00 003 000010003\n0 01 000 177777777\n0 01 001 000000001\nEND\nRUN 3\n|0|LVDC SAVE 1\nSTEPS 3\nCOUNT 3\nCOPY 1 1 0 ~\nCOPY 2 1 0 000002004 000000000\n~\nCOPY 4 1 0 000000012\n~\nCOPY 5 1 0 177777777 177777777\n~;\
+    save 0|IMAGE\nLVDC 1\n0 00 000 000017000\n0 00 001 000007001\n0 00 002 000013002\n0 00 003 000010003\n0 01 000 177777777\n0 01 001 000000001\nEND\nRUN 3\n|0|~\nSTEPS 0\nCOUNT 3\n~;\
+    save 3|IMAGE\nLVDC 1\n0 00 000 000017000\n0 00 001 000007001\n0 00 002 000013002\n0 00 003 000010003\n0 01 000 177777777\n0 01 001 000000001\nEND\nRUN 3\n|0|~\nSTEPS 9\nCOUNT 3\n~;\
+    save 4|IMAGE\nLVDC 1\n0 00 000 000017000\n0 00 001 000007001\n0 00 002 000013002\n0 00 003 000010003\n0 01 000 177777777\n0 01 001 000000001\nEND\nRUN 3\n|2|REFUSED CountTooLarge 10\n|~;\
+    save 1|IMAGE\nLVDC 1\n0 00 000 000017000\n0 00 001 000010000\n0 01 000 000000005\nEND\nFAULTS\nDAMAGE 0 0 01 000 0 0000000001\nDAMAGE 1 0 01 000 4 0000000001\nRUN 3\n|0|~\nSELECT 1 0 0 0\n~\nREPAIR 1 0 01 000 0 SWITCH\nDAMAGE 0 0 01 000 0 0000000001\nDAMAGE 1 0 01 000 4 0000000001\nABCDEFGHIJKLMNOPQRSTU\nEND\n~;\
+    save 1|IMAGE\nLVDC 1\n0 00 000 000016600\nEND\nRUN 5\n|6|LVDC RUN\nEND STOPPED 2 EXM\nTIMES 1\n~;\
+    save 2|IMAGE\nLVDC 1\n0 00 000 000012400\n0 00 001 000012017\n0 00 002 000010000\nEND\nPORTS\nTAPE 000 5 7 11\nUNPLUG 000 4\nRUN 9\n|0|~\nSTATE 000 000000007\nSTATE 000 000000011\nSTATE 017 000000005\nUNPLUG 000 4\nABCDEFGHIJKLMNOPQRSTU\nEND\n~;\
+";
+
+#[test]
+fn decks_speak_to_devices(rt: HostRuntime) -> Result<(), Fail> {
+    inputs_come(&rt, rt.alloc(), Rack::TapeAndRecorder, DECKS)?;
+    inputs_come(&rt, rt.alloc(), Rack::RecorderAndTape, SAVES)
+}
+
+/// A command, an input and what is due, where this call of the tape fails.
+const FAILED: [(&str, &str, u64, &str); 3] = [
+    (
+        "run",
+        "IMAGE\nLVDC 1\n0 00 000 000012400\n0 00 001 000013000\n0 00 002 000010000\nEND\nPORTS\nTAPE 000 000000005 000000007\nRUN 9",
+        2,
+        "10|LVDC RUN\nEND DEVICE 11 000\nTIMES 3\nPLACE 0 00 0 000\nDATA 0 01\nDUP 1 1\nA 000000005\nPQ 000000000\nSAVER 000006016\nIN 0 000 000000005\nMEM ~|000: 7/017:/",
+    ),
+    (
+        "debug",
+        "IMAGE\nLVDC 1\n0 00 000 000012400\n0 00 001 000013000\n0 00 002 000010000\nEND\nPORTS\nTAPE 000 5 7\nRUN 9\nDEBUG\nSTEP 3\nGO\nSTEP 1\n",
+        2,
+        "10|LVDC DEBUG\n> STEP 3\nAT 3 0 00 0 000\n> GO\nEND DEVICE 11 000\n> STEP 1\nEND DEVICE 11 000\n|~",
+    ),
+    (
+        "save 9",
+        "IMAGE\nLVDC 1\n0 00 000 000012400\n0 00 001 000012017\n0 00 002 000010000\nEND\nPORTS\nTAPE 000 5 7 11\nUNPLUG 000 4\nRUN 9\n",
+        1,
+        "10|LVDC RUN\nEND DEVICE ~",
+    ),
+];
+
+#[test]
+fn a_failed_tape_ends_the_run_and_keeps_its_words(rt: HostRuntime) -> Result<(), Fail> {
+    let alloc = rt.alloc();
+    for (line, input, tape, due) in FAILED {
+        let fails = Fails { tape, ..NONE };
+        let ended = told(alloc, line, input.as_bytes(), Rack::TapeAndRecorder, fails)?;
+        ends(&rt, alloc, &ended, due)?;
+    }
+    let source = b"        CODE\n        CLA   000\n        END\n";
+    let due = "0|~|000:/014: 0/017:/";
+    comes(
+        &rt,
+        alloc,
+        Rack::TapeLatchAndRecorder,
+        ("asm --image", source),
+        due,
+    )
+}
+
+/// Words at the front of a deck, then faults that wander through all 21 copies, one at a time: the line i, from 0, turns over a bit of
+/// copy i mod 3 + 1 of module i mod 7 + 1 at step 2i.
+pub fn wandering(alloc: Global, front: &str) -> Result<String, Fail> {
+    let mut deck = String::from_str(alloc, front)?;
+    for line in 0..60u64 {
+        let (module, copy, step) = (line % 7 + 1, line % 3 + 1, 2 * line);
+        let event = format!(in alloc; "FLIP {module} {copy} {step} {step} 0 000000001\n")?;
+        deck.push_str(event.as_str())?;
+    }
+    deck.push_str("RUN 40\n")?;
+    Ok(deck)
+}
+
+/// A subroutine that a HOP constant calls halves what a tape reads, and a recorder takes the sums.
+const IMAGE: &str =
+    "IMAGE\nLVDC 1\n0 00 000 000012400\n0 00 001 000013000\n0 00 002 000004004\n0 00 003 000010003\n0 00 004 000000002\n0 00 005 000017001\n0 00 006 000012017\n0 00 007 000010000\n0 00 010 000013776\n0 00 011 000017000\n0 00 012 000001400\n0 00 013 000017001\n0 00 014 000017001\n0 00 015 000017001\n0 00 016 000017001\n0 00 017 000007775\n0 00 020 000013001\n0 00 021 000000776\n0 01 001 000000000\n0 01 002 000020016\n0 17 000 100000000\nEND\nPORTS\nTAPE 000 000000010 000000020\nFAULTS\n";
+
+/// The same from its source.
+pub const SOURCE: &str =
+    "SOURCE\n* DISCRETES, HALVED BY A SUBROUTINE, TO TELEMETRY\n        CODE\nMAIN    PIO   400\n        STO   DISC\n        TNZ   WORK\nDONE    TRA   DONE\nWORK    HOP   =HSCALE\nBACK    CLA   SUM\n        PIO   017\n        TRA   MAIN\n        CODE\nSCALE   STO   776      RETURN\n        CLA   DISC\n        MPY   HALF\n        CLA   SUM\n        CLA   SUM\n        CLA   SUM\n        CLA   SUM\n        ADD   775\n        STO   SUM\n        HOP   776\n        WORDS 0,01\nDISC    BSS   1\nSUM     OCT   0\n        WORDS 0,17\nHALF    OCT   100000000\n        END\nSTART MAIN\nPORTS\nTAPE 000 000000010 000000020\nFAULTS\n";
+
+#[test]
+fn faults_wander_over_all_copies_of_a_whole_program(rt: HostRuntime) -> Result<(), Fail> {
+    let alloc = rt.alloc();
+    let image = wandering(alloc, IMAGE)?;
+    let due =
+        "0|LVDC RUN\nEND DONE\nTIMES 40\nPLACE 0 00 0 003\nDATA 0 01\nDUP 1 1\nA 000000000\nPQ 000000010\nSAVER 000010016\nIN 0 000 000000010\nOUT 15 017 000000004\nIN 17 000 000000020\nOUT 32 017 000000014\nIN 34 000 000000000\nMEM 0 00 000 ~MEM 0 01 001 000000014\n~MEM 0 17 000 100000000\nMEM 0 17 376 000012016\nWRONG 1 1 3\nWRONG 1 2 3\nWRONG 1 3 3\nWRONG 2 1 3\nWRONG 2 2 3\nWRONG 2 3 3\nWRONG 3 1 3\nWRONG 3 2 3\nWRONG 3 3 3\nWRONG 4 1 3\nWRONG 4 2 3\nWRONG 4 3 3\nWRONG 5 1 2\nWRONG 5 2 3\nWRONG 5 3 3\nWRONG 6 1 3\nWRONG 6 2 2\nWRONG 6 3 3\nWRONG 7 1 3\nWRONG 7 2 3\nWRONG 7 3 2\n|000:/017: 4 14/";
+    comes(
+        &rt,
+        alloc,
+        Rack::TapeAndRecorder,
+        ("run", image.as_bytes()),
+        due,
+    )?;
+    let source = wandering(alloc, SOURCE)?;
+    let due =
+        "0|LVDC RUN\nEND DONE\nTIMES 40\nPLACE 0 00 0 003\nDATA 0 01\nDUP 1 1\nA 000000000\nPQ 000000010\nSAVER 000010016\nIN 0 000 000000010\nOUT 15 017 000000004\nIN 17 000 000000020\nOUT 32 017 000000014\nIN 34 000 000000000\nMEM ~MEM 0 01 001 000000014\nMEM 0 01 002 000020016\nMEM 0 17 000 100000000\nMEM 0 17 376 000012016\nWRONG 1 1 3\nWRONG 1 2 3\nWRONG 1 3 3\nWRONG 2 1 3\nWRONG 2 2 3\nWRONG 2 3 3\nWRONG 3 1 3\nWRONG 3 2 3\nWRONG 3 3 3\nWRONG 4 1 3\nWRONG 4 2 3\nWRONG 4 3 3\nWRONG 5 1 2\nWRONG 5 2 3\nWRONG 5 3 3\nWRONG 6 1 3\nWRONG 6 2 2\nWRONG 6 3 3\nWRONG 7 1 3\nWRONG 7 2 3\nWRONG 7 3 2\n|000:/017: 4 14/";
+    comes(
+        &rt,
+        alloc,
+        Rack::TapeAndRecorder,
+        ("run", source.as_bytes()),
+        due,
+    )
+}

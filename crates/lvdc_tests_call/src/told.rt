@@ -1,0 +1,153 @@
+//! What the top call tells of an input.
+ghost use Rattle.std.specs.Prelude.{map, IfOk};
+ghost use Rattle.lvdc_port.specs.Devices.{AreDistinct};
+
+use lvdc_cli::{SESSION_ROOM, lvdc};
+use lvdc_port::{Failing, Latch, PortDevice, Recorder, Tape, Ticker};
+use lvdc_text::{FaultySink, FaultySource, read_all};
+use std::alloc::Global;
+use std::test::Fail;
+
+/// Which call of each fails, by its number from 1; 0 stands for none.
+#[derive(Clone, Copy)]
+pub struct Fails {
+    pub read: u64,
+    pub write: u64,
+    pub tape: u64,
+    pub latch: u64,
+    pub recorder: u64,
+}
+
+/// Nothing fails.
+pub const NONE: Fails = Fails {
+    read: 0,
+    write: 0,
+    tape: 0,
+    latch: 0,
+    recorder: 0,
+};
+
+/// The devices that stand at the ports: a tape at 000, a latch at 014, a ticker at 016, a recorder at 017.
+#[derive(Clone, Copy)]
+pub enum Rack {
+    Empty,
+    Ticker,
+    TapeAndTicker,
+    TapeAndRecorder,
+    RecorderAndTape,
+    TapeLatchAndRecorder,
+    /// The tape stands at port 001.
+    OtherTape,
+}
+
+/// The devices of a rack.
+fn devices(alloc: Global, rack: Rack, fails: Fails) -> Result<Vec<Box<dyn PortDevice>>, Fail>
+    ensures { IfOk result (λ devices. AreDistinct (map device_of devices.items)) }
+{
+    let mut devices: Vec<Box<dyn PortDevice>> = Vec::new(alloc);
+    let latch = Failing::new(Latch::new(0o14), Vec::from_slice(alloc, &[fails.latch])?);
+    let calls = Vec::from_slice(alloc, &[fails.recorder])?;
+    let recorder = Failing::new(Recorder::new(alloc, 0o17), calls);
+    let tape_port = if matches!(rack, Rack::OtherTape) {
+        1
+    } else {
+        0
+    };
+    let calls = Vec::from_slice(alloc, &[fails.tape])?;
+    let tape = Failing::new(Tape::new(alloc, tape_port), calls);
+    match rack {
+        Rack::Empty => {}
+        Rack::Ticker => devices.push(Box::new(alloc, Ticker::new(0o16))?)?,
+        Rack::TapeAndTicker => {
+            devices.push(Box::new(alloc, tape)?)?;
+            devices.push(Box::new(alloc, Ticker::new(0o16))?)?;
+        }
+        Rack::TapeAndRecorder => {
+            devices.push(Box::new(alloc, tape)?)?;
+            devices.push(Box::new(alloc, recorder)?)?;
+        }
+        Rack::RecorderAndTape => {
+            devices.push(Box::new(alloc, recorder)?)?;
+            devices.push(Box::new(alloc, tape)?)?;
+        }
+        Rack::TapeLatchAndRecorder | Rack::OtherTape => {
+            devices.push(Box::new(alloc, tape)?)?;
+            devices.push(Box::new(alloc, latch)?)?;
+            devices.push(Box::new(alloc, recorder)?)?;
+        }
+    }
+    Ok(devices)
+}
+
+/// How a call has ended: its status, what was written, the words that each device holds which is left, and how many bytes were
+/// left unread, where they were few.
+#[derive(Drop)]
+pub struct Ended {
+    pub status: u8,
+    pub text: String,
+    pub held: String,
+    pub unread: usize,
+}
+
+/// The words of a command line.
+pub fn command(alloc: Global, line: &str) -> Result<Vec<String>, Fail> {
+    let mut words = Vec::new(alloc);
+    for word in line.split_whitespace() {
+        words.push(String::from_str(alloc, word)?)?;
+    }
+    Ok(words)
+}
+
+/// The port of a device and the words that it holds, in octal, and a stroke.
+fn held(alloc: Global, device: &Box<dyn PortDevice>) -> Result<String, Fail> {
+    let port = device.port();
+    let mut text = format!(in alloc; "{port:03o}:")?;
+    for index in 0..8 {
+        if let Some(word) = device.held(index) {
+            text.push_str(format!(in alloc; " {:o}", word.value())?.as_str())?;
+        }
+    }
+    text.push_str("/")?;
+    Ok(text)
+}
+
+/// The bytes as a text.
+pub fn ascii(alloc: Global, bytes: &[u8]) -> Result<String, Fail> {
+    match String::from_utf8(Vec::from_slice(alloc, bytes)?) {
+        Ok(text) => Ok(text),
+        Err(_) => Err("a byte of the text is no ASCII".into()),
+    }
+}
+
+/// What is told of an input.
+pub fn told(
+    alloc: Global,
+    line: &str,
+    input: &[u8],
+    rack: Rack,
+    fails: Fails,
+) -> Result<Ended, Fail> {
+    let words = command(alloc, line)?;
+    let mut devices = devices(alloc, rack, fails)?;
+    let bytes = Vec::from_slice(alloc, input)?;
+    let mut source = FaultySource::new(bytes, Vec::from_slice(alloc, &[fails.read])?);
+    let calls = Vec::from_slice(alloc, &[fails.write])?;
+    let mut sink = FaultySink::with_room(alloc, SESSION_ROOM, calls)?;
+    let status = lvdc(
+        alloc,
+        words.as_slice(),
+        &mut source,
+        &mut sink,
+        &mut devices,
+    );
+    let mut words = String::new(alloc);
+    for device in &devices {
+        words.push_str(held(alloc, device)?.as_str())?;
+    }
+    Ok(Ended {
+        status,
+        text: ascii(alloc, sink.bytes())?,
+        held: words,
+        unread: read_all(alloc, &mut source, 100).map_or(0, |left| left.len()),
+    })
+}
