@@ -1,16 +1,18 @@
 -- What is in force is released, and what a step puts in force is so.
-use Rattle.std.proofs.Common.{◌≡◌, ℕ, List, sym, subst}
-use Rattle.std.specs.Prelude.{IfSome}
+use Rattle.std.proofs.Common.{◌≡◌, ℕ, suc, ◌+◌, ◌-◌, ◌≤◌, List, sym, ap, subst, ◌∙◌, arith}
+use Rattle.std.specs.Prelude.{IfSome, IsSomeAnd}
 use Rattle.std.specs.declared.option.Option.{Option}
 use Rattle.std.specs.declared.option.Option.TheVariants.{None, Some}
 use Rattle.lvdc_map.specs.Memory.{Memory}
 use Rattle.lvdc_fault.specs.Activity as activity
 use Rattle.lvdc_fault.specs.Activity.{Activity, Fits}
-use Rattle.lvdc_fault.specs.Script.{active_at}
+use Rattle.lvdc_fault.specs.Script.{active_at, wrong_module}
 use Rattle.lvdc_fault.specs.declared.event.Event.{Event}
+use Rattle.lvdc_model.specs.Exchanges.{damages}
 use Rattle.lvdc_model.specs.Trial.{Trial}
 use Rattle.lvdc_model.specs.Twins.{Twins}
 use Rattle.lvdc_memory.specs.Holds.{Kept, Holds}
+use Rattle.lvdc_machine.specs.Sound.{KnowsWrong}
 
 -- by what was in force: a step of the script, or nothing
 released-by : (o : Trial) (old new : Kept) (t : Twins) (i : Memory) (a : Activity) (last : Option ℕ)
@@ -31,3 +33,41 @@ released o old new t i script a same fits forced unforced h =
     released-by o old new t i a a.last (subst (λ (s : List Event). Fits s a) same fits).kept
     (λ step held g. forced o step t i (sym same) (subst (λ (s : List Event). a.held ≡ active_at s step) (sym same) held) g)
     (λ g. unforced o t i g) h
+
+-- ---- the same events as in the step before
+
+-- the step before is the one that was in force
+module _ (script : List Event) (steps : ℕ) where
+  abbrev StayedFrom : ℕ → Type 0
+  StayedFrom before = (suc before ≡ steps) × (active_at script steps ≡ active_at script before)
+
+  pub some-step : (last : Option ℕ) → IsSomeAnd last StayedFrom → 1 ≤ steps
+  some-step None stays = absurd stays
+  some-step (Some before) stays = omega (arith, stays.0)
+
+  pub same-at : (last : Option ℕ) → IsSomeAnd last StayedFrom → active_at script (steps - 1 + 1) ≡ active_at script (steps - 1)
+  same-at None stays = absurd stays
+  same-at (Some before) stays =
+      let here : steps - 1 ≡ before = omega (arith, stays.0) in
+      let back : steps - 1 + 1 ≡ steps = omega (arith, stays.0) in
+      ap (active_at script) back ∙ stays.1 ∙ ap (active_at script) (sym here)
+
+  -- the module that is known as wrong stays so
+  pub stays-wrong : (last wrong : Option ℕ) → IsSomeAnd last StayedFrom → KnowsWrong script last wrong
+      → wrong_module script (steps - 1 + 1) ≡ wrong_module script (steps - 1) → KnowsWrong script (Some steps) wrong
+  stays-wrong None wrong stays known named = absurd stays
+  stays-wrong (Some before) wrong stays known named =
+      let here : steps - 1 ≡ before = omega (arith, stays.0) in
+      let back : steps - 1 + 1 ≡ steps = omega (arith, stays.0) in
+      known ∙ ap (wrong_module script) (sym here) ∙ sym named ∙ ap (wrong_module script) back
+
+  -- what is in force stays so
+  pub stayed : (o : Trial) (m : Kept) (t : Twins) (i : Memory) (last : Option ℕ) → script ≡ o.script → IsSomeAnd last StayedFrom
+      → ((p : Trial) (t : Twins) (i : Memory) → p.script ≡ script → Holds p (Some (steps - 1)) m t i → Holds p (Some (steps - 1 + 1)) m (damages (steps - 1 + 1) p.script t) i)
+      → Holds o last m t i → Holds o (Some steps) m (damages steps o.script t) i
+  stayed o m t i None same stays law h = absurd stays
+  stayed o m t i (Some before) same stays law h =
+      let here : steps - 1 ≡ before = omega (arith, stays.0) in
+      let back : steps - 1 + 1 ≡ steps = omega (arith, stays.0) in
+      subst (λ (n : ℕ). Holds o (Some n) m (damages n o.script t) i) back
+      (law o t i (sym same) (subst (λ (n : ℕ). Holds o (Some n) m t i) (sym here) h))

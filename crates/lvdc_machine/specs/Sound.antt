@@ -1,7 +1,10 @@
 -- What is true of every machine.
-use Rattle.std.specs.Prelude.{◌≡◌, ◌+◌, ◌*◌, ◌/◌, ◌%◌, ◌≤◌, ◌<◌, length, All, vec_len, vec_capacity}
+use Rattle.std.specs.Prelude.{◌≡◌, ℕ, ◌+◌, ◌*◌, ◌/◌, ◌%◌, ◌≤◌, ◌<◌, List, length, All, IfSome, vec_len, vec_capacity}
+use Rattle.std.specs.declared.option.Option.{Option}
 use Rattle.std.specs.declared.option.Option.TheVariants.{None}
 use Rattle.lvdc_fault.specs.Activity.{Fits}
+use Rattle.lvdc_fault.specs.Script.{wrong_module}
+use Rattle.lvdc_fault.specs.declared.event.Event.{Event}
 use Rattle.lvdc_orders.specs.Events.{IsEvent}
 use Rattle.lvdc_logic.specs.Logic.{DifferedAtMost}
 use Rattle.lvdc_machine.specs.declared.machine.Machine.TheInside.{Inside}
@@ -11,13 +14,19 @@ use Rattle.lvdc_machine.specs.Room.{pace_of, exchanges_left, repairs_left, IsInT
 use Rattle.lvdc_machine.specs.Notes.{IsLog, AreRepairs}
 use Rattle.lvdc_machine.specs.View.{bus_of_votes, end_seen}
 
--- the script is in range, what is in force fits it, and there is room for what may still come; the log of a machine with the room
--- of its mode is of its own steps alone; a machine with room by times judges, and one that judges has phases that go with the
--- steps; the bus is that of the votes, and where no end has come they are against a stop; and what is noted is of steps that were made
+-- the module that is known as the lowest with two wrong copies is that of the step in force, if one is
+abbrev pub KnowsWrong : List Event → Option ℕ → Option ℕ → Type 0
+KnowsWrong script last wrong = IfSome last (λ step. wrong ≡ wrong_module script step)
+
+-- the script is in range, what is in force fits it, the module known as wrong is that of the step in force, and there is room for
+-- what may still come; the log of a machine with the room of its mode is of its own steps alone; a machine with room by times
+-- judges, and one that judges has phases that go with the steps; the bus is that of the votes, and where no end has come they are
+-- against a stop; and what is noted is of steps that were made
 pub record IsSound (m : Inside) : Type 0 where
   pub events : All IsEvent m.script
   pub fits : Fits m.script m.active
   pub within : All (λ position. position < length m.script) m.active.held
+  pub wrong : KnowsWrong m.script m.active.last m.wrong
   pub hurts : length m.script ≤ m.logic.room
   pub differed : DifferedAtMost m.steps m.logic.counts
   pub banks : m.memory.twins.banks ≡ m.banks

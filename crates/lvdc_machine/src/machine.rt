@@ -36,7 +36,7 @@ use std::alloc::Global;
 use std::marker::Model;
 
 /// The voted machine, without its devices. Steps are counted from 0, three in an instruction time. The bus of the votes is built
-/// once a step, when all copies have latched.
+/// once a step, when all copies have latched; which module has two wrong copies is asked where the active events change.
 #[derive(Drop)]
 pub struct Machine {
     pub(crate) banks: Banks,
@@ -45,6 +45,7 @@ pub struct Machine {
     pub(crate) memory: VotedMemory,
     pub(crate) script: Script,
     pub(crate) active: Active,
+    pub(crate) wrong: Option<u8>,
     pub(crate) unplugs: Vec<Unplug>,
     pub(crate) log: Vec<Exchange>,
     pub(crate) repairs: Vec<Repair>,
@@ -149,6 +150,7 @@ impl Machine {
             memory,
             script,
             active,
+            wrong: None,
             unplugs,
             log,
             repairs,

@@ -16,13 +16,14 @@ ghost use Rattle.lvdc_machine.specs.declared.mode.Pace.TheVariants.{ByStep};
 ghost use Rattle.lvdc_machine.specs.Resumed.{StandsFrom};
 ghost use Rattle.lvdc_machine.specs.Room.{exchanges_left};
 ghost use Rattle.lvdc_machine.specs.Snapshot.{IsWhole, Means, meant};
+ghost use Rattle.lvdc_machine.specs.Sound.{KnowsWrong};
 ghost use Rattle.lvdc_machine.specs.Stands.{Stands};
 ghost use Rattle.lvdc_machine.specs.Steps.{run_of};
 ghost use Rattle.lvdc_machine.specs.declared.snapshot.Snapshot.{Snapshot};
 ghost use Rattle.lvdc_machine.specs.View.{View};
 
 use crate::{Machine, Mode, Pace, Snapshot};
-use lvdc_fault::{Active, Script};
+use lvdc_fault::{Active, Script, wrong_now};
 use lvdc_logic::Logic;
 use lvdc_memory::VotedMemory;
 use lvdc_plain::Unplug;
@@ -83,6 +84,7 @@ impl Machine {
             bus: logic.bus(Word::ZERO, Word::ZERO),
             logic,
             memory,
+            wrong: wrong_before(&script, &active, steps),
             script,
             active,
             unplugs,
@@ -152,6 +154,18 @@ fn put_last_in_force(script: &Script, steps: u64, active: &mut Active, memory: &
         script.active(steps - 1, active);
         memory.put_in_force(script, active, steps - 1);
     }
+}
+
+/// The lowest module with two wrong copies in the step before this one, if there is one.
+fn wrong_before(script: &Script, active: &Active, steps: u64) -> Option<u8>
+    requires fits { Fits script.now active.now }
+    requires last { active.now.last ≡ last_made steps }
+    ensures { KnowsWrong script.now active.now.last result }
+{
+    if steps == 0 {
+        return None;
+    }
+    wrong_now(script, active, steps - 1)
 }
 
 /// A law, which does nothing when it runs. What stands where the run from a state of a trial's run is, stands where that run

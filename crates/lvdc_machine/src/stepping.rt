@@ -6,7 +6,8 @@ ghost use Rattle.lvdc_port.specs.Device as device;
 ghost use Rattle.lvdc_port.specs.Devices.{has_port, HasSpare, AreDistinct};
 ghost use Rattle.lvdc_modules.specs.Wish.{wish, IsThereFor};
 ghost use Rattle.lvdc_plain.specs.Lists.{Since};
-ghost use Rattle.lvdc_fault.specs.Script.{active_at, two_wrong, wrong_module, NoneWrong};
+ghost use Rattle.lvdc_fault.specs.Activity.{Stays};
+ghost use Rattle.lvdc_fault.specs.Script.{two_wrong};
 ghost use Rattle.lvdc_fault.specs.declared.verdict.Verdict.{Verdict};
 ghost use Rattle.lvdc_fault.specs.declared.verdict.Verdict.TheVariants.{Admissible};
 ghost use Rattle.lvdc_model.specs.Exchanges.{damages, stop_of, latches, exchanges, reading, storing, port_reading, port_writing, wished};
@@ -28,7 +29,7 @@ use crate::answers::answer;
 use crate::kept_end::KeptEnd;
 use crate::notes::{log_line, note_repair};
 use crate::{Machine, Mode, Order};
-use lvdc_fault::{Active, Script, Verdict, active_suffice, wrong_now};
+use lvdc_fault::{Verdict, none_wrong, same_actives, wrong_now};
 use lvdc_map::Address;
 use lvdc_model::{Outcome, Repair};
 use lvdc_modules::{Bus, Wanted, wish};
@@ -92,19 +93,6 @@ fn repair_of(step: u64, at: Address, read: &ReadOut) -> Option<Repair>
     }
 }
 
-/// The lowest module with two or more wrong copies at the step, by the events that are active. Where none is, nothing is asked.
-fn wrong_if_any(script: &Script, active: &Active, step: u64) -> Option<u8>
-    requires { active.now.held ≡ active_at script.now step }
-    ensures value { result ≡ wrong_module script.now step }
-    ensures none { IsNone result ↔ NoneWrong script.now step }
-{
-    active_suffice(script, step);
-    if active.positions().is_empty() {
-        return None;
-    }
-    wrong_now(script, active, step)
-}
-
 /// The address that is to be read.
 fn read_of(wanted: &Wanted) -> Option<Address>
     ensures value { result ≡ read_of_wish wanted.now }
@@ -130,8 +118,36 @@ impl Machine {
         }
     }
 
-    /// Damages cells, and puts in force what is stuck and dead in this step.
+    /// Damages cells, and puts in force what is stuck and dead in this step. Where the same events are active as in the step before,
+    /// there is nothing to do.
     fn begin(&mut self)
+        ensures shows { (o : Trial) (v : Voted) (ds : List device.Device) → Shows o self.old ds v
+            → Shows o self.new ds (record v { twins = damages v.steps o.script v.twins }) }
+        ensures new { self.new ≡ record self.old { memory = self.new.memory; active = self.new.active } }
+        ensures last { self.new.active.last ≡ Some self.old.steps }
+    {
+        if self.script.stays(self.steps, &self.active) {
+            self.go_on();
+        } else {
+            self.change();
+        }
+    }
+
+    /// Begins a step in which the same events are active as in the step before.
+    fn go_on(&mut self)
+        requires { Stays self.old.script self.old.active self.old.steps }
+        ensures shows { (o : Trial) (v : Voted) (ds : List device.Device) → Shows o self.old ds v
+            → Shows o self.new ds (record v { twins = damages v.steps o.script v.twins }) }
+        ensures new { self.new ≡ record self.old { active = self.new.active } }
+        ensures last { self.new.active.last ≡ Some self.old.steps }
+    {
+        same_actives(&self.script, self.steps - 1);
+        self.memory.stays(&self.script, self.steps - 1);
+        self.script.active(self.steps, &mut self.active);
+    }
+
+    /// Begins a step in which other events are active than in the step before.
+    fn change(&mut self)
         ensures shows { (o : Trial) (v : Voted) (ds : List device.Device) → Shows o self.old ds v
             → Shows o self.new ds (record v { twins = damages v.steps o.script v.twins }) }
         ensures new { self.new ≡ record self.old { memory = self.new.memory; active = self.new.active } }
@@ -140,6 +156,7 @@ impl Machine {
         self.memory.release(&self.script, &self.active);
         self.script.active(self.steps, &mut self.active);
         self.memory.begin(&self.script, &self.active, self.steps);
+        self.wrong = wrong_now(&self.script, &self.active, self.steps);
     }
 
     /// The exchange that the votes wish for.
@@ -180,7 +197,8 @@ impl Machine {
             → result ≡ own_verdict o v }
         ensures right { result ≡ Admissible → two_wrong self.now.script self.now.steps 1 ≡ false }
     {
-        match wrong_if_any(&self.script, &self.active, self.steps) {
+        none_wrong();
+        match self.wrong {
             Some(number) => Verdict::Logic {
                 step: self.steps,
                 module: number,

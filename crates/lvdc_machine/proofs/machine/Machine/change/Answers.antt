@@ -1,6 +1,6 @@
 use Rattle.std.proofs.Common.{sym}
 use Rattle.lvdc_machine.proofs.Begun.{released}
-use Rattle.lvdc_machine.proofs.machine.Machine.begin.Goals as goal
+use Rattle.lvdc_machine.proofs.machine.Machine.change.Goals as goal
 
 pub returns-clause-shows : goal.returns-clause-shows
 returns-clause-shows c = λ o v ds h.

@@ -15,6 +15,7 @@ invariant_of-result g c =
       events = c.requires.events;
       fits = c.in_ok-active.ensures.fits;
       within = c.in_ok-active.ensures.within;
+      wrong = c.wrong_before.ensures;
       hurts = let room = c.in_ok-logic.ensures.room in omega (arith, room, c.len.ensures);
       differed = c.in_ok-logic.ensures.differed c.args.snapshot.steps (rw c.items-2.ensures whole.most);
       banks = c.in_ok-active.ensures.banks;

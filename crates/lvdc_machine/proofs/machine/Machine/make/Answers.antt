@@ -12,6 +12,7 @@ invariant_of-self c =
       events = c.self.invariant.events;
       fits = c.self.invariant.fits;
       within = c.self.invariant.within;
+      wrong = c.self.invariant.wrong;
       hurts = rw c.step.ensures.room c.self.invariant.hurts;
       differed = c.step.ensures.differed;
       banks = c.self.invariant.banks;

@@ -27,6 +27,7 @@ invariant_of-result g c = record {
   events = c.requires.events;
   fits = c.in_ok-active.ensures.fits;
   within = nothing-within c.args.script _ c.in_ok-active.ensures.held;
+  wrong = rw c.in_ok-active.ensures.last tt;
   hurts = let room = c.in_ok-logic.ensures.room in omega (arith, room, c.len.ensures);
   differed = c.in_ok-logic.ensures.differed;
   banks = c.in_ok-memory.ensures.banks;

@@ -1,0 +1,52 @@
+use Rattle.lvdc_machine.proofs.Begun.{same-at, stayed, stays-wrong}
+use Rattle.lvdc_machine.proofs.machine.Machine.go_on.Goals as goal
+
+pub stays-requires : goal.stays-requires
+stays-requires c =
+    let stays = rw (← c.self.view_is) at c.requires in
+    same-at c.self.inside.script c.self.inside.steps c.self.inside.active.last stays.same
+
+pub invariant_of-self : goal.invariant_of-self
+invariant_of-self c =
+    let stays = rw (← c.self.view_is) at c.requires in
+    record {
+      events = c.self.invariant.events;
+      fits = c.active.ensures.fits;
+      within = c.active.ensures.within;
+      wrong = rw c.active.ensures.last
+          (stays-wrong c.self.inside.script c.self.inside.steps c.self.inside.active.last c.self.inside.wrong stays.same c.self.invariant.wrong c.same_actives.ensures.named);
+      hurts = c.self.invariant.hurts;
+      differed = c.self.invariant.differed;
+      banks = c.self.invariant.banks;
+      log = c.self.invariant.log;
+      log_room = c.self.invariant.log_room;
+      repairs = c.self.invariant.repairs;
+      repairs_room = c.self.invariant.repairs_room;
+      steps = c.self.invariant.steps;
+      limit = c.self.invariant.limit;
+      judges = c.self.invariant.judges;
+      timed = c.self.invariant.timed;
+      bus = c.self.invariant.bus;
+      going = c.self.invariant.going;
+      logged = c.self.invariant.logged;
+      noted = c.self.invariant.noted;
+    }
+
+pub returns-clause-shows : goal.returns-clause-shows
+returns-clause-shows c = λ o v ds h.
+    let s = rw (← c.self.view_is) at h in
+    let stays = rw (← c.self.view_is) at c.requires in
+    record {
+      banks = s.banks;
+      script = s.script;
+      unplugs = s.unplugs;
+      copies = s.copies;
+      memory = rw (c.active.ensures.last, ← s.steps)
+          (stayed c.self.inside.script c.self.inside.steps o _ v.twins v.intended c.self.inside.active.last s.script stays.same c.stays.ensures s.memory);
+      left = s.left;
+      log = s.log;
+      repairs = s.repairs;
+      counts = s.counts;
+      steps = s.steps;
+      end = s.end;
+    }
