@@ -3,5 +3,6 @@ pub mod Lines
 pub mod Noted
 pub mod Shown
 pub mod Rows
+mod SumRows
 pub mod Sizes
 pub mod ToldLines
