@@ -46,7 +46,10 @@ fn images_are_printed_back_or_refused(rt: HostRuntime) -> Result<(), Fail> {
 #[test]
 fn an_image_has_words_a_start_and_banks(rt: HostRuntime) -> Result<(), Fail> {
     let alloc = rt.alloc();
-    let first = image(alloc, b"LVDC 1\n0 00 000 000017000\n3 17 377 377777777\nEND\n")??;
+    let first = image(
+        alloc,
+        b"LVDC 1\n0 00 000 000017000\n3 17 377 377777777\nEND\n",
+    )??;
     let bits = first.words().get(1).map(|placed| placed.word.value());
     same(&rt, (first.words().len(), bits), (2, Some(Word::LIMIT - 1)));
     same(&rt, first.start(), None);
@@ -68,8 +71,16 @@ fn an_image_is_made_of_words(rt: HostRuntime) -> Result<(), Fail> {
     let start = Hop::of(Word::within(0o16));
     let image = Image::with(vec![in alloc; Placed { at, word }]?, start, Banks::DUPLEX);
     let found = ascii(print_image(alloc, &image)?)?;
-    comes(&rt, found.as_str(), "LVDC 2\nSTART 000000016\n0 01 000 000000005\nEND\n");
+    comes(
+        &rt,
+        found.as_str(),
+        "LVDC 2\nSTART 000000016\n0 01 000 000000005\nEND\n",
+    );
     let fault = ImageFault::AddressOrder(5);
-    same(&rt, (fault.name(), fault.line()), (b"AddressOrder".as_slice(), 5));
+    same(
+        &rt,
+        (fault.name(), fault.line()),
+        (b"AddressOrder".as_slice(), 5),
+    );
     Ok(())
 }

@@ -23,6 +23,10 @@ fn a_call_is_written_out_or_is_too_deep(rt: HostRuntime) -> Result<(), Fail> {
     same(&rt, made.bytes.items(), due.as_slice());
     same(&rt, made.origins.items(), [5, 5].as_slice());
     let source = b"LOOP    MACRO\n        LOOP\n        MEND\n        LOOP\n        END\n";
-    same(&rt, expansion(alloc, source)?.err(), Some(MacroFault::TooDeep(4)));
+    same(
+        &rt,
+        expansion(alloc, source)?.err(),
+        Some(MacroFault::TooDeep(4)),
+    );
     Ok(())
 }

@@ -97,9 +97,19 @@ fn whole_sources_are_read(rt: HostRuntime) -> Result<(), Fail> {
     let program = read(alloc, FIXED_PLACES)?.ok().ok_or("a program")?;
     let items = program.items();
     same(&rt, items.len(), 9);
-    same(&rt, (items[4].line, items[4].label.items()), (5, b"LOOP".as_slice()));
-    holds(&rt, is_at(&items[2], Op::Add, b"X", 1) && is_at(&items[4], Op::Tra, b"LOOP", 0));
-    holds(&rt, matches!(items[7].body, Body::Constant(Constant::Dec(1))));
+    same(
+        &rt,
+        (items[4].line, items[4].label.items()),
+        (5, b"LOOP".as_slice()),
+    );
+    holds(
+        &rt,
+        is_at(&items[2], Op::Add, b"X", 1) && is_at(&items[4], Op::Tra, b"LOOP", 0),
+    );
+    holds(
+        &rt,
+        matches!(items[7].body, Body::Constant(Constant::Dec(1))),
+    );
     holds(&rt, matches!(items[8].body, Body::Room(1)));
     let program = read(alloc, LITERAL)?.ok().ok_or("a program")?;
     let items = program.items();
@@ -232,6 +242,9 @@ fn a_source_of_100_000_lines_is_read(rt: HostRuntime) -> Result<(), Fail> {
     let program = read(rt.alloc(), &text)?.ok().ok_or("a program")?;
     same(&rt, program.items().len(), 100_001);
     holds(&rt, is_name(b"A") && is_name(b"Z9876543"));
-    holds(&rt, !is_name(b"") && !is_name(b"A12345678") && !is_name(b"9A") && !is_name(b"Aa"));
+    holds(
+        &rt,
+        !is_name(b"") && !is_name(b"A12345678") && !is_name(b"9A") && !is_name(b"Aa"),
+    );
     Ok(())
 }

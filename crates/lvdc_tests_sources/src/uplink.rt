@@ -76,7 +76,11 @@ fn a_load_may_have_64_frames_of_eight_words(rt: HostRuntime) -> Result<(), Fail>
         let line = line_of_ones(alloc, 64 - before)?;
         uplink.message(&line)?;
     }
-    same(&rt, uplink.message(b"COMMIT 1 104540")?, Answer::Committed(1));
+    same(
+        &rt,
+        uplink.message(b"COMMIT 1 104540")?,
+        Answer::Committed(1),
+    );
     same(&rt, uplink.image().words().len(), 512);
     Ok(())
 }
