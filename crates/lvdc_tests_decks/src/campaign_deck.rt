@@ -17,8 +17,8 @@ fn campaign(alloc: Global, text: &[u8]) -> Result<Result<CampaignDeck, CampaignF
 fn scripts_are_named_and_have_their_events(rt: HostRuntime) -> Result<(), Fail> {
     let alloc = rt.alloc();
     let text =
-        b"IMAGE\nLVDC 1\nEND\nRUN 3\n CAMPAIGN\t\n* TWO\nSCRIPT A\nLAG 5 1 0 0\nLAG 5 2 0 0\nSCRIPT B1\n";
-    let Ok(deck) = campaign(alloc, text)? else {
+        "IMAGE\nLVDC 1\nEND\nRUN 3\n CAMPAIGN\t\n* TWO\nSCRIPT A\nLAG 5 1 0 0\nLAG 5 2 0 0\nSCRIPT B1\n";
+    let Ok(deck) = campaign(alloc, text.as_bytes())? else {
         return Err("a campaign".into());
     };
     same(&rt, deck.count, 3);
@@ -35,9 +35,12 @@ fn scripts_are_named_and_have_their_events(rt: HostRuntime) -> Result<(), Fail> 
         (second.name.items(), second.script.len()),
         (b"B1".as_slice(), 0),
     );
-    let open = campaign(alloc, b"IMAGE\nLVDC 1\nEND\nRUN 3\n")?.err();
+    let open = campaign(alloc, "IMAGE\nLVDC 1\nEND\nRUN 3\n".as_bytes())?.err();
     same(&rt, open, Some(CampaignFault::BadSection(5)));
-    let ports = campaign(alloc, b"IMAGE\nLVDC 1\nEND\nRUN 3\nPORTS\nCAMPAIGN\n")?;
+    let ports = campaign(
+        alloc,
+        "IMAGE\nLVDC 1\nEND\nRUN 3\nPORTS\nCAMPAIGN\n".as_bytes(),
+    )?;
     same(&rt, ports.err().is_some(), true);
     Ok(())
 }

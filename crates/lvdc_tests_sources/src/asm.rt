@@ -61,8 +61,8 @@ fn names(rt: &impl Abort, assembly: &Assembly, name: &[u8], bits: u32) -> Result
 #[test]
 fn names_of_code_have_hop_constants(rt: HostRuntime) -> Result<(), Fail> {
     let source =
-        b"        CODE\nMAIN    HOP   =HSUB\n        USE   1,02\n        ORG   2,03,1,007\nSUB     CLA   000\n        WORDS 0,01\nX       OCT   1\n        END\n";
-    let assembly = assembly(rt.alloc(), source)??;
+        "        CODE\nMAIN    HOP   =HSUB\n        USE   1,02\n        ORG   2,03,1,007\nSUB     CLA   000\n        WORDS 0,01\nX       OCT   1\n        END\n";
+    let assembly = assembly(rt.alloc(), source.as_bytes())??;
     names(&rt, &assembly, b"MAIN", 0o16)?;
     names(&rt, &assembly, b"SUB", 0o207016426)?;
     same(&rt, assembly.hop_of(b"X"), None);
@@ -108,12 +108,12 @@ fn blocks_fill_sectors_and_are_not_split(rt: HostRuntime) -> Result<(), Fail> {
 }
 
 /// Discretes, halved by a subroutine, to telemetry.
-const PROGRAM: &[u8] =
-    b"* DISCRETES, HALVED BY A SUBROUTINE, TO TELEMETRY\n        CODE\nMAIN    PIO   400\n        STO   DISC\n        TNZ   WORK\nDONE    TRA   DONE\nWORK    HOP   =HSCALE\nBACK    CLA   SUM\n        PIO   017\n        TRA   MAIN\n        CODE\nSCALE   STO   776      RETURN\n        CLA   DISC\n        MPY   HALF\n        CLA   SUM\n        CLA   SUM\n        CLA   SUM\n        CLA   SUM\n        ADD   775\n        STO   SUM\n        HOP   776\n        WORDS 0,01\nDISC    BSS   1\nSUM     OCT   0\n        WORDS 0,17\nHALF    OCT   100000000\n        END\n";
+const PROGRAM: &str =
+    "* DISCRETES, HALVED BY A SUBROUTINE, TO TELEMETRY\n        CODE\nMAIN    PIO   400\n        STO   DISC\n        TNZ   WORK\nDONE    TRA   DONE\nWORK    HOP   =HSCALE\nBACK    CLA   SUM\n        PIO   017\n        TRA   MAIN\n        CODE\nSCALE   STO   776      RETURN\n        CLA   DISC\n        MPY   HALF\n        CLA   SUM\n        CLA   SUM\n        CLA   SUM\n        CLA   SUM\n        ADD   775\n        STO   SUM\n        HOP   776\n        WORDS 0,01\nDISC    BSS   1\nSUM     OCT   0\n        WORDS 0,17\nHALF    OCT   100000000\n        END\n";
 
 #[test]
 fn a_whole_program_is_assembled(rt: HostRuntime) -> Result<(), Fail> {
-    let assembly = assembly(rt.alloc(), PROGRAM)??;
+    let assembly = assembly(rt.alloc(), PROGRAM.as_bytes())??;
     names(&rt, &assembly, b"SCALE", 0o20016)?;
     same(&rt, assembly.image().words().len(), 21);
     same(&rt, word_at(&assembly, 19)?, (0o402, 0o20016));

@@ -48,13 +48,13 @@ fn an_image_has_words_a_start_and_banks(rt: HostRuntime) -> Result<(), Fail> {
     let alloc = rt.alloc();
     let first = image(
         alloc,
-        b"LVDC 1\n0 00 000 000017000\n3 17 377 377777777\nEND\n",
+        "LVDC 1\n0 00 000 000017000\n3 17 377 377777777\nEND\n".as_bytes(),
     )??;
     let bits = first.words().get(1).map(|placed| placed.word.value());
     same(&rt, (first.words().len(), bits), (2, Some(Word::LIMIT - 1)));
     same(&rt, first.start(), None);
-    let text = b"LVDC 2\nSTART 000000216\nSIMPLEX 0 3\n4 01 000 000000007\nEND\n";
-    let second = image(alloc, text)??;
+    let text = "LVDC 2\nSTART 000000216\nSIMPLEX 0 3\n4 01 000 000000007\nEND\n";
+    let second = image(alloc, text.as_bytes())??;
     same(&rt, second.start(), Some(Hop::of(Word::within(0o216))));
     same(&rt, Some(second.banks()), Banks::new(9));
     Ok(())

@@ -17,15 +17,15 @@ fn expansion(alloc: Global, source: &[u8]) -> Result<Result<Expansion, MacroFaul
 fn a_call_is_written_out_or_is_too_deep(rt: HostRuntime) -> Result<(), Fail> {
     let alloc = rt.alloc();
     let source =
-        b"DOUBLE  MACRO\n        CLA   &1\n        ADD   &1\n        MEND\n        DOUBLE X\n";
-    let made = expansion(alloc, source)??;
-    let due = b"        CLA   X\n        ADD   X\n";
-    same(&rt, made.bytes.items(), due.as_slice());
+        "DOUBLE  MACRO\n        CLA   &1\n        ADD   &1\n        MEND\n        DOUBLE X\n";
+    let made = expansion(alloc, source.as_bytes())??;
+    let due = "        CLA   X\n        ADD   X\n";
+    same(&rt, made.bytes.items(), due.as_bytes());
     same(&rt, made.origins.items(), [5, 5].as_slice());
-    let source = b"LOOP    MACRO\n        LOOP\n        MEND\n        LOOP\n        END\n";
+    let source = "LOOP    MACRO\n        LOOP\n        MEND\n        LOOP\n        END\n";
     same(
         &rt,
-        expansion(alloc, source)?.err(),
+        expansion(alloc, source.as_bytes())?.err(),
         Some(MacroFault::TooDeep(4)),
     );
     Ok(())

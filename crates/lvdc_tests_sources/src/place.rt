@@ -91,13 +91,21 @@ fn pool(layout: &mut Layout, pair: u8, sector: u8) -> Result<Option<(u8, u8, u8)
 #[test]
 fn pooled_words_take_what_is_free(rt: HostRuntime) -> Result<(), Fail> {
     let alloc = rt.alloc();
-    let mut full = layout(alloc, b" WORDS 0,02\n BSS 256\n END\n")?;
+    let mut full = layout(alloc, " WORDS 0,02\n BSS 256\n END\n".as_bytes())?;
     same(&rt, pool(&mut full, 0, 2)?, None);
     same(&rt, pool(&mut full, 0, 3)?, Some((0, 3, 0)));
     same(&rt, pool(&mut full, 0, 3)?, Some((0, 3, 1)));
-    let text = b" ORG 0,01,1,000\n CLA 000\n WORDS 0,01\n OCT 1\n END\n";
-    same(&rt, pool(&mut layout(alloc, text)?, 0, 1)?, Some((0, 1, 2)));
-    let text = b" WORDS 1,17\n BSS 253\n END\n";
-    same(&rt, pool(&mut layout(alloc, text)?, 1, 15)?, None);
+    let text = " ORG 0,01,1,000\n CLA 000\n WORDS 0,01\n OCT 1\n END\n";
+    same(
+        &rt,
+        pool(&mut layout(alloc, text.as_bytes())?, 0, 1)?,
+        Some((0, 1, 2)),
+    );
+    let text = " WORDS 1,17\n BSS 253\n END\n";
+    same(
+        &rt,
+        pool(&mut layout(alloc, text.as_bytes())?, 1, 15)?,
+        None,
+    );
     Ok(())
 }

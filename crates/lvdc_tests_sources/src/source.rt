@@ -41,7 +41,7 @@ fn is_at(item: &Item, op: Op, place: &[u8], added: u16) -> bool {
     }
 }
 
-const FIXED_PLACES: &[u8] = b"        ORG   0,00,0,000
+const FIXED_PLACES: &str = "        ORG   0,00,0,000
         CLA   X
         ADD   X+1
         STO   X+2
@@ -53,7 +53,7 @@ X       OCT   177777777
         END
 ";
 
-const LITERAL: &[u8] = b"        CODE
+const LITERAL: &str = "        CODE
 BEGIN   CLA   X
         ADD   =O1
         TRA   BEGIN
@@ -62,7 +62,7 @@ X       OCT   5
         END
 ";
 
-const WHOLE_PROGRAM: &[u8] = b"* DISCRETES, HALVED BY A SUBROUTINE, TO TELEMETRY
+const WHOLE_PROGRAM: &str = "* DISCRETES, HALVED BY A SUBROUTINE, TO TELEMETRY
         CODE
 MAIN    PIO   400
         STO   DISC
@@ -94,7 +94,9 @@ HALF    OCT   100000000
 #[test]
 fn whole_sources_are_read(rt: HostRuntime) -> Result<(), Fail> {
     let alloc = rt.alloc();
-    let program = read(alloc, FIXED_PLACES)?.ok().ok_or("a program")?;
+    let program = read(alloc, FIXED_PLACES.as_bytes())?
+        .ok()
+        .ok_or("a program")?;
     let items = program.items();
     same(&rt, items.len(), 9);
     same(
@@ -111,7 +113,7 @@ fn whole_sources_are_read(rt: HostRuntime) -> Result<(), Fail> {
         matches!(items[7].body, Body::Constant(Constant::Dec(1))),
     );
     holds(&rt, matches!(items[8].body, Body::Room(1)));
-    let program = read(alloc, LITERAL)?.ok().ok_or("a program")?;
+    let program = read(alloc, LITERAL.as_bytes())?.ok().ok_or("a program")?;
     let items = program.items();
     same(&rt, items.len(), 6);
     let literal = matches!(
@@ -123,7 +125,9 @@ fn whole_sources_are_read(rt: HostRuntime) -> Result<(), Fail> {
     );
     holds(&rt, literal);
     same(&rt, Block::Code.after(&items[4].body), Block::Words);
-    let program = read(alloc, WHOLE_PROGRAM)?.ok().ok_or("a program")?;
+    let program = read(alloc, WHOLE_PROGRAM.as_bytes())?
+        .ok()
+        .ok_or("a program")?;
     let items = program.items();
     same(&rt, (items.len(), items[24].line), (25, 26));
     same(&rt, items[10].label.items(), b"SCALE".as_slice());
