@@ -58,9 +58,8 @@ headline_over {device_of} {old} {new} {status} devices is h =
     }
 
 -- the status and the text of the definition
-pub answer_over : {words : List (List ℕ)} {bytes : List ℕ} {written now : Option (List ℕ)} {status : ℕ} {old left : List Device} (devices : List Device)
-    → old ≡ devices
+pub answer_over : (words : List (List ℕ)) (bytes : List ℕ) (written now : Option (List ℕ)) (status : ℕ) (old left devices : List Device) → old ≡ devices
     → (status ≡ (answer words bytes old).status) × Appends written now (answer words bytes old).text × (left ≡ (answer words bytes old).devices)
     → (status ≡ (answer words bytes devices).status) × Appends written now (answer words bytes devices).text
-answer_over {words} {bytes} {written} {now} {status} devices is said =
+answer_over words bytes written now status old left devices is said =
     subst (λ (ds : List Device). (status ≡ (answer words bytes ds).status) × Appends written now (answer words bytes ds).text) is (said.0, said.1)

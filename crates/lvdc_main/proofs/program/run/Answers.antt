@@ -1,4 +1,5 @@
 use Rattle.lvdc_rack.specs.Rack.{rack}
+use Rattle.lvdc_cli.specs.Words.{texts}
 use Rattle.lvdc_main.proofs.Over.{end_over, headline_over, answer_over}
 use Rattle.lvdc_main.proofs.program.run.Goals as goal
 
@@ -6,7 +7,9 @@ pub returns-clause-ends : goal.returns-clause-ends
 returns-clause-ends g c = end_over rack c.is_whole.ensures.rack c.lvdc.ensures.ends
 
 pub returns-clause-answer : goal.returns-clause-answer
-returns-clause-answer g c = λ bytes told free. answer_over rack c.is_whole.ensures.rack (c.lvdc.ensures.answer bytes told free)
+returns-clause-answer g c =
+    λ bytes told free.
+    answer_over (texts c.args.words.now) bytes (g.K.Sink.written c.args.sink.now) (g.K.Sink.written c.lvdc.new.sink) c.lvdc.result _ _ rack c.is_whole.ensures.rack (c.lvdc.ensures.answer bytes told free)
 
 pub returns-clause-headline : goal.returns-clause-headline
 returns-clause-headline g c = λ asked free short. headline_over rack c.is_whole.ensures.rack (c.lvdc.ensures.headline asked free short)
