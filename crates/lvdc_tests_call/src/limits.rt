@@ -22,15 +22,67 @@ fn repeated(
 
 /// A command; the front of an input, a line, how often it stands there, and the back; and what is due.
 const REPEATED: &str = "\
-    asm --image|        CODE\n|        CLA   000\n|256|        END\n|0|~0 00 377 000017000\nEND\n;\
-    asm --image|        CODE\n|        CLA   000\n|257|        END\n|3|REFUSED NoRoom 1\n;\
-    asm --image|        CODE\n|        CLA   000\n|250|        CODE\n        CLA   000\n        CLA   000\n        CLA   000\n        CLA   000\n        CLA   000\n        CLA   000\n        CLA   000\n        CLA   000\n        CLA   000\n        CLA   000\n        END\n|0|~\n0 00 011 360017000\n0 00 012 000017000\n~0 00 371 000017000\nEND\n;\
-    macro|M MACRO\n MEND\n| M\n|999||0|~;\
-    macro|M MACRO\n MEND\n| M\n|1000||~|REFUSED TooManyCalls 1002\n;\
-    macro|| |1048576||~|REFUSED ExpansionTooLong 1\n;\
-    run|| |1048577||11|REFUSED TooLong\n;\
-    run|IMAGE\nLVDC 1\nEND\nFAULTS\n|LAG 1 1 0 0\n|65537||2|REFUSED TooManyEvents 65541\n~;\
-    run|IMAGE\nLVDC 1\nEND\nFAULTS\n|LAG 1 1 0 0\n|65536|RUN 0\n|0|LVDC RUN\nEND DONE\nTIMES 0\n~;\
+    asm --image|        CODE
+|        CLA   000
+|256|        END
+|0|~0 00 377 000017000
+END
+;\
+    asm --image|        CODE
+|        CLA   000
+|257|        END
+|3|REFUSED NoRoom 1
+;\
+    asm --image|        CODE
+|        CLA   000
+|250|        CODE
+        CLA   000
+        CLA   000
+        CLA   000
+        CLA   000
+        CLA   000
+        CLA   000
+        CLA   000
+        CLA   000
+        CLA   000
+        CLA   000
+        END
+|0|~
+0 00 011 360017000
+0 00 012 000017000
+~0 00 371 000017000
+END
+;\
+    macro|M MACRO
+ MEND
+| M
+|999||0|~;\
+    macro|M MACRO
+ MEND
+| M
+|1000||~|REFUSED TooManyCalls 1002
+;\
+    macro|| |1048576||~|REFUSED ExpansionTooLong 1
+;\
+    run|| |1048577||11|REFUSED TooLong
+;\
+    run|IMAGE
+LVDC 1
+END
+FAULTS
+|LAG 1 1 0 0
+|65537||2|REFUSED TooManyEvents 65541
+~;\
+    run|IMAGE
+LVDC 1
+END
+FAULTS
+|LAG 1 1 0 0
+|65536|RUN 0
+|0|LVDC RUN
+END DONE
+TIMES 0
+~;\
 ";
 
 #[test]
@@ -99,16 +151,40 @@ fn so_many_levels_and_scripts_are_taken_and_no_more(rt: HostRuntime) -> Result<(
 
 /// Soak runs over a ticker.
 const SOAKS: &str = "\
-    soak 1||0|LVDC SOAK 1\nEND DONE\nTIMES 200000\nA 000606477\nWRONG 2048\nREPAIRS 1816\n|~;\
-    soak 0002||0|LVDC SOAK 2\nEND DONE\nTIMES 200000\nA 000606477\nWRONG 2048\nREPAIRS 1816\n|~;\
+    soak 1||0|LVDC SOAK 1
+END DONE
+TIMES 200000
+A 000606477
+WRONG 2048
+REPAIRS 1816
+|~;\
+    soak 0002||0|LVDC SOAK 2
+END DONE
+TIMES 200000
+A 000606477
+WRONG 2048
+REPAIRS 1816
+|~;\
 ";
 
 /// Numbers of soak runs, over no devices.
 const NUMBERS: &str = "\
-    soak 0||0|LVDC SOAK 0\nEND DONE\nTIMES 200000\n~;\
-    soak 4294967295||0|LVDC SOAK 4294967295\nEND DONE\nTIMES 200000\n~;\
-    soak 20261127||0|LVDC SOAK 20261127\nEND DONE\nTIMES 200000\n~;\
-    soak 0000000003||0|LVDC SOAK 3\nEND DONE\nTIMES 200000\n~;\
+    soak 0||0|LVDC SOAK 0
+END DONE
+TIMES 200000
+~;\
+    soak 4294967295||0|LVDC SOAK 4294967295
+END DONE
+TIMES 200000
+~;\
+    soak 20261127||0|LVDC SOAK 20261127
+END DONE
+TIMES 200000
+~;\
+    soak 0000000003||0|LVDC SOAK 3
+END DONE
+TIMES 200000
+~;\
     soak||1|~;\
     soak 4294967296||1|~;\
     soak 00000000001||1|~;\

@@ -19,22 +19,133 @@ fn come_with_returns(
 
 /// Decks that are refused, or read.
 const DECKS: &str = "\
-    run||2|~REFUSED NoProgram 1\n~;\
-    run|IMAGE\nLVDC 1\n|2|~REFUSED BadSection 1\n~;\
-    run|IMAGE\nLVDC 1\nEND\nRUN 1000001\n|2|~REFUSED CountTooLarge 4\n~;\
-    run|IMAGE\nLVDC 1\nEND\nRUN 1x\n|2|~REFUSED BadLine 4\n~;\
-    run|IMAGE\nLVDC 1\n0 00 000 000017000\n0 00 001 000007001\n0 00 001 000007001\nEND\nRUN 3\n|4|~REFUSED AddressOrder 5\n~;\
-    run|IMAGE\nLVDC 3\nEND\nRUN 3\n|4|~REFUSED BadImageLine 2\n~;\
-    run|IMAGE\nLVDC 1\n0 20 000 000017000\nEND\nRUN 3\n|4|~REFUSED BadImageLine 3\n~;\
-    run|IMAGE\nLVDC 1\n0 00 000 400000000\nEND\nRUN 3\n|4|~REFUSED BadWord 3\n~;\
-    run|IMAGE\nLVDC 2\nSTART 000000216\nSIMPLEX 0\n0 00 000 000017000\n4 01 000 000000007\nEND\nRUN 1\n|0|~DATA 1 01\nDUP 1 1\nA 000000007\nPQ 000000000\nSAVER 000000000\nMEM 0 00 000 000017000\nMEM 4 01 000 000000007\n~;\
-    run|IMAGE\nLVDC 2\nSTART 000000016\nSIMPLEX 0\n0 00 000 000017000\n4 01 000 000000007\nEND\nRUN 1\n|0|~A 000000000\n~;\
-    run|IMAGE\nLVDC 2\nSTART 000000216\n0 00 000 000017000\n4 01 000 000000007\nEND\nRUN 1\n|4|~REFUSED BadImageLine 5\n~;\
-    run|IMAGE\nLVDC 2\nSTART 000000017\nSIMPLEX 0\n0 00 000 000017000\n4 01 000 000000007\nEND\nRUN 1\n|4|~REFUSED BadWord 3\n~;\
-    run|* NOTE\nSOURCE\n        CODE\n        EXM   000\n        END\nSTART B\nRUN 1\n|3|REFUSED ExecuteModified 4\n;\
-    run|SOURCE\n        CODE\nA       CLA   000\n        END\nSTART B\nRUN 1\n|3|REFUSED UndefinedName 5\n;\
-    run|SOURCE\n        WORDS 0,01\nA       OCT   1\n        END\nSTART A\nRUN 1\n|3|REFUSED OutOfSector 5\n;\
-    run|IMAGE\nLVDC 1\n0 00 000 000012400\n0 00 001 000013000\n0 00 002 000010000\nEND\nPORTS\nUNPLUG 020 0\nRUN 4|2|REFUSED NoDevice 8\n;\
+    run||2|~REFUSED NoProgram 1
+~;\
+    run|IMAGE
+LVDC 1
+|2|~REFUSED BadSection 1
+~;\
+    run|IMAGE
+LVDC 1
+END
+RUN 1000001
+|2|~REFUSED CountTooLarge 4
+~;\
+    run|IMAGE
+LVDC 1
+END
+RUN 1x
+|2|~REFUSED BadLine 4
+~;\
+    run|IMAGE
+LVDC 1
+0 00 000 000017000
+0 00 001 000007001
+0 00 001 000007001
+END
+RUN 3
+|4|~REFUSED AddressOrder 5
+~;\
+    run|IMAGE
+LVDC 3
+END
+RUN 3
+|4|~REFUSED BadImageLine 2
+~;\
+    run|IMAGE
+LVDC 1
+0 20 000 000017000
+END
+RUN 3
+|4|~REFUSED BadImageLine 3
+~;\
+    run|IMAGE
+LVDC 1
+0 00 000 400000000
+END
+RUN 3
+|4|~REFUSED BadWord 3
+~;\
+    run|IMAGE
+LVDC 2
+START 000000216
+SIMPLEX 0
+0 00 000 000017000
+4 01 000 000000007
+END
+RUN 1
+|0|~DATA 1 01
+DUP 1 1
+A 000000007
+PQ 000000000
+SAVER 000000000
+MEM 0 00 000 000017000
+MEM 4 01 000 000000007
+~;\
+    run|IMAGE
+LVDC 2
+START 000000016
+SIMPLEX 0
+0 00 000 000017000
+4 01 000 000000007
+END
+RUN 1
+|0|~A 000000000
+~;\
+    run|IMAGE
+LVDC 2
+START 000000216
+0 00 000 000017000
+4 01 000 000000007
+END
+RUN 1
+|4|~REFUSED BadImageLine 5
+~;\
+    run|IMAGE
+LVDC 2
+START 000000017
+SIMPLEX 0
+0 00 000 000017000
+4 01 000 000000007
+END
+RUN 1
+|4|~REFUSED BadWord 3
+~;\
+    run|* NOTE
+SOURCE
+        CODE
+        EXM   000
+        END
+START B
+RUN 1
+|3|REFUSED ExecuteModified 4
+;\
+    run|SOURCE
+        CODE
+A       CLA   000
+        END
+START B
+RUN 1
+|3|REFUSED UndefinedName 5
+;\
+    run|SOURCE
+        WORDS 0,01
+A       OCT   1
+        END
+START A
+RUN 1
+|3|REFUSED OutOfSector 5
+;\
+    run|IMAGE
+LVDC 1
+0 00 000 000012400
+0 00 001 000013000
+0 00 002 000010000
+END
+PORTS
+UNPLUG 020 0
+RUN 4|2|REFUSED NoDevice 8
+;\
 ";
 
 #[test]
@@ -71,14 +182,66 @@ fn each_front_of_a_deck_is_answered(rt: HostRuntime) -> Result<(), Fail> {
 
 /// Decks over a tape and a ticker, with lines that are refused where RUN is due.
 const LINES: &str = "\
-    run|IMAGE\nLVDC 1\nEND\nRUN 3 4\n|2|REFUSED BadLine 4\n|~;\
-    run|IMAGE\nLVDC 1\nEND\nGO\nRUN 3\n|2|REFUSED BadSection 4\n|~;\
-    run|IMAGE\nLVDC 1\nEND\nRUN 3\nSTART 16\n|2|REFUSED BadSection 5\n|~;\
-    run|IMAGE\nLVDC 1\nEND\nPORTS\nTAPE 000\nRUN 3\n|2|REFUSED BadLine 5\n|~;\
-    run|IMAGE\nLVDC 1\nEND\nPORTS\nTAPE 016 1\nRUN 3\n|2|REFUSED NoDevice 5\n|~;\
-    run|IMAGE\nLVDC 1\nEND\nPORTS\nUNPLUG 000 5\nTAPE 000 1\nRUN 3\n|2|REFUSED NoDevice 6\n|~;\
-    run|IMAGE\nLVDC 1\nEND\nFAULTS\nLAG 8 1 0 0\nRUN 3\n|2|REFUSED BadLine 5\n|~;\
-    run|IMAGE\nLVDC 1\nEND\nRUN 3\nDEBUG X\n|2|REFUSED BadLine 5\n|~;\
+    run|IMAGE
+LVDC 1
+END
+RUN 3 4
+|2|REFUSED BadLine 4
+|~;\
+    run|IMAGE
+LVDC 1
+END
+GO
+RUN 3
+|2|REFUSED BadSection 4
+|~;\
+    run|IMAGE
+LVDC 1
+END
+RUN 3
+START 16
+|2|REFUSED BadSection 5
+|~;\
+    run|IMAGE
+LVDC 1
+END
+PORTS
+TAPE 000
+RUN 3
+|2|REFUSED BadLine 5
+|~;\
+    run|IMAGE
+LVDC 1
+END
+PORTS
+TAPE 016 1
+RUN 3
+|2|REFUSED NoDevice 5
+|~;\
+    run|IMAGE
+LVDC 1
+END
+PORTS
+UNPLUG 000 5
+TAPE 000 1
+RUN 3
+|2|REFUSED NoDevice 6
+|~;\
+    run|IMAGE
+LVDC 1
+END
+FAULTS
+LAG 8 1 0 0
+RUN 3
+|2|REFUSED BadLine 5
+|~;\
+    run|IMAGE
+LVDC 1
+END
+RUN 3
+DEBUG X
+|2|REFUSED BadLine 5
+|~;\
 ";
 
 #[test]

@@ -83,9 +83,24 @@ const REFUSED: &str = "\
     run fast|;\
     run|;\
     asm|X;\
-    run|IMAGE\nEND\nRUN 1\n;\
-    run|IMAGE\nLVDC 1\n0 00 000 000016600\nEND\nRUN 5\n;\
-    run|IMAGE\nLVDC 1\nEND\nFAULTS\nLAG 2 1 3 3\nLAG 2 2 3 3\nRUN 5\n;\
+    run|IMAGE
+END
+RUN 1
+;\
+    run|IMAGE
+LVDC 1
+0 00 000 000016600
+END
+RUN 5
+;\
+    run|IMAGE
+LVDC 1
+END
+FAULTS
+LAG 2 1 3 3
+LAG 2 2 3 3
+RUN 5
+;\
 ";
 
 #[test]

@@ -28,20 +28,51 @@ fn deck_for(alloc: Global, text: &[u8], debugging: bool) -> Result<Result<Deck, 
 /// Refusals, and the decks.
 const REFUSED: &str = "\
     Some(NoProgram(1))|;\
-    Some(BadSection(1))|IMAGE\r\nLVDC 1\r\n;\
-    Some(CountTooLarge(4))|IMAGE\nLVDC 1\nEND\nRUN 1000001\n;\
-    Some(BadLine(4))|IMAGE\r\nLVDC 1\r\nEND\r\nRUN 1x\r\n;\
-    Some(NoDevice(5))|IMAGE\nLVDC 1\nEND\nPORTS\nTAPE 016 1\n;\
-    Some(BadLine(5))|IMAGE\nLVDC 1\nEND\nRUN 3\nDEBUG X\n;\
-    Some(Image(BadImageLine(2)))|IMAGE\nLVDC 3\nEND\nRUN 3;\
+    Some(BadSection(1))|IMAGE\r
+LVDC 1\r
+;\
+    Some(CountTooLarge(4))|IMAGE
+LVDC 1
+END
+RUN 1000001
+;\
+    Some(BadLine(4))|IMAGE\r
+LVDC 1\r
+END\r
+RUN 1x\r
+;\
+    Some(NoDevice(5))|IMAGE
+LVDC 1
+END
+PORTS
+TAPE 016 1
+;\
+    Some(BadLine(5))|IMAGE
+LVDC 1
+END
+RUN 3
+DEBUG X
+;\
+    Some(Image(BadImageLine(2)))|IMAGE
+LVDC 3
+END
+RUN 3;\
 ";
 
 /// Refusals; the word of a section, a line, and how often it stands there.
 const LIMITS: &str = "\
-    None|FAULTS\n|LAG 1 1 0 0\n|65536;\
-    Some(TooManyEvents(65541))|FAULTS\n|LAG 1 1 0 0\n|65537;\
-    None|ORDER\n|UTSRQPONMLKJIHGFEDCBA\n|16;\
-    Some(BadLine(21))|ORDER\n|UTSRQPONMLKJIHGFEDCBA\n|17;\
+    None|FAULTS
+|LAG 1 1 0 0
+|65536;\
+    Some(TooManyEvents(65541))|FAULTS
+|LAG 1 1 0 0
+|65537;\
+    None|ORDER
+|UTSRQPONMLKJIHGFEDCBA
+|16;\
+    Some(BadLine(21))|ORDER
+|UTSRQPONMLKJIHGFEDCBA
+|17;\
 ";
 
 /// A deck whose section of this word has so many lines of this text.

@@ -95,9 +95,14 @@ fn a_saved_text_is_read_and_printed_back(rt: HostRuntime) -> Result<(), Fail> {
 /// Refusals, and the lines that stand behind those of the copies: the first line that shows it, or lacks its device, is named.
 const REFUSED: &str = "\
     BadSave(26)|;\
-    BadSave(26)|END\n;\
-    NoDevice(26)|STATE 016 000000001\n;\
-    NoDevice(26)|STATE 001 000000007\nSTATE 001 000000006\nUNPLUG 001 0\n;\
+    BadSave(26)|END
+;\
+    NoDevice(26)|STATE 016 000000001
+;\
+    NoDevice(26)|STATE 001 000000007
+STATE 001 000000006
+UNPLUG 001 0
+;\
 ";
 
 #[test]

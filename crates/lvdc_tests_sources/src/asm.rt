@@ -27,18 +27,122 @@ fn told(alloc: Global, text: &[u8]) -> Result<String, Fail> {
 
 /// Images or refusals, and their sources.
 const SOURCES: &str = "\
-    LVDC 1\n0 00 000 000017000\n0 00 001 000007001\n0 00 002 000013002\n0 00 003 000010003\n0 01 000 177777777\n0 01 001 000000001\nEND\n|        ORG   0,00,0,000\n        CLA   X\n        ADD   X+1\n        STO   X+2\nLOOP    TRA   LOOP\n        WORDS 0,01,000\nX       OCT   177777777\n        DEC   1\n        BSS   1\n        END\n;\
-    Place(NoRoom(1))|        ORG   0,00,0,376\n        CLA   000\n        CLA   000\n        CLA   000\n        END\n;\
-    LVDC 1\n0 00 000 000017000\n0 00 001 000007001\n0 00 002 000010000\n0 01 000 000000005\n0 01 001 000000001\nEND\n|        CODE\nBEGIN   CLA   X\n        ADD   =O1\n        TRA   BEGIN\n        WORDS 0,01\nX       OCT   5\n        END\n;\
-    LVDC 1\n0 00 000 000017000\n0 00 001 000007000\n0 00 002 000007000\n0 01 000 000000005\n0 02 000 000000005\nEND\n|        CODE\n        CLA   =O5\n        ADD   =D5\n        USE   0,02\n        ADD   =D5\n        END\n;\
-    OutOfSector(2)|        CODE\n        CLA   X\n        WORDS 0,02\nX       OCT   5\n        END\n;\
-    OutOfSector(2)|        CODE\n        CLA   X+1\n        WORDS 0,17,374\nX       OCT   5\n        END\n;\
-    LVDC 1\n0 00 000 000017400\n0 00 001 000017000\n0 00 002 000016442\n0 00 003 000016220\n0 17 000 200000000\nEND\n|        CODE\n        CLA   X\n        USE   0,17\n        CLA   X\n        CDS   1,02\n        SHF   20\n        WORDS 0,17\nX       DEC   -33554432\n        END\n;\
-    Source(ExecuteModified(2))|        CODE\n        EXM   000\nX       CLA   Y\nX       CLA   Y\n        END\n;\
-    DuplicateName(3)|        CODE\nX       CLA   Y\nX       CLA   Y\n        END\n;\
-    UndefinedName(2)|        CODE\n        TRA   Y+400\n        CLA   1000\n        END\n;\
-    OutOfRange(2)|        CODE\n        CLA   1000\n        TRA   Y\n        END\n;\
-    LVDC 1\n0 00 000 000000000\n0 01 000 207016426\n2 03 007 360000000\nEND\n|        CODE\n        HOP   =HSUB\n        USE   1,02\n        ORG   2,03,1,007\nSUB     CLA   000\n        END\n;\
+    LVDC 1
+0 00 000 000017000
+0 00 001 000007001
+0 00 002 000013002
+0 00 003 000010003
+0 01 000 177777777
+0 01 001 000000001
+END
+|        ORG   0,00,0,000
+        CLA   X
+        ADD   X+1
+        STO   X+2
+LOOP    TRA   LOOP
+        WORDS 0,01,000
+X       OCT   177777777
+        DEC   1
+        BSS   1
+        END
+;\
+    Place(NoRoom(1))|        ORG   0,00,0,376
+        CLA   000
+        CLA   000
+        CLA   000
+        END
+;\
+    LVDC 1
+0 00 000 000017000
+0 00 001 000007001
+0 00 002 000010000
+0 01 000 000000005
+0 01 001 000000001
+END
+|        CODE
+BEGIN   CLA   X
+        ADD   =O1
+        TRA   BEGIN
+        WORDS 0,01
+X       OCT   5
+        END
+;\
+    LVDC 1
+0 00 000 000017000
+0 00 001 000007000
+0 00 002 000007000
+0 01 000 000000005
+0 02 000 000000005
+END
+|        CODE
+        CLA   =O5
+        ADD   =D5
+        USE   0,02
+        ADD   =D5
+        END
+;\
+    OutOfSector(2)|        CODE
+        CLA   X
+        WORDS 0,02
+X       OCT   5
+        END
+;\
+    OutOfSector(2)|        CODE
+        CLA   X+1
+        WORDS 0,17,374
+X       OCT   5
+        END
+;\
+    LVDC 1
+0 00 000 000017400
+0 00 001 000017000
+0 00 002 000016442
+0 00 003 000016220
+0 17 000 200000000
+END
+|        CODE
+        CLA   X
+        USE   0,17
+        CLA   X
+        CDS   1,02
+        SHF   20
+        WORDS 0,17
+X       DEC   -33554432
+        END
+;\
+    Source(ExecuteModified(2))|        CODE
+        EXM   000
+X       CLA   Y
+X       CLA   Y
+        END
+;\
+    DuplicateName(3)|        CODE
+X       CLA   Y
+X       CLA   Y
+        END
+;\
+    UndefinedName(2)|        CODE
+        TRA   Y+400
+        CLA   1000
+        END
+;\
+    OutOfRange(2)|        CODE
+        CLA   1000
+        TRA   Y
+        END
+;\
+    LVDC 1
+0 00 000 000000000
+0 01 000 207016426
+2 03 007 360000000
+END
+|        CODE
+        HOP   =HSUB
+        USE   1,02
+        ORG   2,03,1,007
+SUB     CLA   000
+        END
+;\
 ";
 
 #[test]

@@ -17,16 +17,56 @@ fn image(alloc: Global, text: &[u8]) -> Result<Result<Image, ImageFault>, Fail> 
 
 /// Texts, and what is printed of their images, or their refusals.
 const TEXTS: &str = "\
-    LVDC 1\n0 00 000 000017000\n3 17 377 377777777\nEND\n|LVDC 1\n0 00 000 000017000\n3 17 377 377777777\nEND\n;\
-    LVDC 2\nSTART 000000216\nSIMPLEX 0 3\n4 01 000 000000007\nEND\n|LVDC 2\nSTART 000000216\nSIMPLEX 0 3\n4 01 000 000000007\nEND\n;\
-    LVDC 1\n0 00 000 000000001\n0 00 000 000000001\nEND\n|AddressOrder(3);\
-    LVDC 1\n0 00 000 400000000\nEND\n|BadWord(2);\
-    LVDC 2\nSTART 000000017\nEND\n|BadWord(2);\
-    LVDC 1\n0 20 000 000017000\nEND\n|BadImageLine(2);\
-    LVDC 2\nSTART 000000016\n4 01 000 000000007\nEND\n|BadImageLine(3);\
-    LVDC 1\n0 00 000 000017000\n|BadImageLine(3);\
+    LVDC 1
+0 00 000 000017000
+3 17 377 377777777
+END
+|LVDC 1
+0 00 000 000017000
+3 17 377 377777777
+END
+;\
+    LVDC 2
+START 000000216
+SIMPLEX 0 3
+4 01 000 000000007
+END
+|LVDC 2
+START 000000216
+SIMPLEX 0 3
+4 01 000 000000007
+END
+;\
+    LVDC 1
+0 00 000 000000001
+0 00 000 000000001
+END
+|AddressOrder(3);\
+    LVDC 1
+0 00 000 400000000
+END
+|BadWord(2);\
+    LVDC 2
+START 000000017
+END
+|BadWord(2);\
+    LVDC 1
+0 20 000 000017000
+END
+|BadImageLine(2);\
+    LVDC 2
+START 000000016
+4 01 000 000000007
+END
+|BadImageLine(3);\
+    LVDC 1
+0 00 000 000017000
+|BadImageLine(3);\
     |BadImageLine(1);\
-    LVDC 1\nEND\n\n|BadImageLine(3);\
+    LVDC 1
+END
+
+|BadImageLine(3);\
 ";
 
 #[test]

@@ -35,21 +35,123 @@ fn stands(alloc: Global, text: &[u8], item: usize) -> Result<String, Fail> {
 /// and the back; and the number of the item. A block is not split: the slots that a first one leaves are those of the third. A word
 /// needs both slots. Fixed blocks come first: one takes the place that the floating block before it would have.
 const ITEMS: &str = "\
-    None| CODE\n| CLA 000\n|256| END\n|0;\
-    Some((0, 0, 255, Some(0)))| CODE\n| CLA 000\n|256| END\n|256;\
-    NoRoom(1)| CODE\n| CLA 000\n|257| END\n|0;\
-    Some((0, 0, 0, Some(1)))| CODE\n| CLA 000\n|250| CODE\n CLA 000\n CLA 000\n CLA 000\n CLA 000\n CLA 000\n CLA 000\n CLA 000\n CLA 000\n CLA 000\n CLA 000\n CODE\n CLA 000\n CLA 000\n CLA 000\n CLA 000\n CLA 000\n CLA 000\n END\n|252;\
-    Some((0, 0, 250, Some(0)))| CODE\n| CLA 000\n|250| CODE\n CLA 000\n CLA 000\n CLA 000\n CLA 000\n CLA 000\n CLA 000\n CLA 000\n CLA 000\n CLA 000\n CLA 000\n CODE\n CLA 000\n CLA 000\n CLA 000\n CLA 000\n CLA 000\n CLA 000\n END\n|263;\
-    NoRoom(3)|||0| WORDS 0,02\n BSS 256\n WORDS 0,02\n OCT 1\n END\n|0;\
-    Some((0, 1, 0, Some(1)))|||0| ORG 0,01,1,000\n CLA 000\n WORDS 0,01\n OCT 1\n END\n|1;\
-    Some((0, 1, 1, None))|||0| ORG 0,01,1,000\n CLA 000\n WORDS 0,01\n OCT 1\n END\n|3;\
-    Some((0, 15, 255, Some(0)))|||0| ORG 0,17,0,374\n CLA 000\n ORG 0,17,0,376\n CLA 000\n CLA 000\n END\n|4;\
-    Overlap(1)|||0| ORG 0,17,1,374\n CLA 000\n CLA 000\n END\n|0;\
-    NoRoom(1)|||0| WORDS 0,17,376\n BSS 3\n END\n|0;\
-    NoRoom(1)|||0| WORDS 1,17\n BSS 254\n END\n|0;\
-    None|||0| CODE\n CLA 000\n USE 0,02\n CLA 000\n ORG 0,00,0,001\n CLA 000\n END\n|2;\
-    Some((0, 0, 3, Some(0)))|||0| CODE\n CLA 000\n USE 0,02\n CLA 000\n ORG 0,00,0,001\n CLA 000\n END\n|3;\
-    Overlap(4)|||0| CODE\n ORG 0,00,0,001\n CLA 000\n WORDS 0,00,000\n BSS 2\n END\n|0;\
+    None| CODE
+| CLA 000
+|256| END
+|0;\
+    Some((0, 0, 255, Some(0)))| CODE
+| CLA 000
+|256| END
+|256;\
+    NoRoom(1)| CODE
+| CLA 000
+|257| END
+|0;\
+    Some((0, 0, 0, Some(1)))| CODE
+| CLA 000
+|250| CODE
+ CLA 000
+ CLA 000
+ CLA 000
+ CLA 000
+ CLA 000
+ CLA 000
+ CLA 000
+ CLA 000
+ CLA 000
+ CLA 000
+ CODE
+ CLA 000
+ CLA 000
+ CLA 000
+ CLA 000
+ CLA 000
+ CLA 000
+ END
+|252;\
+    Some((0, 0, 250, Some(0)))| CODE
+| CLA 000
+|250| CODE
+ CLA 000
+ CLA 000
+ CLA 000
+ CLA 000
+ CLA 000
+ CLA 000
+ CLA 000
+ CLA 000
+ CLA 000
+ CLA 000
+ CODE
+ CLA 000
+ CLA 000
+ CLA 000
+ CLA 000
+ CLA 000
+ CLA 000
+ END
+|263;\
+    NoRoom(3)|||0| WORDS 0,02
+ BSS 256
+ WORDS 0,02
+ OCT 1
+ END
+|0;\
+    Some((0, 1, 0, Some(1)))|||0| ORG 0,01,1,000
+ CLA 000
+ WORDS 0,01
+ OCT 1
+ END
+|1;\
+    Some((0, 1, 1, None))|||0| ORG 0,01,1,000
+ CLA 000
+ WORDS 0,01
+ OCT 1
+ END
+|3;\
+    Some((0, 15, 255, Some(0)))|||0| ORG 0,17,0,374
+ CLA 000
+ ORG 0,17,0,376
+ CLA 000
+ CLA 000
+ END
+|4;\
+    Overlap(1)|||0| ORG 0,17,1,374
+ CLA 000
+ CLA 000
+ END
+|0;\
+    NoRoom(1)|||0| WORDS 0,17,376
+ BSS 3
+ END
+|0;\
+    NoRoom(1)|||0| WORDS 1,17
+ BSS 254
+ END
+|0;\
+    None|||0| CODE
+ CLA 000
+ USE 0,02
+ CLA 000
+ ORG 0,00,0,001
+ CLA 000
+ END
+|2;\
+    Some((0, 0, 3, Some(0)))|||0| CODE
+ CLA 000
+ USE 0,02
+ CLA 000
+ ORG 0,00,0,001
+ CLA 000
+ END
+|3;\
+    Overlap(4)|||0| CODE
+ ORG 0,00,0,001
+ CLA 000
+ WORDS 0,00,000
+ BSS 2
+ END
+|0;\
 ";
 
 #[test]

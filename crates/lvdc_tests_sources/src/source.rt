@@ -136,61 +136,120 @@ fn whole_sources_are_read(rt: HostRuntime) -> Result<(), Fail> {
 
 /// The refusal of a line, the first line of its block, and the line.
 const LINES: &str = "\
-    None| CODE\n| CLA 000000777;\
-    None| CODE\n| CLA X;\
-    None| CODE\n| HOP =HX;\
-    None| CODE\n| ADD =O000000001;\
-    None| CODE\n| RSU =D-33554432;\
-    None| CODE\n| TMI X+999;\
-    None| CODE\n| STO 775;\
-    None| CODE\n| PIO 400;\
-    None| CODE\n| SHF 40;\
-    None| CODE\n| CDS 3,17;\
-    Some(BadOperand(2))| CODE\n| CLA;\
-    Some(BadOperand(2))| CODE\n| CLA 8;\
-    Some(BadOperand(2))| CODE\n| CLA 0000000001;\
-    Some(BadOperand(2))| CODE\n| CLA X+1000;\
-    Some(BadOperand(2))| CODE\n| CLA X+;\
-    Some(BadOperand(2))| CODE\n| HOP =X;\
-    Some(BadOperand(2))| CODE\n| ADD =O;\
-    Some(BadOperand(2))| CODE\n| RSU =D+;\
-    Some(BadOperand(2))| CODE\n| STO =O5;\
-    Some(BadOperand(2))| CODE\n| TRA =HX;\
-    Some(BadOperand(2))| CODE\n| PIO X;\
-    Some(BadOperand(2))| CODE\n| SHF -1;\
-    Some(BadOperand(2))| CODE\n| CDS 3;\
-    None| WORDS 0,01\n|X OCT 777777777;\
-    None| WORDS 0,01\n|X DEC -000000001;\
-    None| WORDS 0,01\n|X DEC +1;\
-    None| WORDS 0,01\n|X HOPC X;\
-    None| WORDS 0,01\n|X BSS 256;\
-    None| WORDS 0,01\n|\tUSE 3,17\t* COMMENT;\
-    None| WORDS 0,01\n| WORDS 3,17;\
-    None| WORDS 0,01\n| WORDS 3,17,377;\
-    None| WORDS 0,01\n| ORG 3,17,1,377;\
-    None| WORDS 0,01\n| CODE 5;\
-    None| WORDS 0,01\n|* OCT 8;\
-    Some(BadDirective(2))| WORDS 0,01\n| BSS 0;\
-    Some(BadDirective(2))| WORDS 0,01\n| BSS 257;\
-    Some(BadDirective(2))| WORDS 0,01\n| USE 4,00;\
-    Some(BadDirective(2))| WORDS 0,01\n| WORDS 0;\
-    Some(BadDirective(2))| WORDS 0,01\n| WORDS 0,20;\
-    Some(BadDirective(2))| WORDS 0,01\n| WORDS 0,01,400;\
-    Some(BadDirective(2))| WORDS 0,01\n| ORG 0,00,2,000;\
-    Some(BadDirective(2))| WORDS 0,01\n| ORG 0,00,0;\
+    None| CODE
+| CLA 000000777;\
+    None| CODE
+| CLA X;\
+    None| CODE
+| HOP =HX;\
+    None| CODE
+| ADD =O000000001;\
+    None| CODE
+| RSU =D-33554432;\
+    None| CODE
+| TMI X+999;\
+    None| CODE
+| STO 775;\
+    None| CODE
+| PIO 400;\
+    None| CODE
+| SHF 40;\
+    None| CODE
+| CDS 3,17;\
+    Some(BadOperand(2))| CODE
+| CLA;\
+    Some(BadOperand(2))| CODE
+| CLA 8;\
+    Some(BadOperand(2))| CODE
+| CLA 0000000001;\
+    Some(BadOperand(2))| CODE
+| CLA X+1000;\
+    Some(BadOperand(2))| CODE
+| CLA X+;\
+    Some(BadOperand(2))| CODE
+| HOP =X;\
+    Some(BadOperand(2))| CODE
+| ADD =O;\
+    Some(BadOperand(2))| CODE
+| RSU =D+;\
+    Some(BadOperand(2))| CODE
+| STO =O5;\
+    Some(BadOperand(2))| CODE
+| TRA =HX;\
+    Some(BadOperand(2))| CODE
+| PIO X;\
+    Some(BadOperand(2))| CODE
+| SHF -1;\
+    Some(BadOperand(2))| CODE
+| CDS 3;\
+    None| WORDS 0,01
+|X OCT 777777777;\
+    None| WORDS 0,01
+|X DEC -000000001;\
+    None| WORDS 0,01
+|X DEC +1;\
+    None| WORDS 0,01
+|X HOPC X;\
+    None| WORDS 0,01
+|X BSS 256;\
+    None| WORDS 0,01
+|\tUSE 3,17\t* COMMENT;\
+    None| WORDS 0,01
+| WORDS 3,17;\
+    None| WORDS 0,01
+| WORDS 3,17,377;\
+    None| WORDS 0,01
+| ORG 3,17,1,377;\
+    None| WORDS 0,01
+| CODE 5;\
+    None| WORDS 0,01
+|* OCT 8;\
+    Some(BadDirective(2))| WORDS 0,01
+| BSS 0;\
+    Some(BadDirective(2))| WORDS 0,01
+| BSS 257;\
+    Some(BadDirective(2))| WORDS 0,01
+| USE 4,00;\
+    Some(BadDirective(2))| WORDS 0,01
+| WORDS 0;\
+    Some(BadDirective(2))| WORDS 0,01
+| WORDS 0,20;\
+    Some(BadDirective(2))| WORDS 0,01
+| WORDS 0,01,400;\
+    Some(BadDirective(2))| WORDS 0,01
+| ORG 0,00,2,000;\
+    Some(BadDirective(2))| WORDS 0,01
+| ORG 0,00,0;\
 ";
 
 /// Refusals of whole sources, and these.
 const SOURCES: &str = "\
-    Some(ExecuteModified(2))| CODE\n EXM 000\n END\n;\
-    Some(BadLabel(1))|A12345678 EXM\n;\
-    Some(BadLabel(1))|X USE 0,01\n;\
-    Some(UnknownOperation(1))|X\n;\
-    Some(BadDirective(1))| CLA\n;\
-    Some(BadDirective(2))| CODE\n DEC\n;\
-    Some(BadOperand(2))| WORDS 0,01\n DEC\n;\
-    Some(MissingEnd(3))| CODE\n\n;\
-    Some(AfterEnd(4))| END\n\n* END\n END\n;\
+    Some(ExecuteModified(2))| CODE
+ EXM 000
+ END
+;\
+    Some(BadLabel(1))|A12345678 EXM
+;\
+    Some(BadLabel(1))|X USE 0,01
+;\
+    Some(UnknownOperation(1))|X
+;\
+    Some(BadDirective(1))| CLA
+;\
+    Some(BadDirective(2))| CODE
+ DEC
+;\
+    Some(BadOperand(2))| WORDS 0,01
+ DEC
+;\
+    Some(MissingEnd(3))| CODE
+
+;\
+    Some(AfterEnd(4))| END
+
+* END
+ END
+;\
 ";
 
 #[test]
