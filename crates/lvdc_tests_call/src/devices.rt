@@ -1,5 +1,5 @@
 //! Decks over devices.
-use crate::rows::{comes, ends, inputs_come};
+use crate::rows::{bytes, comes, ends, inputs_come};
 use crate::told::{Fails, NONE, Rack, told};
 use std::alloc::Global;
 use std::test::Fail;
@@ -233,7 +233,7 @@ fn a_failed_tape_ends_the_run_and_keeps_its_words(rt: HostRuntime) -> Result<(),
     let alloc = rt.alloc();
     for (line, input, tape, due) in FAILED {
         let fails = Fails { tape, ..NONE };
-        let ended = told(alloc, line, input.as_bytes(), Rack::TapeAndRecorder, fails)?;
+        let ended = told(alloc, line, bytes(input), Rack::TapeAndRecorder, fails)?;
         ends(&rt, alloc, &ended, due)?;
     }
     let source = b"        CODE\n        CLA   000\n        END\n";

@@ -10,6 +10,11 @@ pub fn column(row: &str) -> Result<(&str, &str), Fail> {
     Ok(row.split_once("|").ok_or("a column")?)
 }
 
+/// The bytes of a text. This has no clause, so no proof computes those of a literal.
+pub fn bytes(text: &str) -> &[u8] {
+    text.as_bytes()
+}
+
 /// The text has these parts in this order.
 fn has_parts(text: &str, parts: &str) -> bool {
     let mut rest = text;

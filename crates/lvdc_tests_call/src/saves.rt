@@ -1,6 +1,6 @@
 //! Runs that are saved, and saved runs that go on.
 use crate::devices::{SOURCE, wandering};
-use crate::rows::{column, comes, deck, decks_come, ends, same};
+use crate::rows::{bytes, column, comes, deck, decks_come, ends, same};
 use crate::told::{Fails, NONE, Rack, told};
 use std::alloc::Global;
 use std::process::Abort;
@@ -211,12 +211,12 @@ fn saved_texts_go_on_or_are_refused(rt: HostRuntime) -> Result<(), Fail> {
         &rt,
         alloc,
         Rack::Empty,
-        ("resume", SUM.as_bytes()),
+        ("resume", bytes(SUM)),
         report.as_str(),
     )?;
     let due =
         "0|LVDC RUN\nEND DONE\nTIMES 3\nPLACE 0 00 0 001\nDATA 0 01\nDUP 1 1\nA 000000005\nPQ 000000000\nSAVER 000004016\nMEM 0 00 000 000017000\nMEM 0 00 001 000010000\nMEM 0 01 000 000000005\nREPAIR 1 0 01 000 0 SWITCH\nREPAIR 7 0 01 000 1 SWITCH\n";
-    comes(&rt, alloc, Rack::Empty, ("resume", LOOP.as_bytes()), due)?;
+    comes(&rt, alloc, Rack::Empty, ("resume", bytes(LOOP)), due)?;
     let steps = b"LVDC SAVE 1\nSTEPS 4\nCOUNT 3\n";
     comes(
         &rt,

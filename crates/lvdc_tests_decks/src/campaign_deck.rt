@@ -1,4 +1,4 @@
-use crate::rows::same;
+use crate::rows::{bytes, same};
 use lvdc_campaign_deck::{CampaignDeck, CampaignFault, read_campaign};
 use lvdc_port::PortDevice;
 use std::alloc::Global;
@@ -18,7 +18,7 @@ fn scripts_are_named_and_have_their_events(rt: HostRuntime) -> Result<(), Fail> 
     let alloc = rt.alloc();
     let text =
         "IMAGE\nLVDC 1\nEND\nRUN 3\n CAMPAIGN\t\n* TWO\nSCRIPT A\nLAG 5 1 0 0\nLAG 5 2 0 0\nSCRIPT B1\n";
-    let Ok(deck) = campaign(alloc, text.as_bytes())? else {
+    let Ok(deck) = campaign(alloc, bytes(text))? else {
         return Err("a campaign".into());
     };
     same(&rt, deck.count, 3);
@@ -35,12 +35,9 @@ fn scripts_are_named_and_have_their_events(rt: HostRuntime) -> Result<(), Fail> 
         (second.name.items(), second.script.len()),
         (b"B1".as_slice(), 0),
     );
-    let open = campaign(alloc, "IMAGE\nLVDC 1\nEND\nRUN 3\n".as_bytes())?.err();
+    let open = campaign(alloc, bytes("IMAGE\nLVDC 1\nEND\nRUN 3\n"))?.err();
     same(&rt, open, Some(CampaignFault::BadSection(5)));
-    let ports = campaign(
-        alloc,
-        "IMAGE\nLVDC 1\nEND\nRUN 3\nPORTS\nCAMPAIGN\n".as_bytes(),
-    )?;
+    let ports = campaign(alloc, bytes("IMAGE\nLVDC 1\nEND\nRUN 3\nPORTS\nCAMPAIGN\n"))?;
     same(&rt, ports.err().is_some(), true);
     Ok(())
 }

@@ -1,4 +1,4 @@
-use crate::rows::{column, comes, same, shown};
+use crate::rows::{bytes, column, comes, same, shown};
 use lvdc_deck::{Deck, DeckFault, read_deck};
 use lvdc_image::ImageFault;
 use lvdc_map::{Banks, Hop};
@@ -118,7 +118,7 @@ fn refusals_name_their_lines(rt: HostRuntime) -> Result<(), Fail> {
 fn sections_are_kept_in_a_deck(rt: HostRuntime) -> Result<(), Fail> {
     let text =
         "IMAGE\r\nLVDC 1\r\n0 00 000 000017000\r\nEND\r\nSTART 216\r\nSIMPLEX 0 3\r\nPORTS\r\nTAPE 0 5\r\nUNPLUG 014 3\r\nFAULTS\r\nLAG 2 3 0 8\r\nORDER\r\nUTSRQPONMLKJIHGFEDCBA\r\nRUN 0004\r\n";
-    let deck = deck(rt.alloc(), text.as_bytes())??;
+    let deck = deck(rt.alloc(), bytes(text))??;
     let supply = Supply {
         port: 0,
         word: Word::within(5),
@@ -141,7 +141,7 @@ fn sections_are_kept_in_a_deck(rt: HostRuntime) -> Result<(), Fail> {
 fn a_source_and_a_session_are_kept_in_a_deck(rt: HostRuntime) -> Result<(), Fail> {
     let text =
         "SOURCE\n        CODE\n        HOP   000\nMAIN    CLA   000\n        END\nSTART MAIN\nRUN 2\nDEBUG\n* NOTE\nRUN 4\n";
-    let deck = deck_for(rt.alloc(), text.as_bytes(), true)??;
+    let deck = deck_for(rt.alloc(), bytes(text), true)??;
     let start = Hop::of(Word::within(0o2016));
     same(&rt, (deck.image.words().len(), deck.start), (2, start));
     let command = Line {
@@ -176,10 +176,10 @@ fn sixteen_orders_take_turns(rt: HostRuntime) -> Result<(), Fail> {
 #[test]
 fn without_start_the_image_says_where_to_start(rt: HostRuntime) -> Result<(), Fail> {
     let alloc = rt.alloc();
-    let one = deck(alloc, "IMAGE\nLVDC 1\nEND\nRUN 0\n".as_bytes())??;
+    let one = deck(alloc, bytes("IMAGE\nLVDC 1\nEND\nRUN 0\n"))??;
     same(&rt, one.start, Hop::of(Word::within(0o16)));
     let text = "IMAGE\nLVDC 2\nSTART 000000216\nSIMPLEX 1\nEND\nSIMPLEX 0\nRUN 0\n";
-    let two = deck(alloc, text.as_bytes())??;
+    let two = deck(alloc, bytes(text))??;
     same(&rt, two.start, Hop::of(Word::within(0o216)));
     same(&rt, Some(two.banks), Banks::new(3));
     Ok(())

@@ -1,6 +1,6 @@
 use crate::rows::same;
 use lvdc_fault::Event;
-use lvdc_map::{Address, Hop};
+use lvdc_map::{Address, Hop, Placed};
 use lvdc_soak::soak_deck;
 use lvdc_word::{Cell, Word};
 use std::test::Fail;
@@ -11,6 +11,11 @@ const DRAWN: [(u32, u32, u32); 3] = [
     (1, 0o007063752, 0o200),
     (u32::MAX, 0o370717034, 0o100000),
 ];
+
+/// A word of an image.
+fn word_at(words: &[Placed], index: usize) -> Result<&Placed, Fail> {
+    Ok(words.get(index).ok_or("a word")?)
+}
 
 #[test]
 fn a_soak_deck_is_drawn_from_its_number(rt: HostRuntime) -> Result<(), Fail> {
@@ -24,11 +29,15 @@ fn a_soak_deck_is_drawn_from_its_number(rt: HostRuntime) -> Result<(), Fail> {
             (words.len(), deck.start),
             (18, Hop::of(Word::within(0o16))),
         );
-        let bits = (words[12].word.value(), words[13].word.value());
-        same(&rt, (bits, words[17].at), ((0o10000, first), last));
+        same(&rt, word_at(words, 12)?.word, Word::within(0o10000));
+        same(&rt, word_at(words, 13)?.word.value(), first);
+        same(&rt, word_at(words, 17)?.at, last);
         let lists = (deck.supplies.items().len(), deck.unplugs.items().len());
         same(&rt, lists, (0, 0));
         same(&rt, (deck.script.len(), deck.count), (4096, 200_000));
+        if deck.script.len() < 4096 {
+            return Err("4,096 events".into());
+        }
         let mask = Cell::new(mask).ok_or("a cell")?;
         let damage = Event::Damage {
             twin: 0,

@@ -118,16 +118,10 @@ fn words_other_than_zero_are_listed_by_address(rt: HostRuntime) -> Result<(), Fa
     let mut ledger = Ledger::new(rt.alloc(), &[last, first], Banks::DUPLEX)?;
     ledger.wrote(Address { pair: 2, ..HERE }, Word::ZERO);
     let placed = ledger.placed(rt.alloc())?;
-    same(&rt, placed.len(), 2);
-    same(
-        &rt,
-        (placed[0].at.pair, placed[0].word),
-        (0, Word::within(5)),
-    );
-    same(
-        &rt,
-        (placed[1].at.pair, placed[1].word),
-        (3, Word::within(6)),
-    );
+    let [low, high] = placed.as_slice() else {
+        return Err("two words".into());
+    };
+    same(&rt, (low.at.pair, low.word), (0, Word::within(5)));
+    same(&rt, (high.at.pair, high.word), (3, Word::within(6)));
     Ok(())
 }

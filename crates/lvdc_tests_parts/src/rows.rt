@@ -1,6 +1,6 @@
 //! Tables of rows, and comparisons. A row ends in `;`, and its columns are parted by `|`; blanks at its start don't count. A call of
 //! these takes a part of the proof that the same assertion, written out, takes.
-use lvdc_fault::Script;
+use lvdc_fault::{Event, Script};
 use lvdc_script_lines::read_fault;
 use std::alloc::Global;
 use std::fmt::Debug;
@@ -32,11 +32,20 @@ pub fn shown<T: Debug>(alloc: Global, value: &T) -> Result<String, Fail> {
     Ok(format!(in alloc; "{value:?}")?)
 }
 
+/// The event of a line of a script.
+pub fn event(line: &str) -> Result<Option<Event>, Fail> {
+    let text = line.as_bytes();
+    if text.len() > 1000 {
+        return Err("a short line".into());
+    }
+    Ok(read_fault(text))
+}
+
 /// The script of these lines, which are parted by commas.
 pub fn script_of(alloc: Global, lines: &str) -> Result<Script, Fail> {
     let mut script = Script::new(alloc);
     for line in lines.split(",") {
-        script.push(read_fault(line.as_bytes()).ok_or("an event")?)?;
+        script.push(event(line)?.ok_or("an event")?)?;
     }
     Ok(script)
 }

@@ -1,5 +1,5 @@
-use crate::rows::{column, comes, same, shown};
-use lvdc_script_lines::{read_fault, read_order};
+use crate::rows::{column, comes, event, same, shown};
+use lvdc_script_lines::read_order;
 use std::test::Fail;
 
 /// The events that lines mean, and the lines.
@@ -43,8 +43,8 @@ fn lines_are_events_or_orders_or_neither(rt: HostRuntime) -> Result<(), Fail> {
     let alloc = rt.alloc();
     for row in LINES.split_terminator(";") {
         let (due, line) = column(row)?;
-        let event = shown(alloc, &read_fault(line.as_bytes()))?;
-        comes(&rt, event.as_str(), due);
+        let found = shown(alloc, &event(line)?)?;
+        comes(&rt, found.as_str(), due);
     }
     for line in NO_ORDERS.split_terminator(";") {
         same(&rt, read_order(line.as_bytes()).is_none(), true);

@@ -87,10 +87,12 @@ fn a_memory_is_made_again_of_its_cells(rt: HostRuntime) -> Result<(), Fail> {
     let mut twins = one_word(&rt, Banks::DUPLEX)?;
     twins.damage(1, HERE, Cell::within(1));
     let held = twins.held(rt.alloc())?;
-    same(&rt, held.len(), 2);
-    same(&rt, held[0].cell, Cell::encode(Word::within(0o17)));
-    same(&rt, (held[1].twin, held[1].at), (1, HERE));
-    same(&rt, held[1].cell, twins.stored(1, HERE));
+    let [sound, damaged] = held.as_slice() else {
+        return Err("two cells".into());
+    };
+    same(&rt, sound.cell, Cell::encode(Word::within(0o17)));
+    same(&rt, (damaged.twin, damaged.at), (1, HERE));
+    same(&rt, damaged.cell, twins.stored(1, HERE));
     let mut again = Twins::from_cells(rt.alloc(), &held, &[0, 1, 0, 1], Banks::DUPLEX)?;
     same(&rt, again.stored(1, HERE), twins.stored(1, HERE));
     same(&rt, again.all_selected(), [0, 1, 0, 1]);

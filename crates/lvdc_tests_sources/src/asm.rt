@@ -1,4 +1,4 @@
-use crate::rows::{ascii, column, comes, same, shown};
+use crate::rows::{ascii, bytes, column, comes, same, shown};
 use lvdc_asm::{AsmFault, Assembly, assemble};
 use lvdc_image::print_image;
 use lvdc_map::Hop;
@@ -166,7 +166,7 @@ fn names(rt: &impl Abort, assembly: &Assembly, name: &[u8], bits: u32) -> Result
 fn names_of_code_have_hop_constants(rt: HostRuntime) -> Result<(), Fail> {
     let source =
         "        CODE\nMAIN    HOP   =HSUB\n        USE   1,02\n        ORG   2,03,1,007\nSUB     CLA   000\n        WORDS 0,01\nX       OCT   1\n        END\n";
-    let assembly = assembly(rt.alloc(), source.as_bytes())??;
+    let assembly = assembly(rt.alloc(), bytes(source))??;
     names(&rt, &assembly, b"MAIN", 0o16)?;
     names(&rt, &assembly, b"SUB", 0o207016426)?;
     same(&rt, assembly.hop_of(b"X"), None);
@@ -217,7 +217,7 @@ const PROGRAM: &str =
 
 #[test]
 fn a_whole_program_is_assembled(rt: HostRuntime) -> Result<(), Fail> {
-    let assembly = assembly(rt.alloc(), PROGRAM.as_bytes())??;
+    let assembly = assembly(rt.alloc(), bytes(PROGRAM))??;
     names(&rt, &assembly, b"SCALE", 0o20016)?;
     same(&rt, assembly.image().words().len(), 21);
     same(&rt, word_at(&assembly, 19)?, (0o402, 0o20016));

@@ -1,4 +1,4 @@
-use crate::rows::{ascii, column, comes, same, shown};
+use crate::rows::{ascii, bytes, column, comes, same, shown};
 use lvdc_image::{Image, ImageFault, print_image, read_image};
 use lvdc_map::{Address, Banks, Hop, Placed};
 use lvdc_text::lines;
@@ -88,13 +88,13 @@ fn an_image_has_words_a_start_and_banks(rt: HostRuntime) -> Result<(), Fail> {
     let alloc = rt.alloc();
     let first = image(
         alloc,
-        "LVDC 1\n0 00 000 000017000\n3 17 377 377777777\nEND\n".as_bytes(),
+        bytes("LVDC 1\n0 00 000 000017000\n3 17 377 377777777\nEND\n"),
     )??;
     let bits = first.words().get(1).map(|placed| placed.word.value());
     same(&rt, (first.words().len(), bits), (2, Some(Word::LIMIT - 1)));
     same(&rt, first.start(), None);
     let text = "LVDC 2\nSTART 000000216\nSIMPLEX 0 3\n4 01 000 000000007\nEND\n";
-    let second = image(alloc, text.as_bytes())??;
+    let second = image(alloc, bytes(text))??;
     same(&rt, second.start(), Some(Hop::of(Word::within(0o216))));
     same(&rt, Some(second.banks()), Banks::new(9));
     Ok(())

@@ -1,4 +1,4 @@
-use crate::rows::same;
+use crate::rows::{bytes, same};
 use lvdc_macro::{Expansion, MacroFault, expand};
 use lvdc_text::lines;
 use std::alloc::Global;
@@ -18,14 +18,14 @@ fn a_call_is_written_out_or_is_too_deep(rt: HostRuntime) -> Result<(), Fail> {
     let alloc = rt.alloc();
     let source =
         "DOUBLE  MACRO\n        CLA   &1\n        ADD   &1\n        MEND\n        DOUBLE X\n";
-    let made = expansion(alloc, source.as_bytes())??;
+    let made = expansion(alloc, bytes(source))??;
     let due = "        CLA   X\n        ADD   X\n";
-    same(&rt, made.bytes.items(), due.as_bytes());
+    same(&rt, made.bytes.items(), bytes(due));
     same(&rt, made.origins.items(), [5, 5].as_slice());
     let source = "LOOP    MACRO\n        LOOP\n        MEND\n        LOOP\n        END\n";
     same(
         &rt,
-        expansion(alloc, source.as_bytes())?.err(),
+        expansion(alloc, bytes(source))?.err(),
         Some(MacroFault::TooDeep(4)),
     );
     Ok(())

@@ -1,4 +1,4 @@
-use crate::rows::{column, comes, same, shown};
+use crate::rows::{bytes, column, comes, same, shown};
 use lvdc_place::{Layout, Spot, place};
 use lvdc_source::{Program, parse_source};
 use lvdc_text::lines;
@@ -193,21 +193,17 @@ fn pool(layout: &mut Layout, pair: u8, sector: u8) -> Result<Option<(u8, u8, u8)
 #[test]
 fn pooled_words_take_what_is_free(rt: HostRuntime) -> Result<(), Fail> {
     let alloc = rt.alloc();
-    let mut full = layout(alloc, " WORDS 0,02\n BSS 256\n END\n".as_bytes())?;
+    let mut full = layout(alloc, bytes(" WORDS 0,02\n BSS 256\n END\n"))?;
     same(&rt, pool(&mut full, 0, 2)?, None);
     same(&rt, pool(&mut full, 0, 3)?, Some((0, 3, 0)));
     same(&rt, pool(&mut full, 0, 3)?, Some((0, 3, 1)));
     let text = " ORG 0,01,1,000\n CLA 000\n WORDS 0,01\n OCT 1\n END\n";
     same(
         &rt,
-        pool(&mut layout(alloc, text.as_bytes())?, 0, 1)?,
+        pool(&mut layout(alloc, bytes(text))?, 0, 1)?,
         Some((0, 1, 2)),
     );
     let text = " WORDS 1,17\n BSS 253\n END\n";
-    same(
-        &rt,
-        pool(&mut layout(alloc, text.as_bytes())?, 1, 15)?,
-        None,
-    );
+    same(&rt, pool(&mut layout(alloc, bytes(text))?, 1, 15)?, None);
     Ok(())
 }

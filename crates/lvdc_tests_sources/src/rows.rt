@@ -11,6 +11,11 @@ pub fn column(row: &str) -> Result<(&str, &str), Fail> {
     Ok(row.split_once("|").ok_or("a column")?)
 }
 
+/// The bytes of a text. This has no clause, so no proof computes those of a literal.
+pub fn bytes(text: &str) -> &[u8] {
+    text.as_bytes()
+}
+
 /// What was found is what was wanted.
 pub fn same<T: PartialEq + Debug + Drop>(rt: &impl Abort, found: T, wanted: T) {
     assert_eq!(rt; found, wanted);

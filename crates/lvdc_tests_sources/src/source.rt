@@ -1,4 +1,4 @@
-use crate::rows::{column, comes, holds, same, shown};
+use crate::rows::{bytes, column, comes, holds, same, shown};
 use lvdc_isa::Op;
 use lvdc_source::{
     Block, Body, Constant, Item, Operand, Program, SourceFault, is_name, parse_source,
@@ -94,43 +94,36 @@ HALF    OCT   100000000
 #[test]
 fn whole_sources_are_read(rt: HostRuntime) -> Result<(), Fail> {
     let alloc = rt.alloc();
-    let program = read(alloc, FIXED_PLACES.as_bytes())?
-        .ok()
-        .ok_or("a program")?;
-    let items = program.items();
-    same(&rt, items.len(), 9);
-    same(
-        &rt,
-        (items[4].line, items[4].label.items()),
-        (5, b"LOOP".as_slice()),
-    );
+    let program = read(alloc, bytes(FIXED_PLACES))?.ok().ok_or("a program")?;
+    let [_, _, add, _, tra, _, _, dec, room] = program.items() else {
+        return Err("nine items".into());
+    };
+    same(&rt, (tra.line, tra.label.items()), (5, b"LOOP".as_slice()));
     holds(
         &rt,
-        is_at(&items[2], Op::Add, b"X", 1) && is_at(&items[4], Op::Tra, b"LOOP", 0),
+        is_at(add, Op::Add, b"X", 1) && is_at(tra, Op::Tra, b"LOOP", 0),
     );
-    holds(
-        &rt,
-        matches!(items[7].body, Body::Constant(Constant::Dec(1))),
-    );
-    holds(&rt, matches!(items[8].body, Body::Room(1)));
-    let program = read(alloc, LITERAL.as_bytes())?.ok().ok_or("a program")?;
-    let items = program.items();
-    same(&rt, items.len(), 6);
+    holds(&rt, matches!(dec.body, Body::Constant(Constant::Dec(1))));
+    holds(&rt, matches!(room.body, Body::Room(1)));
+    let program = read(alloc, bytes(LITERAL))?.ok().ok_or("a program")?;
+    let [_, _, add, _, words, _] = program.items() else {
+        return Err("six items".into());
+    };
     let literal = matches!(
-        items[2].body,
+        add.body,
         Body::Instruction {
             op: Op::Add,
             operand: Operand::Literal(Constant::Oct(1))
         }
     );
     holds(&rt, literal);
-    same(&rt, Block::Code.after(&items[4].body), Block::Words);
-    let program = read(alloc, WHOLE_PROGRAM.as_bytes())?
-        .ok()
-        .ok_or("a program")?;
+    same(&rt, Block::Code.after(&words.body), Block::Words);
+    let program = read(alloc, bytes(WHOLE_PROGRAM))?.ok().ok_or("a program")?;
     let items = program.items();
-    same(&rt, (items.len(), items[24].line), (25, 26));
-    same(&rt, items[10].label.items(), b"SCALE".as_slice());
+    let last = items.get(24).ok_or("25 items")?;
+    same(&rt, (items.len(), last.line), (25, 26));
+    let scale = items.get(10).ok_or("25 items")?;
+    same(&rt, scale.label.items(), b"SCALE".as_slice());
     Ok(())
 }
 
