@@ -40,43 +40,91 @@ pub enum Rack {
     OtherTape,
 }
 
+/// A ticker.
+fn ticker(alloc: Global) -> Result<Vec<Box<dyn PortDevice>>, Fail>
+    ensures { IfOk result (λ devices. AreDistinct (map device_of devices.items)) }
+{
+    let mut devices: Vec<Box<dyn PortDevice>> = Vec::new(alloc);
+    devices.push(Box::new(alloc, Ticker::new(0o16))?)?;
+    Ok(devices)
+}
+
+/// A tape and a ticker.
+fn tape_and_ticker(alloc: Global, fails: Fails) -> Result<Vec<Box<dyn PortDevice>>, Fail>
+    ensures { IfOk result (λ devices. AreDistinct (map device_of devices.items)) }
+{
+    let mut devices: Vec<Box<dyn PortDevice>> = Vec::new(alloc);
+    let calls = Vec::from_slice(alloc, &[fails.tape])?;
+    devices.push(Box::new(alloc, Failing::new(Tape::new(alloc, 0), calls))?)?;
+    devices.push(Box::new(alloc, Ticker::new(0o16))?)?;
+    Ok(devices)
+}
+
+/// A tape and a recorder.
+fn tape_and_recorder(alloc: Global, fails: Fails) -> Result<Vec<Box<dyn PortDevice>>, Fail>
+    ensures { IfOk result (λ devices. AreDistinct (map device_of devices.items)) }
+{
+    let mut devices: Vec<Box<dyn PortDevice>> = Vec::new(alloc);
+    let calls = Vec::from_slice(alloc, &[fails.tape])?;
+    devices.push(Box::new(alloc, Failing::new(Tape::new(alloc, 0), calls))?)?;
+    let calls = Vec::from_slice(alloc, &[fails.recorder])?;
+    devices.push(Box::new(alloc, Failing::new(Recorder::new(alloc, 0o17), calls))?)?;
+    Ok(devices)
+}
+
+/// A recorder and a tape.
+fn recorder_and_tape(alloc: Global, fails: Fails) -> Result<Vec<Box<dyn PortDevice>>, Fail>
+    ensures { IfOk result (λ devices. AreDistinct (map device_of devices.items)) }
+{
+    let mut devices: Vec<Box<dyn PortDevice>> = Vec::new(alloc);
+    let calls = Vec::from_slice(alloc, &[fails.recorder])?;
+    devices.push(Box::new(alloc, Failing::new(Recorder::new(alloc, 0o17), calls))?)?;
+    let calls = Vec::from_slice(alloc, &[fails.tape])?;
+    devices.push(Box::new(alloc, Failing::new(Tape::new(alloc, 0), calls))?)?;
+    Ok(devices)
+}
+
+/// A tape, a latch and a recorder.
+fn tape_latch_and_recorder(alloc: Global, fails: Fails) -> Result<Vec<Box<dyn PortDevice>>, Fail>
+    ensures { IfOk result (λ devices. AreDistinct (map device_of devices.items)) }
+{
+    let mut devices: Vec<Box<dyn PortDevice>> = Vec::new(alloc);
+    let calls = Vec::from_slice(alloc, &[fails.tape])?;
+    devices.push(Box::new(alloc, Failing::new(Tape::new(alloc, 0), calls))?)?;
+    let calls = Vec::from_slice(alloc, &[fails.latch])?;
+    devices.push(Box::new(alloc, Failing::new(Latch::new(0o14), calls))?)?;
+    let calls = Vec::from_slice(alloc, &[fails.recorder])?;
+    devices.push(Box::new(alloc, Failing::new(Recorder::new(alloc, 0o17), calls))?)?;
+    Ok(devices)
+}
+
+/// A tape at port 001, a latch and a recorder.
+fn other_tape(alloc: Global, fails: Fails) -> Result<Vec<Box<dyn PortDevice>>, Fail>
+    ensures { IfOk result (λ devices. AreDistinct (map device_of devices.items)) }
+{
+    let mut devices: Vec<Box<dyn PortDevice>> = Vec::new(alloc);
+    let calls = Vec::from_slice(alloc, &[fails.tape])?;
+    devices.push(Box::new(alloc, Failing::new(Tape::new(alloc, 0o1), calls))?)?;
+    let calls = Vec::from_slice(alloc, &[fails.latch])?;
+    devices.push(Box::new(alloc, Failing::new(Latch::new(0o14), calls))?)?;
+    let calls = Vec::from_slice(alloc, &[fails.recorder])?;
+    devices.push(Box::new(alloc, Failing::new(Recorder::new(alloc, 0o17), calls))?)?;
+    Ok(devices)
+}
+
 /// The devices of a rack.
 fn devices(alloc: Global, rack: Rack, fails: Fails) -> Result<Vec<Box<dyn PortDevice>>, Fail>
     ensures { IfOk result (λ devices. AreDistinct (map device_of devices.items)) }
 {
-    let mut devices: Vec<Box<dyn PortDevice>> = Vec::new(alloc);
-    let latch = Failing::new(Latch::new(0o14), Vec::from_slice(alloc, &[fails.latch])?);
-    let calls = Vec::from_slice(alloc, &[fails.recorder])?;
-    let recorder = Failing::new(Recorder::new(alloc, 0o17), calls);
-    let tape_port = if matches!(rack, Rack::OtherTape) {
-        1
-    } else {
-        0
-    };
-    let calls = Vec::from_slice(alloc, &[fails.tape])?;
-    let tape = Failing::new(Tape::new(alloc, tape_port), calls);
     match rack {
-        Rack::Empty => {}
-        Rack::Ticker => devices.push(Box::new(alloc, Ticker::new(0o16))?)?,
-        Rack::TapeAndTicker => {
-            devices.push(Box::new(alloc, tape)?)?;
-            devices.push(Box::new(alloc, Ticker::new(0o16))?)?;
-        }
-        Rack::TapeAndRecorder => {
-            devices.push(Box::new(alloc, tape)?)?;
-            devices.push(Box::new(alloc, recorder)?)?;
-        }
-        Rack::RecorderAndTape => {
-            devices.push(Box::new(alloc, recorder)?)?;
-            devices.push(Box::new(alloc, tape)?)?;
-        }
-        Rack::TapeLatchAndRecorder | Rack::OtherTape => {
-            devices.push(Box::new(alloc, tape)?)?;
-            devices.push(Box::new(alloc, latch)?)?;
-            devices.push(Box::new(alloc, recorder)?)?;
-        }
+        Rack::Empty => Ok(Vec::new(alloc)),
+        Rack::Ticker => ticker(alloc),
+        Rack::TapeAndTicker => tape_and_ticker(alloc, fails),
+        Rack::TapeAndRecorder => tape_and_recorder(alloc, fails),
+        Rack::RecorderAndTape => recorder_and_tape(alloc, fails),
+        Rack::TapeLatchAndRecorder => tape_latch_and_recorder(alloc, fails),
+        Rack::OtherTape => other_tape(alloc, fails),
     }
-    Ok(devices)
 }
 
 /// How a call has ended: its status, what was written, the words that each device holds which is left, and how many bytes were
