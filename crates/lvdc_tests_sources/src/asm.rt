@@ -1,11 +1,11 @@
-use crate::rows::{ascii, bytes, column, comes, same, shown};
 use lvdc_asm::{AsmFault, Assembly, assemble};
 use lvdc_image::print_image;
 use lvdc_map::Hop;
+use lvdc_place::PlaceFault;
+use lvdc_source::SourceFault;
 use lvdc_text::lines;
 use lvdc_word::Word;
 use std::alloc::Global;
-use std::process::Abort;
 use std::test::Fail;
 
 /// The assembly of a short source.
@@ -17,161 +17,134 @@ fn assembly(alloc: Global, text: &[u8]) -> Result<Result<Assembly, AsmFault>, Fa
     Ok(assemble(alloc, text, &found))
 }
 
-/// The text of the image of a source, or its refusal.
-fn told(alloc: Global, text: &[u8]) -> Result<String, Fail> {
-    match assembly(alloc, text)? {
-        Ok(assembly) => ascii(print_image(alloc, assembly.image())?),
-        Err(fault) => shown(alloc, &fault),
-    }
+/// The text of the image of a source.
+fn image(alloc: Global, text: &[u8]) -> Result<Vec<u8>, Fail> {
+    let assembly = assembly(alloc, text)??;
+    Ok(print_image(alloc, assembly.image())?)
 }
 
-/// Images or refusals, and their sources.
-const SOURCES: &str = "\
-    LVDC 1
-0 00 000 000017000
-0 00 001 000007001
-0 00 002 000013002
-0 00 003 000010003
-0 01 000 177777777
-0 01 001 000000001
-END
-|        ORG   0,00,0,000
-        CLA   X
-        ADD   X+1
-        STO   X+2
-LOOP    TRA   LOOP
-        WORDS 0,01,000
-X       OCT   177777777
-        DEC   1
-        BSS   1
-        END
-;\
-    Place(NoRoom(1))|        ORG   0,00,0,376
-        CLA   000
-        CLA   000
-        CLA   000
-        END
-;\
-    LVDC 1
-0 00 000 000017000
-0 00 001 000007001
-0 00 002 000010000
-0 01 000 000000005
-0 01 001 000000001
-END
-|        CODE
-BEGIN   CLA   X
-        ADD   =O1
-        TRA   BEGIN
-        WORDS 0,01
-X       OCT   5
-        END
-;\
-    LVDC 1
-0 00 000 000017000
-0 00 001 000007000
-0 00 002 000007000
-0 01 000 000000005
-0 02 000 000000005
-END
-|        CODE
-        CLA   =O5
-        ADD   =D5
-        USE   0,02
-        ADD   =D5
-        END
-;\
-    OutOfSector(2)|        CODE
-        CLA   X
-        WORDS 0,02
-X       OCT   5
-        END
-;\
-    OutOfSector(2)|        CODE
-        CLA   X+1
-        WORDS 0,17,374
-X       OCT   5
-        END
-;\
-    LVDC 1
-0 00 000 000017400
-0 00 001 000017000
-0 00 002 000016442
-0 00 003 000016220
-0 17 000 200000000
-END
-|        CODE
-        CLA   X
-        USE   0,17
-        CLA   X
-        CDS   1,02
-        SHF   20
-        WORDS 0,17
-X       DEC   -33554432
-        END
-;\
-    Source(ExecuteModified(2))|        CODE
-        EXM   000
-X       CLA   Y
-X       CLA   Y
-        END
-;\
-    DuplicateName(3)|        CODE
-X       CLA   Y
-X       CLA   Y
-        END
-;\
-    UndefinedName(2)|        CODE
-        TRA   Y+400
-        CLA   1000
-        END
-;\
-    OutOfRange(2)|        CODE
-        CLA   1000
-        TRA   Y
-        END
-;\
-    LVDC 1
-0 00 000 000000000
-0 01 000 207016426
-2 03 007 360000000
-END
-|        CODE
-        HOP   =HSUB
-        USE   1,02
-        ORG   2,03,1,007
-SUB     CLA   000
-        END
-;\
-";
+/// The refusal of a source.
+fn refusal(alloc: Global, text: &[u8]) -> Result<Option<AsmFault>, Fail> {
+    Ok(assembly(alloc, text)?.err())
+}
 
 #[test]
-fn sources_become_images_or_are_refused(rt: HostRuntime) -> Result<(), Fail> {
-    for row in SOURCES.split_terminator(";") {
-        let (due, source) = column(row)?;
-        let found = told(rt.alloc(), source.as_bytes())?;
-        comes(&rt, found.as_str(), due);
-    }
+fn fixed_blocks_make_an_image(rt: HostRuntime) -> Result<(), Fail> {
+    let alloc = rt.alloc();
+    let source =
+        b"        ORG   0,00,0,000\n        CLA   X\n        ADD   X+1\n        STO   X+2\nLOOP    TRA   LOOP\n        WORDS 0,01,000\nX       OCT   177777777\n        DEC   1\n        BSS   1\n        END\n";
+    let text =
+        b"LVDC 1\n0 00 000 000017000\n0 00 001 000007001\n0 00 002 000013002\n0 00 003 000010003\n0 01 000 177777777\n0 01 001 000000001\nEND\n";
+    assert_eq!(rt; image(alloc, source)?.as_slice(), text.as_slice());
     Ok(())
 }
 
-/// A name of an assembly stands for this HOP constant.
-fn names(rt: &impl Abort, assembly: &Assembly, name: &[u8], bits: u32) -> Result<(), Fail> {
-    let word = Word::new(bits).ok_or("a word")?;
-    same(rt, assembly.hop_of(name), Some(Hop::of(word)));
+#[test]
+fn a_fixed_block_past_the_sector_has_no_room(rt: HostRuntime) -> Result<(), Fail> {
+    let source =
+        b"        ORG   0,00,0,376\n        CLA   000\n        CLA   000\n        CLA   000\n        END\n";
+    let due = AsmFault::Place(PlaceFault::NoRoom(1));
+    assert_eq!(rt; refusal(rt.alloc(), source)?, Some(due));
+    Ok(())
+}
+
+#[test]
+fn a_literal_follows_the_words_of_its_sector(rt: HostRuntime) -> Result<(), Fail> {
+    let alloc = rt.alloc();
+    let source =
+        b"        CODE\nBEGIN   CLA   X\n        ADD   =O1\n        TRA   BEGIN\n        WORDS 0,01\nX       OCT   5\n        END\n";
+    let text =
+        b"LVDC 1\n0 00 000 000017000\n0 00 001 000007001\n0 00 002 000010000\n0 01 000 000000005\n0 01 001 000000001\nEND\n";
+    assert_eq!(rt; image(alloc, source)?.as_slice(), text.as_slice());
+    Ok(())
+}
+
+#[test]
+fn literals_of_one_value_share_a_word(rt: HostRuntime) -> Result<(), Fail> {
+    let alloc = rt.alloc();
+    let source =
+        b"        CODE\n        CLA   =O5\n        ADD   =D5\n        USE   0,02\n        ADD   =D5\n        END\n";
+    let text =
+        b"LVDC 1\n0 00 000 000017000\n0 00 001 000007000\n0 00 002 000007000\n0 01 000 000000005\n0 02 000 000000005\nEND\n";
+    assert_eq!(rt; image(alloc, source)?.as_slice(), text.as_slice());
+    Ok(())
+}
+
+#[test]
+fn a_name_of_another_sector_is_out_of_reach(rt: HostRuntime) -> Result<(), Fail> {
+    let alloc = rt.alloc();
+    let source =
+        b"        CODE\n        CLA   X\n        WORDS 0,02\nX       OCT   5\n        END\n";
+    assert_eq!(rt; refusal(alloc, source)?, Some(AsmFault::OutOfSector(2)));
+    let source =
+        b"        CODE\n        CLA   X+1\n        WORDS 0,17,374\nX       OCT   5\n        END\n";
+    assert_eq!(rt; refusal(alloc, source)?, Some(AsmFault::OutOfSector(2)));
+    Ok(())
+}
+
+#[test]
+fn the_residual_sector_is_reached_with_a9(rt: HostRuntime) -> Result<(), Fail> {
+    let alloc = rt.alloc();
+    let source =
+        b"        CODE\n        CLA   X\n        USE   0,17\n        CLA   X\n        CDS   1,02\n        SHF   20\n        WORDS 0,17\nX       DEC   -33554432\n        END\n";
+    let text =
+        b"LVDC 1\n0 00 000 000017400\n0 00 001 000017000\n0 00 002 000016442\n0 00 003 000016220\n0 17 000 200000000\nEND\n";
+    assert_eq!(rt; image(alloc, source)?.as_slice(), text.as_slice());
+    Ok(())
+}
+
+#[test]
+fn the_grammar_is_refused_first(rt: HostRuntime) -> Result<(), Fail> {
+    let source =
+        b"        CODE\n        EXM   000\nX       CLA   Y\nX       CLA   Y\n        END\n";
+    let due = AsmFault::Source(SourceFault::ExecuteModified(2));
+    assert_eq!(rt; refusal(rt.alloc(), source)?, Some(due));
+    Ok(())
+}
+
+#[test]
+fn a_name_is_defined_once(rt: HostRuntime) -> Result<(), Fail> {
+    let source = b"        CODE\nX       CLA   Y\nX       CLA   Y\n        END\n";
+    assert_eq!(rt;
+        refusal(rt.alloc(), source)?,
+        Some(AsmFault::DuplicateName(3))
+    );
+    Ok(())
+}
+
+#[test]
+fn lines_are_refused_in_their_order(rt: HostRuntime) -> Result<(), Fail> {
+    let alloc = rt.alloc();
+    let source = b"        CODE\n        TRA   Y+400\n        CLA   1000\n        END\n";
+    assert_eq!(rt; refusal(alloc, source)?, Some(AsmFault::UndefinedName(2)));
+    let source = b"        CODE\n        CLA   1000\n        TRA   Y\n        END\n";
+    assert_eq!(rt; refusal(alloc, source)?, Some(AsmFault::OutOfRange(2)));
     Ok(())
 }
 
 #[test]
 fn names_of_code_have_hop_constants(rt: HostRuntime) -> Result<(), Fail> {
     let source =
-        "        CODE\nMAIN    HOP   =HSUB\n        USE   1,02\n        ORG   2,03,1,007\nSUB     CLA   000\n        WORDS 0,01\nX       OCT   1\n        END\n";
-    let assembly = assembly(rt.alloc(), bytes(source))??;
-    names(&rt, &assembly, b"MAIN", 0o16)?;
-    names(&rt, &assembly, b"SUB", 0o207016426)?;
-    same(&rt, assembly.hop_of(b"X"), None);
-    let defined = (assembly.defines(b"X"), assembly.defines(b"Y"));
-    same(&rt, defined, (true, false));
+        b"        CODE\nMAIN    HOP   =HSUB\n        USE   1,02\n        ORG   2,03,1,007\nSUB     CLA   000\n        WORDS 0,01\nX       OCT   1\n        END\n";
+    let assembly = assembly(rt.alloc(), source)??;
+    let main = Hop::of(Word::within(0o16));
+    assert_eq!(rt; assembly.hop_of(b"MAIN"), Some(main));
+    let sub = Hop::of(Word::within(0o207016426));
+    assert_eq!(rt; assembly.hop_of(b"SUB"), Some(sub));
+    assert_eq!(rt; assembly.hop_of(b"X"), None);
+    assert_eq!(rt;
+        (assembly.defines(b"X"), assembly.defines(b"Y")),
+        (true, false)
+    );
+    Ok(())
+}
+
+#[test]
+fn a_hop_constant_is_a_literal(rt: HostRuntime) -> Result<(), Fail> {
+    let source =
+        b"        CODE\n        HOP   =HSUB\n        USE   1,02\n        ORG   2,03,1,007\nSUB     CLA   000\n        END\n";
+    let text = b"LVDC 1\n0 00 000 000000000\n0 01 000 207016426\n2 03 007 360000000\nEND\n";
+    assert_eq!(rt; image(rt.alloc(), source)?.as_slice(), text.as_slice());
     Ok(())
 }
 
@@ -183,44 +156,61 @@ fn put_instructions(out: &mut Vec<u8>, count: u32) -> Result<(), Fail> {
     Ok(())
 }
 
-/// A block of so many instructions, and this text behind it.
-fn block(alloc: Global, count: u32, back: &[u8]) -> Result<Vec<u8>, Fail> {
+#[test]
+fn a_block_fills_a_sector_exactly(rt: HostRuntime) -> Result<(), Fail> {
+    let alloc = rt.alloc();
     let mut source = b"        CODE\n".to_vec(alloc)?;
-    put_instructions(&mut source, count)?;
-    source.extend_from_slice(back)?;
-    Ok(source)
-}
-
-/// The number of an address and a word of the assembly.
-fn word_at(assembly: &Assembly, index: usize) -> Result<(usize, u32), Fail> {
-    let placed = assembly.image().words().get(index).ok_or("a word")?;
-    Ok((placed.at.number(), placed.word.value()))
+    put_instructions(&mut source, 256)?;
+    source.extend_from_slice(b"        END\n")?;
+    let assembly = assembly(alloc, &source)??;
+    let words = assembly.image().words();
+    assert_eq!(rt; words.len(), 256);
+    assert_eq!(rt; words[255].at.number(), 0o377);
+    Ok(())
 }
 
 #[test]
-fn blocks_fill_sectors_and_are_not_split(rt: HostRuntime) -> Result<(), Fail> {
+fn a_block_is_not_split(rt: HostRuntime) -> Result<(), Fail> {
     let alloc = rt.alloc();
-    let full = assembly(alloc, &block(alloc, 256, b"        END\n")?)??;
-    same(&rt, full.image().words().len(), 256);
-    same(&rt, word_at(&full, 255)?.0, 0o377);
-    let more = told(alloc, &block(alloc, 257, b"        END\n")?)?;
-    comes(&rt, more.as_str(), "Place(NoRoom(1))");
-    let mut two = block(alloc, 250, b"        CODE\nSECOND  CLA   000\n")?;
-    put_instructions(&mut two, 9)?;
-    two.extend_from_slice(b"        END\n")?;
-    names(&rt, &assembly(alloc, &two)??, b"SECOND", 0o1000016)
+    let mut source = b"        CODE\n".to_vec(alloc)?;
+    put_instructions(&mut source, 257)?;
+    source.extend_from_slice(b"        END\n")?;
+    let due = AsmFault::Place(PlaceFault::NoRoom(1));
+    assert_eq!(rt; refusal(alloc, &source)?, Some(due));
+    Ok(())
 }
 
-/// Discretes, halved by a subroutine, to telemetry.
-const PROGRAM: &str =
-    "* DISCRETES, HALVED BY A SUBROUTINE, TO TELEMETRY\n        CODE\nMAIN    PIO   400\n        STO   DISC\n        TNZ   WORK\nDONE    TRA   DONE\nWORK    HOP   =HSCALE\nBACK    CLA   SUM\n        PIO   017\n        TRA   MAIN\n        CODE\nSCALE   STO   776      RETURN\n        CLA   DISC\n        MPY   HALF\n        CLA   SUM\n        CLA   SUM\n        CLA   SUM\n        CLA   SUM\n        ADD   775\n        STO   SUM\n        HOP   776\n        WORDS 0,01\nDISC    BSS   1\nSUM     OCT   0\n        WORDS 0,17\nHALF    OCT   100000000\n        END\n";
+#[test]
+fn a_block_goes_to_the_least_place_with_room(rt: HostRuntime) -> Result<(), Fail> {
+    let alloc = rt.alloc();
+    let mut source = b"        CODE\n".to_vec(alloc)?;
+    put_instructions(&mut source, 250)?;
+    source.extend_from_slice(b"        CODE\nSECOND  CLA   000\n")?;
+    put_instructions(&mut source, 9)?;
+    source.extend_from_slice(b"        END\n")?;
+    let assembly = assembly(alloc, &source)??;
+    let second = Hop::of(Word::within(0o1000016));
+    assert_eq!(rt; assembly.hop_of(b"SECOND"), Some(second));
+    Ok(())
+}
 
 #[test]
 fn a_whole_program_is_assembled(rt: HostRuntime) -> Result<(), Fail> {
-    let assembly = assembly(rt.alloc(), bytes(PROGRAM))??;
-    names(&rt, &assembly, b"SCALE", 0o20016)?;
-    same(&rt, assembly.image().words().len(), 21);
-    same(&rt, word_at(&assembly, 19)?, (0o402, 0o20016));
-    same(&rt, word_at(&assembly, 20)?, (0o7400, 0o100000000));
+    let alloc = rt.alloc();
+    let source =
+        b"* DISCRETES, HALVED BY A SUBROUTINE, TO TELEMETRY\n        CODE\nMAIN    PIO   400\n        STO   DISC\n        TNZ   WORK\nDONE    TRA   DONE\nWORK    HOP   =HSCALE\nBACK    CLA   SUM\n        PIO   017\n        TRA   MAIN\n        CODE\nSCALE   STO   776      RETURN\n        CLA   DISC\n        MPY   HALF\n        CLA   SUM\n        CLA   SUM\n        CLA   SUM\n        CLA   SUM\n        ADD   775\n        STO   SUM\n        HOP   776\n        WORDS 0,01\nDISC    BSS   1\nSUM     OCT   0\n        WORDS 0,17\nHALF    OCT   100000000\n        END\n";
+    let assembly = assembly(alloc, source)??;
+    let scale = Hop::of(Word::within(0o20016));
+    assert_eq!(rt; assembly.hop_of(b"SCALE"), Some(scale));
+    let words = assembly.image().words();
+    assert_eq!(rt; words.len(), 21);
+    assert_eq!(rt;
+        (words[19].at.number(), words[19].word.value()),
+        (0o402, 0o20016)
+    );
+    assert_eq!(rt;
+        (words[20].at.number(), words[20].word.value()),
+        (0o7400, 0o100000000)
+    );
     Ok(())
 }

@@ -1,5 +1,4 @@
-use crate::rows::{bytes, column, comes, same, shown};
-use lvdc_place::{Layout, Spot, place};
+use lvdc_place::{Layout, PlaceFault, Spot, place};
 use lvdc_source::{Program, parse_source};
 use lvdc_text::lines;
 use std::alloc::Global;
@@ -14,171 +13,29 @@ fn program(alloc: Global, text: &[u8]) -> Result<Program, Fail> {
     Ok(parse_source(alloc, text, &found)?)
 }
 
+/// The layout of a short source.
+fn layout(alloc: Global, text: &[u8]) -> Result<Layout, Fail> {
+    Ok(place(alloc, &program(alloc, text)?)?)
+}
+
+/// The fault of a short source.
+fn fault(alloc: Global, text: &[u8]) -> Result<Option<PlaceFault>, Fail> {
+    Ok(place(alloc, &program(alloc, text)?).err())
+}
+
 /// The pair, the sector, the location and, of an instruction, the syllable.
 fn numbers(spot: Spot) -> (u8, u8, u8, Option<u8>) {
     (spot.at.pair, spot.at.sector, spot.at.loc, spot.syl)
 }
 
-/// Where an item of a short source stands, or the refusal of the source.
-fn stands(alloc: Global, text: &[u8], item: usize) -> Result<String, Fail> {
+/// Where an item of a short source stands.
+fn spot(alloc: Global, text: &[u8], item: usize) -> Result<Option<(u8, u8, u8, Option<u8>)>, Fail> {
     let program = program(alloc, text)?;
-    match place(alloc, &program) {
-        Ok(layout) if item < program.items().len() => {
-            shown(alloc, &layout.spot(item).map(numbers))
-        }
-        Ok(_) => Err("an item".into()),
-        Err(fault) => shown(alloc, &fault),
+    let layout = place(alloc, &program)?;
+    if item >= program.items().len() {
+        return Err("an item".into());
     }
-}
-
-/// Where an item stands: the pair, the sector, the location and the syllable; the front of a source, a line, how often it stands there,
-/// and the back; and the number of the item. A block is not split: the slots that a first one leaves are those of the third. A word
-/// needs both slots. Fixed blocks come first: one takes the place that the floating block before it would have.
-const ITEMS: &str = "\
-    None| CODE
-| CLA 000
-|256| END
-|0;\
-    Some((0, 0, 255, Some(0)))| CODE
-| CLA 000
-|256| END
-|256;\
-    NoRoom(1)| CODE
-| CLA 000
-|257| END
-|0;\
-    Some((0, 0, 0, Some(1)))| CODE
-| CLA 000
-|250| CODE
- CLA 000
- CLA 000
- CLA 000
- CLA 000
- CLA 000
- CLA 000
- CLA 000
- CLA 000
- CLA 000
- CLA 000
- CODE
- CLA 000
- CLA 000
- CLA 000
- CLA 000
- CLA 000
- CLA 000
- END
-|252;\
-    Some((0, 0, 250, Some(0)))| CODE
-| CLA 000
-|250| CODE
- CLA 000
- CLA 000
- CLA 000
- CLA 000
- CLA 000
- CLA 000
- CLA 000
- CLA 000
- CLA 000
- CLA 000
- CODE
- CLA 000
- CLA 000
- CLA 000
- CLA 000
- CLA 000
- CLA 000
- END
-|263;\
-    NoRoom(3)|||0| WORDS 0,02
- BSS 256
- WORDS 0,02
- OCT 1
- END
-|0;\
-    Some((0, 1, 0, Some(1)))|||0| ORG 0,01,1,000
- CLA 000
- WORDS 0,01
- OCT 1
- END
-|1;\
-    Some((0, 1, 1, None))|||0| ORG 0,01,1,000
- CLA 000
- WORDS 0,01
- OCT 1
- END
-|3;\
-    Some((0, 15, 255, Some(0)))|||0| ORG 0,17,0,374
- CLA 000
- ORG 0,17,0,376
- CLA 000
- CLA 000
- END
-|4;\
-    Overlap(1)|||0| ORG 0,17,1,374
- CLA 000
- CLA 000
- END
-|0;\
-    NoRoom(1)|||0| WORDS 0,17,376
- BSS 3
- END
-|0;\
-    NoRoom(1)|||0| WORDS 1,17
- BSS 254
- END
-|0;\
-    None|||0| CODE
- CLA 000
- USE 0,02
- CLA 000
- ORG 0,00,0,001
- CLA 000
- END
-|2;\
-    Some((0, 0, 3, Some(0)))|||0| CODE
- CLA 000
- USE 0,02
- CLA 000
- ORG 0,00,0,001
- CLA 000
- END
-|3;\
-    Overlap(4)|||0| CODE
- ORG 0,00,0,001
- CLA 000
- WORDS 0,00,000
- BSS 2
- END
-|0;\
-";
-
-#[test]
-fn items_have_their_places(rt: HostRuntime) -> Result<(), Fail> {
-    let alloc = rt.alloc();
-    for row in ITEMS.split_terminator(";") {
-        let (due, row) = column(row)?;
-        let (front, row) = column(row)?;
-        let (line, row) = column(row)?;
-        let (count, row) = column(row)?;
-        let (back, item) = column(row)?;
-        let count: u16 = count.parse().map_err(|_| "a count")?;
-        let mut text = String::from_str(alloc, front)?;
-        for _line in 0..count {
-            text.push_str(line)?;
-        }
-        text.push_str(back)?;
-        let item: u16 = item.parse().map_err(|_| "an item")?;
-        let found = stands(alloc, text.as_bytes(), usize::from(item))?;
-        comes(&rt, found.as_str(), due);
-    }
-    Ok(())
-}
-
-/// The layout of a short source.
-fn layout(alloc: Global, text: &[u8]) -> Result<Layout, Fail> {
-    Ok(place(alloc, &program(alloc, text)?)?)
+    Ok(layout.spot(item).map(numbers))
 }
 
 /// Where the next pooled word stands.
@@ -190,20 +47,100 @@ fn pool(layout: &mut Layout, pair: u8, sector: u8) -> Result<Option<(u8, u8, u8)
     Ok(at.map(|at| (at.pair, at.sector, at.loc)))
 }
 
+/// Appends a line so many times.
+fn repeat(text: &mut Vec<u8>, line: &[u8], count: u16) -> Result<(), Fail> {
+    for _ in 0..count {
+        text.extend_from_slice(line)?;
+    }
+    Ok(())
+}
+
+/// Appends `CODE` and so many instructions.
+fn code(text: &mut Vec<u8>, count: u16) -> Result<(), Fail> {
+    text.extend_from_slice(b" CODE\n")?;
+    repeat(text, b" CLA 000\n", count)
+}
+
 #[test]
-fn pooled_words_take_what_is_free(rt: HostRuntime) -> Result<(), Fail> {
-    let alloc = rt.alloc();
-    let mut full = layout(alloc, bytes(" WORDS 0,02\n BSS 256\n END\n"))?;
-    same(&rt, pool(&mut full, 0, 2)?, None);
-    same(&rt, pool(&mut full, 0, 3)?, Some((0, 3, 0)));
-    same(&rt, pool(&mut full, 0, 3)?, Some((0, 3, 1)));
-    let text = " ORG 0,01,1,000\n CLA 000\n WORDS 0,01\n OCT 1\n END\n";
-    same(
-        &rt,
-        pool(&mut layout(alloc, bytes(text))?, 0, 1)?,
-        Some((0, 1, 2)),
-    );
-    let text = " WORDS 1,17\n BSS 253\n END\n";
-    same(&rt, pool(&mut layout(alloc, bytes(text))?, 1, 15)?, None);
+fn a_block_fills_its_sector(rt: HostRuntime) -> Result<(), Fail> {
+    let mut text = Vec::new(rt.alloc());
+    code(&mut text, 256)?;
+    text.extend_from_slice(b" END\n")?;
+    assert_eq!(rt; spot(rt.alloc(), &text, 0)?, None);
+    assert_eq!(rt; spot(rt.alloc(), &text, 256)?, Some((0, 0, 0o377, Some(0))));
+    Ok(())
+}
+
+#[test]
+fn a_larger_block_has_no_room(rt: HostRuntime) -> Result<(), Fail> {
+    let mut text = Vec::new(rt.alloc());
+    code(&mut text, 257)?;
+    text.extend_from_slice(b" END\n")?;
+    assert_eq!(rt; fault(rt.alloc(), &text)?, Some(PlaceFault::NoRoom(1)));
+    Ok(())
+}
+
+#[test]
+fn a_block_is_not_split(rt: HostRuntime) -> Result<(), Fail> {
+    let mut text = Vec::new(rt.alloc());
+    code(&mut text, 250)?;
+    code(&mut text, 10)?;
+    code(&mut text, 6)?;
+    text.extend_from_slice(b" END\n")?;
+    assert_eq!(rt; spot(rt.alloc(), &text, 252)?, Some((0, 0, 0, Some(1))));
+    // The six slots that were left are those of the third block.
+    assert_eq!(rt; spot(rt.alloc(), &text, 263)?, Some((0, 0, 0o372, Some(0))));
+    Ok(())
+}
+
+#[test]
+fn words_fill_their_sector(rt: HostRuntime) -> Result<(), Fail> {
+    let mut full = layout(rt.alloc(), b" WORDS 0,02\n BSS 256\n END\n")?;
+    assert_eq!(rt; pool(&mut full, 0, 2)?, None);
+    assert_eq!(rt; pool(&mut full, 0, 3)?, Some((0, 3, 0)));
+    assert_eq!(rt; pool(&mut full, 0, 3)?, Some((0, 3, 1)));
+    let more = b" WORDS 0,02\n BSS 256\n WORDS 0,02\n OCT 1\n END\n";
+    assert_eq!(rt; fault(rt.alloc(), more)?, Some(PlaceFault::NoRoom(3)));
+    Ok(())
+}
+
+#[test]
+fn a_word_needs_both_slots(rt: HostRuntime) -> Result<(), Fail> {
+    let text = b" ORG 0,01,1,000\n CLA 000\n WORDS 0,01\n OCT 1\n END\n";
+    assert_eq!(rt; spot(rt.alloc(), text, 1)?, Some((0, 1, 0, Some(1))));
+    assert_eq!(rt; spot(rt.alloc(), text, 3)?, Some((0, 1, 1, None)));
+    let mut layout = layout(rt.alloc(), text)?;
+    assert_eq!(rt; pool(&mut layout, 0, 1)?, Some((0, 1, 2)));
+    Ok(())
+}
+
+#[test]
+fn fixed_blocks_meet_at_the_saver(rt: HostRuntime) -> Result<(), Fail> {
+    let below = b" ORG 0,17,0,374\n CLA 000\n ORG 0,17,0,376\n CLA 000\n CLA 000\n END\n";
+    assert_eq!(rt; spot(rt.alloc(), below, 4)?, Some((0, 15, 0o377, Some(0))));
+    let across = b" ORG 0,17,1,374\n CLA 000\n CLA 000\n END\n";
+    assert_eq!(rt; fault(rt.alloc(), across)?, Some(PlaceFault::Overlap(1)));
+    let past = b" WORDS 0,17,376\n BSS 3\n END\n";
+    assert_eq!(rt; fault(rt.alloc(), past)?, Some(PlaceFault::NoRoom(1)));
+    Ok(())
+}
+
+#[test]
+fn floating_words_end_before_375(rt: HostRuntime) -> Result<(), Fail> {
+    let mut full = layout(rt.alloc(), b" WORDS 1,17\n BSS 253\n END\n")?;
+    assert_eq!(rt; pool(&mut full, 1, 15)?, None);
+    let more = b" WORDS 1,17\n BSS 254\n END\n";
+    assert_eq!(rt; fault(rt.alloc(), more)?, Some(PlaceFault::NoRoom(1)));
+    Ok(())
+}
+
+#[test]
+fn fixed_blocks_come_first(rt: HostRuntime) -> Result<(), Fail> {
+    // The fixed block takes the place that the floating one before it would have.
+    let text = b" CODE\n CLA 000\n USE 0,02\n CLA 000\n ORG 0,00,0,001\n CLA 000\n END\n";
+    assert_eq!(rt; spot(rt.alloc(), text, 2)?, None);
+    assert_eq!(rt; spot(rt.alloc(), text, 3)?, Some((0, 0, 3, Some(0))));
+    let shared = b" CODE\n ORG 0,00,0,001\n CLA 000\n WORDS 0,00,000\n BSS 2\n END\n";
+    assert_eq!(rt; fault(rt.alloc(), shared)?, Some(PlaceFault::Overlap(4)));
     Ok(())
 }

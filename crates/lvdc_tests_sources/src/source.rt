@@ -1,4 +1,3 @@
-use crate::rows::{bytes, column, comes, holds, same, shown};
 use lvdc_isa::Op;
 use lvdc_source::{
     Block, Body, Constant, Item, Operand, Program, SourceFault, is_name, parse_source,
@@ -41,7 +40,7 @@ fn is_at(item: &Item, op: Op, place: &[u8], added: u16) -> bool {
     }
 }
 
-const FIXED_PLACES: &str = "        ORG   0,00,0,000
+const FIXED_PLACES: &[u8] = b"        ORG   0,00,0,000
         CLA   X
         ADD   X+1
         STO   X+2
@@ -53,7 +52,20 @@ X       OCT   177777777
         END
 ";
 
-const LITERAL: &str = "        CODE
+#[test]
+fn fixed_places_are_read(rt: HostRuntime) -> Result<(), Fail> {
+    let program = read(rt.alloc(), FIXED_PLACES)?.ok().ok_or("a program")?;
+    let items = program.items();
+    assert_eq!(rt; items.len(), 9);
+    assert_eq!(rt; items[4].line, 5);
+    assert_eq!(rt; items[4].label.items(), b"LOOP".as_slice());
+    assert!(rt; is_at(&items[2], Op::Add, b"X", 1) && is_at(&items[4], Op::Tra, b"LOOP", 0));
+    assert!(rt; matches!(items[7].body, Body::Constant(Constant::Dec(1))));
+    assert!(rt; matches!(items[8].body, Body::Room(1)));
+    Ok(())
+}
+
+const LITERAL: &[u8] = b"        CODE
 BEGIN   CLA   X
         ADD   =O1
         TRA   BEGIN
@@ -62,7 +74,24 @@ X       OCT   5
         END
 ";
 
-const WHOLE_PROGRAM: &str = "* DISCRETES, HALVED BY A SUBROUTINE, TO TELEMETRY
+#[test]
+fn a_literal_is_read(rt: HostRuntime) -> Result<(), Fail> {
+    let program = read(rt.alloc(), LITERAL)?.ok().ok_or("a program")?;
+    let items = program.items();
+    assert_eq!(rt; items.len(), 6);
+    let literal = matches!(
+        items[2].body,
+        Body::Instruction {
+            op: Op::Add,
+            operand: Operand::Literal(Constant::Oct(1))
+        }
+    );
+    assert!(rt; literal);
+    assert_eq!(rt; Block::Code.after(&items[4].body), Block::Words);
+    Ok(())
+}
+
+const WHOLE_PROGRAM: &[u8] = b"* DISCRETES, HALVED BY A SUBROUTINE, TO TELEMETRY
         CODE
 MAIN    PIO   400
         STO   DISC
@@ -92,177 +121,117 @@ HALF    OCT   100000000
 ";
 
 #[test]
-fn whole_sources_are_read(rt: HostRuntime) -> Result<(), Fail> {
-    let alloc = rt.alloc();
-    let program = read(alloc, bytes(FIXED_PLACES))?.ok().ok_or("a program")?;
-    let [_, _, add, _, tra, _, _, dec, room] = program.items() else {
-        return Err("nine items".into());
-    };
-    same(&rt, (tra.line, tra.label.items()), (5, b"LOOP".as_slice()));
-    holds(
-        &rt,
-        is_at(add, Op::Add, b"X", 1) && is_at(tra, Op::Tra, b"LOOP", 0),
-    );
-    holds(&rt, matches!(dec.body, Body::Constant(Constant::Dec(1))));
-    holds(&rt, matches!(room.body, Body::Room(1)));
-    let program = read(alloc, bytes(LITERAL))?.ok().ok_or("a program")?;
-    let [_, _, add, _, words, _] = program.items() else {
-        return Err("six items".into());
-    };
-    let literal = matches!(
-        add.body,
-        Body::Instruction {
-            op: Op::Add,
-            operand: Operand::Literal(Constant::Oct(1))
-        }
-    );
-    holds(&rt, literal);
-    same(&rt, Block::Code.after(&words.body), Block::Words);
-    let program = read(alloc, bytes(WHOLE_PROGRAM))?.ok().ok_or("a program")?;
+fn a_whole_program_is_read(rt: HostRuntime) -> Result<(), Fail> {
+    let program = read(rt.alloc(), WHOLE_PROGRAM)?.ok().ok_or("a program")?;
     let items = program.items();
-    let last = items.get(24).ok_or("25 items")?;
-    same(&rt, (items.len(), last.line), (25, 26));
-    let scale = items.get(10).ok_or("25 items")?;
-    same(&rt, scale.label.items(), b"SCALE".as_slice());
+    assert_eq!(rt; items.len(), 25);
+    assert_eq!(rt; items[10].label.items(), b"SCALE".as_slice());
+    assert_eq!(rt; items[24].line, 26);
     Ok(())
 }
 
-/// The refusal of a line, the first line of its block, and the line.
-const LINES: &str = "\
-    None| CODE
-| CLA 000000777;\
-    None| CODE
-| CLA X;\
-    None| CODE
-| HOP =HX;\
-    None| CODE
-| ADD =O000000001;\
-    None| CODE
-| RSU =D-33554432;\
-    None| CODE
-| TMI X+999;\
-    None| CODE
-| STO 775;\
-    None| CODE
-| PIO 400;\
-    None| CODE
-| SHF 40;\
-    None| CODE
-| CDS 3,17;\
-    Some(BadOperand(2))| CODE
-| CLA;\
-    Some(BadOperand(2))| CODE
-| CLA 8;\
-    Some(BadOperand(2))| CODE
-| CLA 0000000001;\
-    Some(BadOperand(2))| CODE
-| CLA X+1000;\
-    Some(BadOperand(2))| CODE
-| CLA X+;\
-    Some(BadOperand(2))| CODE
-| HOP =X;\
-    Some(BadOperand(2))| CODE
-| ADD =O;\
-    Some(BadOperand(2))| CODE
-| RSU =D+;\
-    Some(BadOperand(2))| CODE
-| STO =O5;\
-    Some(BadOperand(2))| CODE
-| TRA =HX;\
-    Some(BadOperand(2))| CODE
-| PIO X;\
-    Some(BadOperand(2))| CODE
-| SHF -1;\
-    Some(BadOperand(2))| CODE
-| CDS 3;\
-    None| WORDS 0,01
-|X OCT 777777777;\
-    None| WORDS 0,01
-|X DEC -000000001;\
-    None| WORDS 0,01
-|X DEC +1;\
-    None| WORDS 0,01
-|X HOPC X;\
-    None| WORDS 0,01
-|X BSS 256;\
-    None| WORDS 0,01
-|\tUSE 3,17\t* COMMENT;\
-    None| WORDS 0,01
-| WORDS 3,17;\
-    None| WORDS 0,01
-| WORDS 3,17,377;\
-    None| WORDS 0,01
-| ORG 3,17,1,377;\
-    None| WORDS 0,01
-| CODE 5;\
-    None| WORDS 0,01
-|* OCT 8;\
-    Some(BadDirective(2))| WORDS 0,01
-| BSS 0;\
-    Some(BadDirective(2))| WORDS 0,01
-| BSS 257;\
-    Some(BadDirective(2))| WORDS 0,01
-| USE 4,00;\
-    Some(BadDirective(2))| WORDS 0,01
-| WORDS 0;\
-    Some(BadDirective(2))| WORDS 0,01
-| WORDS 0,20;\
-    Some(BadDirective(2))| WORDS 0,01
-| WORDS 0,01,400;\
-    Some(BadDirective(2))| WORDS 0,01
-| ORG 0,00,2,000;\
-    Some(BadDirective(2))| WORDS 0,01
-| ORG 0,00,0;\
-";
-
-/// Refusals of whole sources, and these.
-const SOURCES: &str = "\
-    Some(ExecuteModified(2))| CODE
- EXM 000
- END
-;\
-    Some(BadLabel(1))|A12345678 EXM
-;\
-    Some(BadLabel(1))|X USE 0,01
-;\
-    Some(UnknownOperation(1))|X
-;\
-    Some(BadDirective(1))| CLA
-;\
-    Some(BadDirective(2))| CODE
- DEC
-;\
-    Some(BadOperand(2))| WORDS 0,01
- DEC
-;\
-    Some(MissingEnd(3))| CODE
-
-;\
-    Some(AfterEnd(4))| END
-
-* END
- END
-;\
-";
+#[test]
+fn each_operation_takes_its_operand(rt: HostRuntime) -> Result<(), Fail> {
+    let legal: [&[u8]; 11] = [
+        b" CLA 000000777",
+        b" CLA X",
+        b"A2345678 CLA A2345678+007 COMMENT \xff",
+        b" HOP =HX",
+        b" ADD =O000000001",
+        b" RSU =D-33554432",
+        b" TMI X+999",
+        b" STO 775",
+        b" PIO 400",
+        b" SHF 40",
+        b" CDS 3,17",
+    ];
+    for line in legal {
+        assert_eq!(rt; fault_in(rt.alloc(), b" CODE\n", line)?, None);
+    }
+    Ok(())
+}
 
 #[test]
-fn lines_are_read_or_refused(rt: HostRuntime) -> Result<(), Fail> {
-    let alloc = rt.alloc();
-    for row in LINES.split_terminator(";") {
-        let (due, row) = column(row)?;
-        let (block, line) = column(row)?;
-        let found = fault_in(alloc, block.as_bytes(), line.as_bytes())?;
-        comes(&rt, shown(alloc, &found)?.as_str(), due);
+fn each_operation_refuses_other_operands(rt: HostRuntime) -> Result<(), Fail> {
+    let wrong: [&[u8]; 13] = [
+        b" CLA",
+        b" CLA 8",
+        b" CLA 0000000001",
+        b" CLA X+1000",
+        b" CLA X+",
+        b" HOP =X",
+        b" ADD =O",
+        b" RSU =D+",
+        b" STO =O5",
+        b" TRA =HX",
+        b" PIO X",
+        b" SHF -1",
+        b" CDS 3",
+    ];
+    let refusal = Some(SourceFault::BadOperand(2));
+    for line in wrong {
+        assert_eq!(rt; fault_in(rt.alloc(), b" CODE\n", line)?, refusal);
     }
-    for row in SOURCES.split_terminator(";") {
-        let (due, text) = column(row)?;
-        let found = fault(alloc, text.as_bytes())?;
-        comes(&rt, shown(alloc, &found)?.as_str(), due);
+    Ok(())
+}
+
+#[test]
+fn each_directive_takes_its_operand(rt: HostRuntime) -> Result<(), Fail> {
+    let legal: [&[u8]; 11] = [
+        b"X OCT 777777777",
+        b"X DEC -000000001",
+        b"X DEC +1",
+        b"X HOPC X",
+        b"X BSS 256",
+        b"\tUSE 3,17\t* COMMENT",
+        b" WORDS 3,17",
+        b" WORDS 3,17,377",
+        b" ORG 3,17,1,377",
+        b" CODE 5",
+        b"* OCT 8",
+    ];
+    for line in legal {
+        assert_eq!(rt; fault_in(rt.alloc(), b" WORDS 0,01\n", line)?, None);
     }
-    let line = b"A2345678 CLA A2345678+007 COMMENT \xff";
-    same(&rt, fault_in(alloc, b" CODE\n", line)?, None);
-    let found = fault(alloc, b"* \xff\n NOP\n")?;
-    same(&rt, found, Some(SourceFault::UnknownOperation(2)));
+    Ok(())
+}
+
+#[test]
+fn each_directive_refuses_other_operands(rt: HostRuntime) -> Result<(), Fail> {
+    let wrong: [&[u8]; 8] = [
+        b" BSS 0",
+        b" BSS 257",
+        b" USE 4,00",
+        b" WORDS 0",
+        b" WORDS 0,20",
+        b" WORDS 0,01,400",
+        b" ORG 0,00,2,000",
+        b" ORG 0,00,0",
+    ];
+    let refusal = Some(SourceFault::BadDirective(2));
+    for line in wrong {
+        assert_eq!(rt; fault_in(rt.alloc(), b" WORDS 0,01\n", line)?, refusal);
+    }
+    Ok(())
+}
+
+#[test]
+fn each_refusal_names_its_line(rt: HostRuntime) -> Result<(), Fail> {
+    let table: [(&[u8], SourceFault); 10] = [
+        (b" CODE\n EXM 000\n END\n", SourceFault::ExecuteModified(2)),
+        (b"A12345678 EXM\n", SourceFault::BadLabel(1)),
+        (b"X USE 0,01\n", SourceFault::BadLabel(1)),
+        (b"X\n", SourceFault::UnknownOperation(1)),
+        (b"* \xff\n NOP\n", SourceFault::UnknownOperation(2)),
+        (b" CLA\n", SourceFault::BadDirective(1)),
+        (b" CODE\n DEC\n", SourceFault::BadDirective(2)),
+        (b" WORDS 0,01\n DEC\n", SourceFault::BadOperand(2)),
+        (b" CODE\n\n", SourceFault::MissingEnd(3)),
+        (b" END\n\n* END\n END\n", SourceFault::AfterEnd(4)),
+    ];
+    for (text, refusal) in table {
+        assert_eq!(rt; fault(rt.alloc(), text)?, Some(refusal));
+    }
     Ok(())
 }
 
@@ -278,12 +247,17 @@ fn comment_of(alloc: Global, bytes: usize) -> Result<Vec<u8>, Fail> {
 #[test]
 fn a_line_of_120_bytes_is_read_and_one_of_121_is_not(rt: HostRuntime) -> Result<(), Fail> {
     let alloc = rt.alloc();
-    same(&rt, fault_in(alloc, b"", &comment_of(alloc, 120)?)?, None);
+    let longest = comment_of(alloc, 120)?;
+    assert_eq!(rt; fault_in(alloc, b"", &longest)?, None);
     let long = comment_of(alloc, 121)?;
-    let found = fault_in(alloc, b"", &long)?;
-    same(&rt, found, Some(SourceFault::LineTooLong(1)));
-    let found = fault_in(alloc, b" END\n", &long)?;
-    same(&rt, found, Some(SourceFault::LineTooLong(2)));
+    assert_eq!(rt;
+        fault_in(alloc, b"", &long)?,
+        Some(SourceFault::LineTooLong(1))
+    );
+    assert_eq!(rt;
+        fault_in(alloc, b" END\n", &long)?,
+        Some(SourceFault::LineTooLong(2))
+    );
     Ok(())
 }
 
@@ -296,11 +270,12 @@ fn a_source_of_100_000_lines_is_read(rt: HostRuntime) -> Result<(), Fail> {
     }
     text.extend_from_slice(b" END\n")?;
     let program = read(rt.alloc(), &text)?.ok().ok_or("a program")?;
-    same(&rt, program.items().len(), 100_001);
-    holds(&rt, is_name(b"A") && is_name(b"Z9876543"));
-    holds(
-        &rt,
-        !is_name(b"") && !is_name(b"A12345678") && !is_name(b"9A") && !is_name(b"Aa"),
-    );
+    assert_eq!(rt; program.items().len(), 100_001);
     Ok(())
+}
+
+#[test]
+fn a_name_has_one_to_eight_characters(rt: HostRuntime) {
+    assert!(rt; is_name(b"A") && is_name(b"Z9876543"));
+    assert!(rt; !is_name(b"") && !is_name(b"A12345678") && !is_name(b"9A") && !is_name(b"Aa"));
 }
