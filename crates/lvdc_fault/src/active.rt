@@ -127,7 +127,7 @@ fn order_of(alloc: Global, script: &Script) -> Result<Vec<Start>, NoMemory>
     Ok(order)
 }
 
-/// Keeps the positions of the events that are active at the step. It stands for its clauses alone, which proofs cite.
+/// Keeps the positions of the events that are active at the step.
 fn retain_active(script: &Script, step: u64, held: &mut SmallVec<usize, 8>)
     ensures items { held.new.items ≡ filter (is_active_at script.now step) held.old.items }
     ensures capacity { held.new.capacity ≡ held.old.capacity }

@@ -18,9 +18,10 @@ use Rattle.lvdc_machine.specs.View.{bus_of_votes, end_seen}
 abbrev pub KnowsWrong : List Event → Option ℕ → Option ℕ → Type 0
 KnowsWrong script last wrong = IfSome last (λ step. wrong ≡ wrong_module script step)
 
--- the script is in range, what is in force fits it and the module known as wrong is its, and there is room for what may still come; the log of a machine with the room
--- of its mode is of its own steps alone; a machine with room by times judges, and one that judges has phases that go with the
--- steps; the bus is that of the votes, and where no end has come they are against a stop; and what is noted is of steps that were made
+-- the script is in range, what is in force fits it, the module known as wrong is that of the step in force, and there is room for
+-- what may still come; the log of a machine with the room of its mode is of its own steps alone; a machine with room by times
+-- judges, and one that judges has phases that go with the steps; the bus is that of the votes, and where no end has come they are
+-- against a stop; and what is noted is of steps that were made
 pub record IsSound (m : Inside) : Type 0 where
   pub events : All IsEvent m.script
   pub fits : Fits m.script m.active

@@ -45,21 +45,18 @@ impl PortRequest {
     }
 }
 
-/// Does the device stand at this port? It stands for its clause alone, which proofs cite.
 fn is_at(device: &Box<dyn PortDevice>, port: u8) -> bool
     ensures { IsTrue result ↔ ((device_of device.now).port ≡ port) }
 {
     device.port() == port
 }
 
-/// How often the device has failed. It stands for its clause alone, which proofs cite.
 fn faults_of(device: &Box<dyn PortDevice>) -> u64
     ensures { result ≡ faults device.now }
 {
     device.faults()
 }
 
-/// Makes room for so many writes. It stands for its clauses alone, which proofs cite.
 fn prepare(device: &mut Box<dyn PortDevice>, writes: u64) -> Result<(), NoMemory>
     ensures ok { OnOk result (writes ≤ spare device.new) }
     ensures device { device_of device.new ≡ device_of device.old }

@@ -8,14 +8,12 @@ use crate::device::{Kind, PortDevice};
 use crate::requests::{Supply, place_of};
 use lvdc_word::{NoMemory, Word};
 
-/// The kind of the device. It stands for its clause alone, which proofs cite.
 fn kind_of(device: &Box<dyn PortDevice>) -> Kind
     ensures { result ≡ (device_of device.now).kind }
 {
     device.kind()
 }
 
-/// Supplies one word. It stands for its clauses alone, which proofs cite.
 fn supply_word(device: &mut Box<dyn PortDevice>, word: Word) -> Result<(), NoMemory>
     ensures ok { OnOk result (device_of device.new ≡ after_supply (device_of device.old) word) }
     ensures err { OnErr result (device_of device.new ≡ device_of device.old) }
