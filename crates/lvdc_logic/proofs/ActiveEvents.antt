@@ -1,4 +1,4 @@
--- What the active events of a script do to a copy, and that there is room to list it.
+-- What the active events of a script do to a copy.
 use Rattle.std.proofs.Common.{◌≡◌, ℕ, zero, suc, ◌+◌, ◌≤◌, ◌<◌, Bool, true, false, cond, ◌&&◌, ◌||◌, ◌==◌, if◌then◌else◌, List, [], ◌∷◌, ◌++◌, length, filter, refl, sym, ◌∙◌, ap, subst, arith, length-append, append-nil, Option, Some, take, slice_index_or}
 use Rattle.std.specs.Prelude.{slice_get, slice_index, All, flat_map, option_to_list}
 use Rattle.std.specs.List.{list_any}
@@ -57,56 +57,9 @@ pub event_here : (script actives : List Event) (active positions : List ℕ) (i 
 event_here script actives active positions i e same at =
     subst (λ ps. i < length ps → slice_get script (slice_index_or ps i 0) ≡ Some e → slice_get actives i ≡ Some e) (sym same) (λ h here. at i h ∙ here)
 
--- what the events do up to this one
-flat_map_next : (f : Event → List Hurt) (es : List Event) (i : ℕ) (e : Event) → slice_get es i ≡ Some e → flat_map f (take (i + 1) es) ≡ flat_map f (take i es) ++ f e
-flat_map_next f es i e h =
-    rw (take_more es i e (slice_get_within es i e h), get_or_from_slice_get es i e e h, flat_map-append f (take i es) (e ∷ []), append-nil (f e)) refl
-
--- the list after this one, where what it does was added
-pub listed_next : (f : Event → List Hurt) (es : List Event) (i : ℕ) (e : Event) (had new : List Hurt) (found : Option Hurt) → slice_get es i ≡ Some e → option_to_list found ≡ f e → had ≡ flat_map f (take i es) → new ≡ had ++ option_to_list found
-    → new ≡ flat_map f (take (i + 1) es)
-listed_next f es i e had new found here one before is =
-    is ∙ ap (λ hs. hs ++ option_to_list found) before ∙ ap (λ hs. flat_map f (take i es) ++ hs) one ∙ sym (flat_map_next f es i e here)
-
 -- whether one up to this one passes the test
 pub list_any_next : (p : Event → Bool) (es : List Event) (i : ℕ) (e : Event) → slice_get es i ≡ Some e → list_any p (take (i + 1) es) ≡ (list_any p (take i es) || p e)
 list_any_next p es i e h = rw (list_any_more p es i e (slice_get_within es i e h), get_or_from_slice_get es i e e h) refl
-
--- ---- room
-
--- an event does at most one thing to a copy
-at_most_one : (b : Bool) (hurt : Hurt) → length (if b then hurt ∷ [] else []) ≤ 1
-at_most_one true hurt = omega arith
-at_most_one false hurt = omega arith
-
--- an event hurts a copy once at most
-one_hurt : (step m c : ℕ) (e : Event) → length (hurts_by step m c e) ≤ 1
-one_hurt step m c (Flip number copy first last index mask) = at_most_one (acts_on number copy first last step m c) _
-one_hurt step m c (Force number copy first last index mask value) = at_most_one (acts_on number copy first last step m c) _
-one_hurt step m c (Lag number copy first last) = at_most_one (acts_on number copy first last step m c) _
-one_hurt step m c (Deaf number copy first last) = omega arith
-one_hurt step m c (Damage twin at t mask) = omega arith
-one_hurt step m c (Stick twin at first last mask value) = omega arith
-one_hurt step m c (Dead twin pair first last) = omega arith
-
--- a script does at most as many things to a copy as it has events
-hurts_count : (step m c : ℕ) (es : List Event) → length (hurts_on step m c es) ≤ length es
-hurts_count step m c [] = omega arith
-hurts_count step m c (e ∷ es) =
-    let rest = hurts_count step m c es in
-    let one = one_hurt step m c e in
-    rw (length-append (hurts_by step m c e) (hurts_on step m c es)) (omega (arith, rest, one))
-
--- where one more of the active events does something, there is room for it
-pub room_left : (script : List Event) (step m c i capacity : ℕ) (e : Event) (hurt : Hurt) → slice_get (active_events script step) i ≡ Some e → hurts_by step m c e ≡ hurt ∷ [] → length script ≤ capacity
-    → length (flat_map (hurts_by step m c) (take i (active_events script step))) + 1 ≤ capacity
-room_left script step m c i capacity e hurt here one room =
-    let actives = active_events script step in
-    let part = length-flat_map-take (hurts_by step m c) actives i e (slice_get_within actives i e here) in
-    let last = ap length (ap (hurts_by step m c) (get_or_from_slice_get actives i e e here) ∙ one) in
-    let all = ap length (hurts_active step m c script) in
-    let few = hurts_count step m c script in
-    omega (arith, part, last, all, few, room)
 
 -- ---- each of them names a latch of its module
 
@@ -146,3 +99,21 @@ hurts_fit step m c (e ∷ es) are =
     All-append (FitsLatches (latches_of m)) (hurts_by step m c e) (hurts_on step m c es)
     (hurt_fits step m c e (are 0 e (omega arith)))
     (hurts_fit step m c es (λ k d h. are (suc k) d (omega (arith, h))))
+
+-- ---- from one step to the next
+
+-- an event that is active at both or at neither hurts a copy at both or at neither
+hurt_stays : (before m c : ℕ) (e : Event) → is_active (before + 1) e ≡ is_active before e → hurts_by (before + 1) m c e ≡ hurts_by before m c e
+hurt_stays before m c (Flip number copy first last index mask) h = rw h refl
+hurt_stays before m c (Force number copy first last index mask value) h = rw h refl
+hurt_stays before m c (Lag number copy first last) h = rw h refl
+hurt_stays before m c (Deaf number copy first last) h = refl
+hurt_stays before m c (Damage twin at t mask) h = refl
+hurt_stays before m c (Stick twin at first last mask value) h = refl
+hurt_stays before m c (Dead twin pair first last) h = refl
+
+-- so do all of them
+pub hurts_stay : (before m c : ℕ) (es : List Event) → All (λ e. is_active (before + 1) e ≡ is_active before e) es → hurts_on (before + 1) m c es ≡ hurts_on before m c es
+hurts_stay before m c [] each = refl
+hurts_stay before m c (e ∷ es) each =
+    rw (hurt_stays before m c e (each 0 e (omega arith)), hurts_stay before m c es (λ k d h. each (suc k) d (omega (arith, h)))) refl

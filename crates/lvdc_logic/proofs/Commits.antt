@@ -41,26 +41,31 @@ stepped : (hit : Bool) (t : Copies) (order : List ℕ) (first : ℕ) (words : �
 stepped true t order first words next three all h latched once = committed t order first words all h ∙ latched
 stepped false t order first words next three all h latched once = once refl
 
+-- three copies that latch the same words
+three_are : (words others : ℕ → List ℕ) (first : ℕ) → ((n : ℕ) → n < 21 → words n ≡ others n) → first + 2 < 21
+    → settled (words first) (words (first + 1)) (words (first + 2)) ≡ settled (others first) (others (first + 1)) (others (first + 2))
+three_are words others first are h = rw (are first (omega (arith, h)), are (first + 1) (omega (arith, h)), are (first + 2) h) refl
+
 -- the commit leaves the copies of the next step
-pub steps_are : (script : List Event) (step : ℕ) (t : Triples) (hit : HitModules) (order : List ℕ) (voted : Bus) → NamesAll order → ((k : ℕ) → k < 7 → is_hit hit k ≡ false → IsUntouched script step (k + 1))
-    → copies_in (after_steps (after_numbers t hit order (new_latches script step t voted)) hit voted) ≡ next_copies script step 1 rows (copies_in t) (copies_in t) voted
+pub steps_are : (script : List Event) (step : ℕ) (t : Triples) (hit : HitModules) (order : List ℕ) (voted : Bus) (words : ℕ → List ℕ)
+    → ((n : ℕ) → n < 21 → words n ≡ new_latches script step t voted n) → NamesAll order → ((k : ℕ) → k < 7 → is_hit hit k ≡ false → IsUntouched script step (k + 1))
+    → copies_in (after_steps (after_numbers t hit order words) hit voted) ≡ next_copies script step 1 rows (copies_in t) (copies_in t) voted
 unfolding new_latches
-steps_are script step t hit order voted all others =
-    let words = new_latches script step t voted in
+steps_are script step t hit order voted words are all others =
     rw (
-      stepped hit.timer t.timer order 0 words (timer_row voted) (next_three script step 1 timer_row t.timer (copies_in t) voted) all (omega arith) refl
+      stepped hit.timer t.timer order 0 words (timer_row voted) (next_three script step 1 timer_row t.timer (copies_in t) voted) all (omega arith) (three_are words (new_latches script step t voted) 0 are (omega arith))
           (λ h. untouched_three script step 1 timer_row t.timer (copies_in t) voted (others 0 (omega arith) h)),
-      stepped hit.locator t.locator order 3 words (locator_row voted) (next_three script step 2 locator_row t.locator (copies_in t) voted) all (omega arith) refl
+      stepped hit.locator t.locator order 3 words (locator_row voted) (next_three script step 2 locator_row t.locator (copies_in t) voted) all (omega arith) (three_are words (new_latches script step t voted) 3 are (omega arith))
           (λ h. untouched_three script step 2 locator_row t.locator (copies_in t) voted (others 1 (omega arith) h)),
-      stepped hit.decoder t.decoder order 6 words (decoder_row voted) (next_three script step 3 decoder_row t.decoder (copies_in t) voted) all (omega arith) refl
+      stepped hit.decoder t.decoder order 6 words (decoder_row voted) (next_three script step 3 decoder_row t.decoder (copies_in t) voted) all (omega arith) (three_are words (new_latches script step t voted) 6 are (omega arith))
           (λ h. untouched_three script step 3 decoder_row t.decoder (copies_in t) voted (others 2 (omega arith) h)),
-      stepped hit.selector t.selector order 9 words (selector_row voted) (next_three script step 4 selector_row t.selector (copies_in t) voted) all (omega arith) refl
+      stepped hit.selector t.selector order 9 words (selector_row voted) (next_three script step 4 selector_row t.selector (copies_in t) voted) all (omega arith) (three_are words (new_latches script step t voted) 9 are (omega arith))
           (λ h. untouched_three script step 4 selector_row t.selector (copies_in t) voted (others 3 (omega arith) h)),
-      stepped hit.accumulator t.accumulator order 12 words (accumulator_row voted) (next_three script step 5 accumulator_row t.accumulator (copies_in t) voted) all (omega arith) refl
+      stepped hit.accumulator t.accumulator order 12 words (accumulator_row voted) (next_three script step 5 accumulator_row t.accumulator (copies_in t) voted) all (omega arith) (three_are words (new_latches script step t voted) 12 are (omega arith))
           (λ h. untouched_three script step 5 accumulator_row t.accumulator (copies_in t) voted (others 4 (omega arith) h)),
-      stepped hit.multiplier t.multiplier order 15 words (multiplier_row voted) (next_three script step 6 multiplier_row t.multiplier (copies_in t) voted) all (omega arith) refl
+      stepped hit.multiplier t.multiplier order 15 words (multiplier_row voted) (next_three script step 6 multiplier_row t.multiplier (copies_in t) voted) all (omega arith) (three_are words (new_latches script step t voted) 15 are (omega arith))
           (λ h. untouched_three script step 6 multiplier_row t.multiplier (copies_in t) voted (others 5 (omega arith) h)),
-      stepped hit.exchange t.exchange order 18 words (exchange_row voted) (next_three script step 7 exchange_row t.exchange (copies_in t) voted) all (omega arith) refl
+      stepped hit.exchange t.exchange order 18 words (exchange_row voted) (next_three script step 7 exchange_row t.exchange (copies_in t) voted) all (omega arith) (three_are words (new_latches script step t voted) 18 are (omega arith))
           (λ h. untouched_three script step 7 exchange_row t.exchange (copies_in t) voted (others 6 (omega arith) h)),
     ) refl
 

@@ -1,5 +1,5 @@
 -- How far counts rise in a step.
-use Rattle.std.proofs.Common.{◌≡◌, ℕ, zero, suc, ◌+◌, ◌-◌, ◌≤◌, Bool, true, false, not, ◌&&◌, List, [], ◌∷◌, length, refl, add-zero, subst, arith}
+use Rattle.std.proofs.Common.{replicate, ◌≡◌, ℕ, zero, suc, ◌+◌, ◌-◌, ◌≤◌, Bool, true, false, not, ◌&&◌, List, [], ◌∷◌, length, refl, add-zero, subst, arith}
 use Rattle.std.specs.Prelude.{slice_index, slice_index_or}
 use Rattle.std.proofs.lemmas.Bool.{false≢true}
 use Rattle.lvdc_word.specs.Word.{bit_of}
@@ -54,3 +54,15 @@ unanimous_counted t [] size h = absurd (omega (arith, size))
 unanimous_counted t (a ∷ []) size h = absurd (omega (arith, size))
 unanimous_counted t (a ∷ b ∷ []) size h = absurd (omega (arith, size))
 unanimous_counted t (a ∷ b ∷ c ∷ d ∷ counts) size h = absurd (omega (arith, size))
+
+-- no copy that has not differed
+zero_at : (k : ℕ) → slice_index (0 ∷ 0 ∷ 0 ∷ []) k ≤ 0
+zero_at zero = omega arith
+zero_at (suc zero) = omega arith
+zero_at (suc (suc zero)) = omega arith
+zero_at (suc (suc (suc k))) = omega arith
+
+pub none_differed : (modules i k : ℕ) → slice_index (slice_index_or (replicate modules (0 ∷ 0 ∷ 0 ∷ [])) i []) k ≤ 0
+none_differed zero i k = omega arith
+none_differed (suc modules) zero k = zero_at k
+none_differed (suc modules) (suc i) k = none_differed modules i k

@@ -1,7 +1,9 @@
 pub mod ActiveEvents
 pub mod Untouched
+pub mod ActiveFaults
 pub mod Differing
 pub mod Listed
 pub mod Numbers
+pub mod Under
 pub mod Commits
 mod Rows

@@ -9,8 +9,10 @@ use Rattle.lvdc_modules.specs.declared.bus.Bus.{Bus}
 use Rattle.lvdc_model.specs.Voted.{inputs}
 use Rattle.lvdc_logic.specs.Seven.{of_seven}
 use Rattle.lvdc_logic.specs.HitModules.{is_hit}
+use Rattle.lvdc_logic.specs.InForce.{latched_under}
 use Rattle.lvdc_logic.specs.Latching.{copies_in, list_if, latched_at, after_number, after_numbers, triple_in, AllFresh}
 use Rattle.lvdc_logic.specs.declared.hit_modules.HitModules.{HitModules}
+use Rattle.lvdc_logic.specs.declared.in_force.Faults.{Faults}
 
 -- a fact of each of seven modules
 pub seven : (P : ℕ → Type 0) → P 0 → P 1 → P 2 → P 3 → P 4 → P 5 → P 6 → (k : ℕ) → k < 7 → P k
@@ -117,6 +119,11 @@ numbers_fresh t hit order i n words fresh once within at below =
     (n / 3) (omega arith) refl
 
 -- what a copy reads stays while others latch
-pub inputs_stay : (deaf : Bool) (t : Triples) (hit : HitModules) (order : List ℕ) (words : ℕ → List ℕ) (c : ℕ) (voted : Bus) → inputs deaf (copies_in (after_numbers t hit order words)) c voted ≡ inputs deaf (copies_in t) c voted
+inputs_stay : (deaf : Bool) (t : Triples) (hit : HitModules) (order : List ℕ) (words : ℕ → List ℕ) (c : ℕ) (voted : Bus) → inputs deaf (copies_in (after_numbers t hit order words)) c voted ≡ inputs deaf (copies_in t) c voted
 inputs_stay true t hit order words c voted = refl
 inputs_stay false t hit order words c voted = refl
+
+-- so does what it latches
+pub latched_stays : (f : Faults) (t : Triples) (hit : HitModules) (order : List ℕ) (words : ℕ → List ℕ) (voted : Bus) (n : ℕ) → latched_under f (after_numbers t hit order words) voted n ≡ latched_under f t voted n
+unfolding latched_under
+latched_stays f t hit order words voted n = rw (inputs_stay f.deaf t hit order words (n % 3 + 1) voted) refl

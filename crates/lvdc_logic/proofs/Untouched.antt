@@ -68,16 +68,3 @@ unnamed_untouched script step m same h =
       heard = λ c. sym (same c) ∙ unnamed_hears step m c (active_events script step) h;
       unhurt = λ c. unnamed_unhurt step m c script h;
     }
-
--- the modules that the events up to this one name
-pub hit_next : (es : List Event) (i : ℕ) (e : Event) → slice_get es i ≡ Some e → hit_and (hit_by (take i es)) e ≡ hit_by (take (i + 1) es)
-hit_next es i e here = λ k.
-    record {
-      timer = sym (list_any_next (names 1) es i e here) k;
-      locator = sym (list_any_next (names 2) es i e here) k;
-      decoder = sym (list_any_next (names 3) es i e here) k;
-      selector = sym (list_any_next (names 4) es i e here) k;
-      accumulator = sym (list_any_next (names 5) es i e here) k;
-      multiplier = sym (list_any_next (names 6) es i e here) k;
-      exchange = sym (list_any_next (names 7) es i e here) k;
-    }

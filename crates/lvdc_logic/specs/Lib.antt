@@ -1,5 +1,6 @@
 pub mod Counts
 pub mod HitModules
+pub mod InForce
 pub mod Latching
 pub mod Listing
 pub mod Logic

@@ -2,12 +2,10 @@
 use Rattle.std.specs.Prelude.{ℕ, ◌-◌, ◌≤◌, List, [], slice_index, slice_index_or}
 use Rattle.lvdc_vote.specs.Copies.{Copies, settled, copy_of}
 
--- the copies of the seven modules in order, of each copy how often it differed from the vote, and how many hurts of one copy
--- there is room for
+-- the copies of the seven modules in order, and of each copy how often it differed from the vote
 pub record LogicState : Type 0 where
   pub copies : List Copies
   pub counts : List (List ℕ)
-  pub room : ℕ
 
 -- the copies of a module, by its number from 1
 abbrev pub copies_at : List Copies → ℕ → Copies

@@ -1,8 +1,7 @@
-ghost use Rattle.std.specs.Prelude.{◌≡◌, ℕ, ◌+◌, ◌<◌, true, false, []};
-ghost use Rattle.lvdc_fault.specs.Script.{active_at, active_events};
-ghost use Rattle.lvdc_logic.specs.HitModules.{names, hit_and, hit_by, is_hit, IsUntouched};
+ghost use Rattle.std.specs.Prelude.{◌≡◌, true, []};
+ghost use Rattle.lvdc_logic.specs.HitModules.{names, hit_and, hit_by, is_hit};
 
-use lvdc_fault::{Active, Event, Script, active_suffice};
+use lvdc_fault::Event;
 
 /// Which modules have a copy that an active event names. The copies of every other module latch the same.
 #[derive(Clone, Copy, Debug)]
@@ -18,7 +17,7 @@ pub struct HitModules {
 
 impl HitModules {
     /// No module.
-    fn none() -> HitModules
+    pub fn none() -> HitModules
         ensures { result ≡ hit_by [] }
     {
         HitModules {
@@ -32,22 +31,8 @@ impl HitModules {
         }
     }
 
-    /// Those that the active events name. What the script does in the step it does to their copies alone.
-    pub fn of_active(script: &Script, active: &Active, step: u64) -> HitModules
-        requires { active.now.held ≡ active_at script.now step }
-        ensures value { result ≡ hit_by (active_events script.now step) }
-        ensures others { (k : ℕ) → k < 7 → is_hit result k ≡ false → IsUntouched script.now step (k + 1) }
-    {
-        active_suffice(script, step);
-        let mut hit = HitModules::none();
-        for position in active.positions() {
-            hit = hit.and(script.event(*position));
-        }
-        hit
-    }
-
     /// These, and that which the event names.
-    fn and(self, event: &Event) -> HitModules
+    pub fn and(self, event: &Event) -> HitModules
         ensures { result ≡ hit_and self event.now }
     {
         HitModules {

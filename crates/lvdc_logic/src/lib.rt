@@ -4,9 +4,10 @@
 
 mod counts;
 mod hit_modules;
-mod hits;
+mod in_force;
 mod listing;
 mod logic;
 mod triples;
 
+pub use in_force::{Faults, InForce, in_force_stays};
 pub use logic::Logic;

@@ -16,30 +16,22 @@ use lvdc_modules::{
 };
 use lvdc_vote::Triple;
 use lvdc_word::{NoMemory, Word};
-use smallvec::SmallVec;
 use std::alloc::Global;
 
 impl Logic {
     /// The logic whose copies have these 45 latches, by module, copy and index, and differed so often, which are 21 counts by
-    /// module and copy, with room for what so many events do to one copy.
-    pub fn from_latches(
-        alloc: Global,
-        latches: &[Word],
-        counts: &[u64],
-        events: usize,
-    ) -> Result<Logic, NoMemory>
+    /// module and copy.
+    pub fn from_latches(latches: &[Word], counts: &[u64]) -> Logic
         requires latches { length latches.now ≡ 45 }
         requires counts { length counts.now ≡ 21 }
-        ensures copies { IfOk result (λ l. l.copies ≡ copies_of latches.now) }
-        ensures counts { IfOk result (λ l. l.counts ≡ counts_of counts.now) }
-        ensures differed { (most : ℕ) → All (λ count. count ≤ most) counts.now → IfOk result (λ l. DifferedAtMost most l.counts) }
-        ensures room { IfOk result (λ l. events ≤ l.room) }
+        ensures copies { result.copies ≡ copies_of latches.now }
+        ensures counts { result.counts ≡ counts_of counts.now }
+        ensures differed { (most : ℕ) → All (λ count. count ≤ most) counts.now → DifferedAtMost most result.counts }
     {
-        Ok(Logic {
+        Logic {
             triples: triples_of(latches),
             counts: counts_of(counts),
-            hurts: SmallVec::with_capacity(alloc, events)?,
-        })
+        }
     }
 
     /// The 45 latches, by module, copy and index.

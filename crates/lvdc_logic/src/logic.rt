@@ -1,32 +1,31 @@
-ghost use Rattle.std.specs.Prelude.{◌≡◌, ◌+◌, ◌≤◌, ◌<◌, ◌^◌, [], ◌∷◌, All, IfOk, length, map, replicate};
+ghost use Rattle.std.specs.Prelude.{◌≡◌, ℕ, ◌+◌, ◌≤◌, ◌<◌, ◌^◌, [], ◌∷◌, All, List, map, replicate};
 ghost use Rattle.lvdc_vote.specs.Copies.{vote_of};
 ghost use Rattle.lvdc_modules.specs.Rows.{rows, bus_of, start_latches};
 ghost use Rattle.lvdc_modules.specs.States.{latches_of};
 ghost use Rattle.lvdc_fault.specs.Script.{active_at};
+ghost use Rattle.lvdc_fault.specs.declared.event.Event.{Event};
 ghost use Rattle.lvdc_model.specs.Voted.{next_copies, counted, thrice};
 ghost use Rattle.lvdc_orders.specs.Events.{IsEvent};
+ghost use Rattle.lvdc_logic.specs.InForce.{IsInForce};
 ghost use Rattle.lvdc_logic.specs.Logic.{latch_of, count_of, DifferedAtMost};
 
 use crate::counts::Counts;
-use crate::hit_modules::HitModules;
+use crate::in_force::InForce;
 use crate::triples::Triples;
 use lvdc_fault::{Active, Script};
 use lvdc_map::Hop;
 use lvdc_modules::Bus;
 use lvdc_orders::Order;
-use lvdc_vote::Hurt;
-use lvdc_word::{NoMemory, Word};
-use smallvec::SmallVec;
-use std::alloc::Global;
+use lvdc_vote::harm_suffices;
+use lvdc_word::Word;
 use std::marker::Model;
 
 /// Three copies of each of the seven modules, and of each copy in how many steps it differed from the vote. Contracts see
-/// the lists of both, and the room for what is wrong with one copy.
+/// the lists of both.
 #[derive(Drop)]
 pub struct Logic {
     pub(crate) triples: Triples,
     pub(crate) counts: Counts,
-    pub(crate) hurts: SmallVec<Hurt, 8>,
 }
 
 impl Model for Logic {
@@ -36,24 +35,22 @@ impl Model for Logic {
 
     ghost Value = { LogicState };
 
-    ghost view = { λ l. record { copies = copies_in l.triples; counts = counts_in l.counts; room = l.hurts.capacity } };
+    ghost view = { λ l. record { copies = copies_in l.triples; counts = counts_in l.counts } };
 
     ghost invariant = { λ l. AllFresh l.triples × AllSized l.triples };
 }
 
 impl Logic {
-    /// The logic at a start: equal copies, of which none has differed, with room for what so many events do to one copy.
-    pub fn new(alloc: Global, start: Hop, events: usize) -> Result<Logic, NoMemory>
-        ensures copies { IfOk result (λ l. l.copies ≡ map thrice (start_latches start)) }
-        ensures counts { IfOk result (λ l. l.counts ≡ replicate 7 (0 ∷ 0 ∷ 0 ∷ [])) }
-        ensures differed { IfOk result (λ l. DifferedAtMost 0 l.counts) }
-        ensures room { IfOk result (λ l. events ≤ l.room) }
+    /// The logic at a start: equal copies, of which none has differed.
+    pub fn new(start: Hop) -> Logic
+        ensures copies { result.copies ≡ map thrice (start_latches start) }
+        ensures counts { result.counts ≡ replicate 7 (0 ∷ 0 ∷ 0 ∷ []) }
+        ensures differed { DifferedAtMost 0 result.counts }
     {
-        Ok(Logic {
+        Logic {
             triples: Triples::new(start),
             counts: Counts::none(),
-            hurts: SmallVec::with_capacity(alloc, events)?,
-        })
+        }
     }
 
     /// The votes, with these words from memory and port.
@@ -69,18 +66,27 @@ impl Logic {
     pub fn step(&mut self, order: &Order, script: &Script, active: &Active, step: u64, voted: &Bus)
         requires active { active.now.held ≡ active_at script.now step }
         requires events { All IsEvent script.now }
-        requires room { length script.now ≤ self.old.room }
         requires differed { DifferedAtMost step self.old.counts }
         requires bound { step < 2 ^ 63 }
         ensures copies { self.new.copies ≡ next_copies script.now step 1 rows self.old.copies self.old.copies voted.now }
         ensures counts { self.new.counts ≡ counted self.new.copies self.old.counts }
         ensures differed { DifferedAtMost (step + 1) self.new.counts }
-        ensures room { self.new.room ≡ self.old.room }
     {
-        let hit = HitModules::of_active(script, active, step);
-        self.triples
-            .latch_all(order, &mut self.hurts, script, active, step, voted, hit);
-        self.triples.commit(hit, voted);
+        let force = InForce::of_active(script, active, step);
+        self.step_under(order, &force, voted);
+    }
+
+    /// Makes a step with this in force. It is the step of each script that puts it in force.
+    pub fn step_under(&mut self, order: &Order, force: &InForce, voted: &Bus)
+        requires differed { DifferedAtMost (2 ^ 63) self.old.counts }
+        ensures copies { (script : List Event) (step : ℕ) → All IsEvent script → IsInForce script step force.now
+            → self.new.copies ≡ next_copies script step 1 rows self.old.copies self.old.copies voted.now }
+        ensures counts { self.new.counts ≡ counted self.new.copies self.old.counts }
+        ensures differed { (most : ℕ) → DifferedAtMost most self.old.counts → DifferedAtMost (most + 1) self.new.counts }
+    {
+        harm_suffices();
+        self.triples.latch_all(order, force, voted);
+        self.triples.commit(force.hit, voted);
         self.counts.count(&self.triples);
     }
 

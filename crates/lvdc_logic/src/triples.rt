@@ -1,16 +1,13 @@
-ghost use Rattle.std.specs.Prelude.{◌≡◌, ◌<◌, ◌+◌, ◌/◌, ◌%◌, ◌≤◌, All, None, true, length, map};
+ghost use Rattle.std.specs.Prelude.{◌≡◌, ◌<◌, ◌+◌, ◌/◌, ◌%◌, None, true, map};
 ghost use Rattle.lvdc_vote.specs.Copies.{copy_of, shadow_of, vote_of, IsFullOrder, IsSized};
-ghost use Rattle.lvdc_vote.specs.Latches.{latched_by, FitsLatches};
+ghost use Rattle.lvdc_vote.specs.Harms.{harmed};
 ghost use Rattle.lvdc_modules.specs.Rows.{bus_of, start_latches};
-ghost use Rattle.lvdc_modules.specs.States.{latches_of};
-ghost use Rattle.lvdc_fault.specs.Script.{active_at};
-ghost use Rattle.lvdc_model.specs.Voted.{inputs, thrice};
-ghost use Rattle.lvdc_orders.specs.Events.{IsEvent};
-ghost use Rattle.lvdc_logic.specs.Latching.{copies_in, row_of, latches_in, triple_in, new_latches, after_number, after_numbers, after_step, after_steps, AllFresh, AllLatched, AllSized, HasLatched};
+ghost use Rattle.lvdc_model.specs.Voted.{thrice};
+ghost use Rattle.lvdc_logic.specs.InForce.{faults_at, latched_under};
+ghost use Rattle.lvdc_logic.specs.Latching.{copies_in, row_of, latches_in, triple_in, after_number, after_numbers, after_step, after_steps, AllFresh, AllLatched, AllSized, HasLatched};
 
 use crate::hit_modules::HitModules;
-use crate::hits::{Turn, is_deaf, list_hurts};
-use lvdc_fault::{Active, Script};
+use crate::in_force::{Faults, InForce};
 use lvdc_map::Hop;
 use lvdc_modules::{
     Accumulator, AccumulatorState, Bus, Decoder, DecoderState, ExchangeState, Exchanger, Locator,
@@ -18,9 +15,8 @@ use lvdc_modules::{
     data_word, place_word,
 };
 use lvdc_orders::Order;
-use lvdc_vote::{Hurt, LogicModule, Triple};
+use lvdc_vote::{Harm, LogicModule, Triple};
 use lvdc_word::Word;
-use smallvec::SmallVec;
 
 /// Three copies of each module, and what each has latched.
 #[derive(Drop)]
@@ -108,67 +104,54 @@ impl Triples {
         }
     }
 
-    /// What a copy reads: the votes, or where it is deaf the copies of its own number, 0 to 2.
-    fn heard_by(&self, deaf: bool, copy: u8, voted: &Bus) -> Bus
-        requires { copy < 3 }
-        ensures { result ≡ inputs deaf (copies_in self.now) (copy + 1) voted.now }
+    /// Copy `number % 3` of module `number / 3`, both counted from 0, latches, from the votes, or where it is deaf from the copies
+    /// of its own number.
+    fn latch_next(&mut self, number: u8, faults: &Faults, voted: &Bus)
+        requires number { number < 21 }
+        requires fresh { shadow_of (triple_in self.old number) (number % 3) ≡ None }
+        ensures { self.new ≡ after_number self.old number (latched_under faults.now self.old voted.now number) }
     {
-        if deaf {
-            self.copied_bus(copy, voted.memory, voted.port)
+        if faults.deaf {
+            let heard = self.copied_bus(number % 3, voted.memory, voted.port);
+            self.latch(number, &heard, &faults.harm);
         } else {
-            *voted
+            self.latch(number, voted, &faults.harm);
         }
     }
 
-    /// Copy `number % 3` of module `number / 3`, both counted from 0, latches.
-    fn latch(&mut self, number: u8, bus: &Bus, hurts: &[Hurt])
+    /// The same copy latches from this bus.
+    fn latch(&mut self, number: u8, bus: &Bus, harm: &Harm)
         requires number { number < 21 }
         requires fresh { shadow_of (triple_in self.old number) (number % 3) ≡ None }
-        requires within { All (FitsLatches (latches_of (number / 3 + 1))) hurts.now }
-        ensures { self.new ≡ after_number self.old number (latched_by (latches_in self.old number) (row_of (number / 3) bus.now) hurts.now) }
+        ensures { self.new ≡ after_number self.old number (harmed (latches_in self.old number) (row_of (number / 3) bus.now) harm.now) }
     {
         let copy = number % 3;
         match number / 3 {
-            0 => self.timer.latch(copy, bus, hurts),
-            1 => self.locator.latch(copy, bus, hurts),
-            2 => self.decoder.latch(copy, bus, hurts),
-            3 => self.selector.latch(copy, bus, hurts),
-            4 => self.accumulator.latch(copy, bus, hurts),
-            5 => self.multiplier.latch(copy, bus, hurts),
-            _ => self.exchange.latch(copy, bus, hurts),
+            0 => self.timer.latch_under(copy, bus, harm),
+            1 => self.locator.latch_under(copy, bus, harm),
+            2 => self.decoder.latch_under(copy, bus, harm),
+            3 => self.selector.latch_under(copy, bus, harm),
+            4 => self.accumulator.latch_under(copy, bus, harm),
+            5 => self.multiplier.latch_under(copy, bus, harm),
+            _ => self.exchange.latch_under(copy, bus, harm),
         }
     }
 
-    /// The copies of the modules that are hit latch in this order, each from what it reads and with what the active events do
-    /// to it. What comes of it doesn't depend on the order. The list of hurts is only a place to put them.
-    pub fn latch_all(
-        &mut self,
-        order: &Order,
-        hurts: &mut SmallVec<Hurt, 8>,
-        script: &Script,
-        active: &Active,
-        step: u64,
-        voted: &Bus,
-        hit: HitModules,
-    )
+    /// The copies of the modules that are hit latch in this order, each with what is in force on it. What comes of it doesn't
+    /// depend on the order.
+    pub fn latch_all(&mut self, order: &Order, force: &InForce, voted: &Bus)
         requires fresh { AllFresh self.old }
-        requires active { active.now.held ≡ active_at script.now step }
-        requires events { All IsEvent script.now }
-        requires room { length script.now ≤ hurts.old.capacity }
-        ensures value { self.new ≡ after_numbers self.old hit order.now (new_latches script.now step self.old voted.now) }
+        ensures value { self.new ≡ after_numbers self.old force.now.hit order.now
+            (λ n. latched_under (faults_at force.now.copies n) self.old voted.now n) }
         ensures full { IsFullOrder 21 order.now }
-        ensures capacity { hurts.new.capacity ≡ hurts.old.capacity }
     {
         let numbers = order.copies();
-        if hit.is_empty() {
+        if force.hit.is_empty() {
             return;
         }
         for number in numbers {
-            if hit.has(*number / 3) {
-                let turn = Turn::of(*number, step);
-                let bus = self.heard_by(is_deaf(script, active, turn), *number % 3, voted);
-                list_hurts(hurts, script, active, turn);
-                self.latch(*number, &bus, hurts.as_slice());
+            if force.hit.has(*number / 3) {
+                self.latch_next(*number, force.on_copy(*number), voted);
             }
         }
     }

@@ -3,3 +3,4 @@ pub mod Latches
 pub mod Copies
 pub mod Differences
 pub mod Calls
+pub mod Harms

@@ -4,6 +4,7 @@
 
 mod bits;
 mod calls;
+mod harm;
 mod hurt;
 mod logic;
 mod order;
@@ -13,6 +14,7 @@ mod whole;
 
 pub use bits::{flipped, forced, majority};
 pub use calls::{Call, answers_agree};
+pub use harm::{Harm, Patch, harm_suffices};
 pub use hurt::{Hurt, latched_state};
 pub use logic::LogicModule;
 pub use order::{Feed, latch_in_order, step_in_order};

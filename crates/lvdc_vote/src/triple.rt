@@ -4,8 +4,10 @@ ghost use Rattle.lvdc_vote.specs.Bits.{TwoAre};
 ghost use Rattle.lvdc_vote.specs.Latches.{latched_by, FitsLatches, IsMajority};
 ghost use Rattle.lvdc_vote.specs.Copies.{settled, copy_of, shadow_of, after_latch, after_commit, vote_of, differs_of, IsSized};
 ghost use Rattle.lvdc_vote.specs.Differences.{kept_of};
+ghost use Rattle.lvdc_vote.specs.Harms.{harmed};
 
-use crate::{Hurt, LogicModule, Vote, latched_state};
+use crate::harm::harmed_state;
+use crate::{Harm, Hurt, LogicModule, Vote, latched_state};
 use lvdc_word::Word;
 use std::marker::Model;
 
@@ -134,6 +136,25 @@ impl<M: LogicModule> Triple<M> {
         ensures { self.new ≡ after_latch self.old copy (latched_by (copy_of self.old copy) (M.next_of bus.now) hurts.now) }
     {
         let shadow = latched_state::<M>(self.copy(copy), bus, hurts);
+        self.put_shadow(copy, shadow);
+    }
+
+    /// The same under what the hurts come to.
+    pub fn latch_under(&mut self, copy: u8, bus: &M::Bus, harm: &Harm)
+        requires copy { copy < 3 }
+        requires fresh { shadow_of self.old copy ≡ None }
+        ensures { self.new ≡ after_latch self.old copy (harmed (copy_of self.old copy) (M.next_of bus.now) harm.now) }
+    {
+        let shadow = harmed_state::<M>(self.copy(copy), bus, harm);
+        self.put_shadow(copy, shadow);
+    }
+
+    /// The copy has latched this state.
+    fn put_shadow(&mut self, copy: u8, shadow: M::State)
+        requires copy { copy < 3 }
+        requires fresh { shadow_of self.old copy ≡ None }
+        ensures { self.new ≡ after_latch self.old copy (M.State.latches shadow) }
+    {
         let first = &mut self.first;
         match copy {
             0 => note(first, &mut self.shadow_one, &mut self.latched_one, shadow),
