@@ -12,7 +12,9 @@ use Rattle.lvdc_model.specs.Exchanges.{damages}
 use Rattle.lvdc_model.specs.Trial.{Trial}
 use Rattle.lvdc_model.specs.Twins.{Twins}
 use Rattle.lvdc_memory.specs.Holds.{Kept, Holds}
-use Rattle.lvdc_machine.specs.Sound.{KnowsWrong}
+use Rattle.lvdc_logic.specs.InForce.{IsInForce}
+use Rattle.lvdc_logic.specs.declared.in_force.InForce.{InForce}
+use Rattle.lvdc_machine.specs.Sound.{KnowsForce, KnowsWrong}
 
 -- by what was in force: a step of the script, or nothing
 released-by : (o : Trial) (old new : Kept) (t : Twins) (i : Memory) (a : Activity) (last : Option ℕ)
@@ -51,6 +53,15 @@ module _ (script : List Event) (steps : ℕ) where
       let here : steps - 1 ≡ before = omega (arith, stays.0) in
       let back : steps - 1 + 1 ≡ steps = omega (arith, stays.0) in
       ap (active_at script) back ∙ stays.1 ∙ ap (active_at script) (sym here)
+
+  -- what is known to be in force stays so
+  pub stays-force : (last : Option ℕ) (force : InForce) → IsSomeAnd last StayedFrom → KnowsForce script last force
+      → (IsInForce script (steps - 1) force → IsInForce script (steps - 1 + 1) force) → KnowsForce script (Some steps) force
+  stays-force None force stays known on = absurd stays
+  stays-force (Some before) force stays known on =
+      let here : steps - 1 ≡ before = omega (arith, stays.0) in
+      let back : steps - 1 + 1 ≡ steps = omega (arith, stays.0) in
+      subst (λ step. IsInForce script step force) back (on (subst (λ step. IsInForce script step force) (sym here) known))
 
   -- the module that is known as wrong stays so
   pub stays-wrong : (last wrong : Option ℕ) → IsSomeAnd last StayedFrom → KnowsWrong script last wrong

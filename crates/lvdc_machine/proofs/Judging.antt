@@ -14,7 +14,9 @@ use Rattle.lvdc_model.specs.Exchanges.{wished}
 use Rattle.lvdc_model.specs.Runs.{own_verdict, own_logic, own_memory, recovers, read_of_wish}
 use Rattle.lvdc_machine.specs.View.{View}
 use Rattle.lvdc_machine.specs.Shows.{Shows}
-use Rattle.lvdc_machine.specs.Sound.{KnowsWrong}
+use Rattle.lvdc_logic.specs.InForce.{IsInForce}
+use Rattle.lvdc_logic.specs.declared.in_force.InForce.{InForce}
+use Rattle.lvdc_machine.specs.Sound.{KnowsForce, KnowsWrong}
 
 -- the module that is found wrong
 pub found-wrong : {o : Trial} {m : View} {ds : List device.Device} {v : Voted} → Shows o m ds v → (n : ℕ)
@@ -37,6 +39,11 @@ found-good o v at e = rw (← e) refl
 -- and where it can't
 pub found-bad : (o : Trial) (v : Voted) (at : Spot) (step : ℕ) → step ≡ v.steps → false ≡ recovers o v at → Memory step at ≡ own_memory o v (Some at)
 found-bad o v at step is e = rw (← e) (ap (λ s. Memory s at) is)
+
+-- what is known to be in force is what the script puts in force in that step
+pub known_force : (script : List Event) (last : Option ℕ) (steps : ℕ) (force : InForce) → KnowsForce script last force → last ≡ Some steps
+    → IsInForce script steps force
+known_force script last steps force known is = subst (λ (l : Option ℕ). KnowsForce script l force) is known
 
 -- the module that is known as wrong is that of the step in force
 pub known_wrong : (script : List Event) (last : Option ℕ) (steps : ℕ) (wrong : Option ℕ) → KnowsWrong script last wrong → last ≡ Some steps

@@ -6,7 +6,9 @@ use Rattle.lvdc_fault.specs.Activity.{Fits}
 use Rattle.lvdc_fault.specs.Script.{wrong_module}
 use Rattle.lvdc_fault.specs.declared.event.Event.{Event}
 use Rattle.lvdc_orders.specs.Events.{IsEvent}
+use Rattle.lvdc_logic.specs.InForce.{IsInForce}
 use Rattle.lvdc_logic.specs.Logic.{DifferedAtMost}
+use Rattle.lvdc_logic.specs.declared.in_force.InForce.{InForce}
 use Rattle.lvdc_machine.specs.declared.machine.Machine.TheInside.{Inside}
 use Rattle.lvdc_machine.specs.declared.mode.Mode.TheVariants.{Guarded}
 use Rattle.lvdc_machine.specs.declared.mode.Pace.TheVariants.{ByTime}
@@ -18,16 +20,20 @@ use Rattle.lvdc_machine.specs.View.{bus_of_votes, end_seen}
 abbrev pub KnowsWrong : List Event → Option ℕ → Option ℕ → Type 0
 KnowsWrong script last wrong = IfSome last (λ step. wrong ≡ wrong_module script step)
 
--- the script is in range, what is in force fits it, the module known as wrong is that of the step in force, and there is room for
--- what may still come; the log of a machine with the room of its mode is of its own steps alone; a machine with room by times
+-- what is known to be in force on the copies is what the script puts in force in the step in force, if one is
+abbrev pub KnowsForce : List Event → Option ℕ → InForce → Type 0
+KnowsForce script last force = IfSome last (λ step. IsInForce script step force)
+
+-- the script is in range, what is active fits it, what is in force on the copies and the module known as wrong are those of the
+-- step in force, and there is room for what may still come; the log of a machine with the room of its mode is of its own steps alone; a machine with room by times
 -- judges, and one that judges has phases that go with the steps; the bus is that of the votes, and where no end has come they are
 -- against a stop; and what is noted is of steps that were made
 pub record IsSound (m : Inside) : Type 0 where
   pub events : All IsEvent m.script
   pub fits : Fits m.script m.active
   pub within : All (λ position. position < length m.script) m.active.held
+  pub force : KnowsForce m.script m.active.last m.force
   pub wrong : KnowsWrong m.script m.active.last m.wrong
-  pub hurts : length m.script ≤ m.logic.room
   pub differed : DifferedAtMost m.steps m.logic.counts
   pub banks : m.memory.twins.banks ≡ m.banks
   pub log : m.pace ≡ pace_of m.mode → vec_len m.log + exchanges_left m.pace m.steps m.limit ≤ exchanges_left m.pace 0 m.limit

@@ -24,7 +24,7 @@ use crate::kept_end::KeptEnd;
 use crate::laws::{guarded_follows, guarded_keeps, is_hop_constant, places_words, unhurt_follows};
 use crate::{Mode, Order, Orders, Pace};
 use lvdc_fault::{Active, Script};
-use lvdc_logic::Logic;
+use lvdc_logic::{InForce, Logic};
 use lvdc_map::{Banks, Hop, Placed};
 use lvdc_memory::VotedMemory;
 use lvdc_model::{Outcome, Repair};
@@ -36,7 +36,8 @@ use std::alloc::Global;
 use std::marker::Model;
 
 /// The voted machine, without its devices. Steps are counted from 0, three in an instruction time. The bus of the votes is built
-/// once a step, when all copies have latched; which module has two wrong copies is asked where the active events change.
+/// once a step, when all copies have latched; what is in force on each copy, and which module has two wrong copies, is worked out
+/// where the active events change.
 #[derive(Drop)]
 pub struct Machine {
     pub(crate) banks: Banks,
@@ -45,6 +46,7 @@ pub struct Machine {
     pub(crate) memory: VotedMemory,
     pub(crate) script: Script,
     pub(crate) active: Active,
+    pub(crate) force: InForce,
     pub(crate) wrong: Option<u8>,
     pub(crate) unplugs: Vec<Unplug>,
     pub(crate) log: Vec<Exchange>,
@@ -140,7 +142,7 @@ impl Machine {
         let log = Vec::with_capacity(alloc, exchanges as usize)?;
         let repairs = Vec::with_capacity(alloc, pace.repairs(limit) as usize)?;
         let active = Active::for_script(alloc, &script)?;
-        let logic = Logic::new(alloc, start, script.len())?;
+        let logic = Logic::new(start);
         let memory = VotedMemory::new(alloc, image, banks)?;
         prepare_all(devices, exchanges)?;
         Ok(Machine {
@@ -150,6 +152,7 @@ impl Machine {
             memory,
             script,
             active,
+            force: InForce::none(),
             wrong: None,
             unplugs,
             log,

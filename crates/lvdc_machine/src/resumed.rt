@@ -16,7 +16,7 @@ ghost use Rattle.lvdc_machine.specs.declared.mode.Pace.TheVariants.{ByStep};
 ghost use Rattle.lvdc_machine.specs.Resumed.{StandsFrom};
 ghost use Rattle.lvdc_machine.specs.Room.{exchanges_left};
 ghost use Rattle.lvdc_machine.specs.Snapshot.{IsWhole, Means, meant};
-ghost use Rattle.lvdc_machine.specs.Sound.{KnowsWrong};
+ghost use Rattle.lvdc_machine.specs.Sound.{KnowsForce, KnowsWrong};
 ghost use Rattle.lvdc_machine.specs.Stands.{Stands};
 ghost use Rattle.lvdc_machine.specs.Steps.{run_of};
 ghost use Rattle.lvdc_machine.specs.declared.snapshot.Snapshot.{Snapshot};
@@ -24,7 +24,7 @@ ghost use Rattle.lvdc_machine.specs.View.{View};
 
 use crate::{Machine, Mode, Pace, Snapshot};
 use lvdc_fault::{Active, Script, wrong_now};
-use lvdc_logic::Logic;
+use lvdc_logic::{InForce, Logic};
 use lvdc_memory::VotedMemory;
 use lvdc_plain::Unplug;
 use lvdc_port::{PortDevice, prepare_all};
@@ -69,12 +69,7 @@ impl Machine {
     {
         let steps = snapshot.steps;
         let left = 3 * limit - steps;
-        let logic = Logic::from_latches(
-            alloc,
-            snapshot.latches.items(),
-            snapshot.differed.items(),
-            script.len(),
-        )?;
+        let logic = Logic::from_latches(snapshot.latches.items(), snapshot.differed.items());
         let (active, memory) = memory_of(alloc, &snapshot, &script)?;
         let log = with_room(snapshot.log, left)?;
         let repairs = with_room(snapshot.repairs, left)?;
@@ -84,6 +79,7 @@ impl Machine {
             bus: logic.bus(Word::ZERO, Word::ZERO),
             logic,
             memory,
+            force: force_before(&script, &active, steps),
             wrong: wrong_before(&script, &active, steps),
             script,
             active,
@@ -166,6 +162,19 @@ fn wrong_before(script: &Script, active: &Active, steps: u64) -> Option<u8>
         return None;
     }
     wrong_now(script, active, steps - 1)
+}
+
+/// What is in force on the copies in the step before this one, if there is one.
+fn force_before(script: &Script, active: &Active, steps: u64) -> InForce
+    requires events { All IsEvent script.now }
+    requires fits { Fits script.now active.now }
+    requires last { active.now.last ≡ last_made steps }
+    ensures { KnowsForce script.now active.now.last result }
+{
+    if steps == 0 {
+        return InForce::none();
+    }
+    InForce::of_active(script, active, steps - 1)
 }
 
 /// A law, which does nothing when it runs. What stands where the run from a state of a trial's run is, stands where that run

@@ -30,6 +30,7 @@ use crate::kept_end::KeptEnd;
 use crate::notes::{log_line, note_repair};
 use crate::{Machine, Mode, Order};
 use lvdc_fault::{Verdict, none_wrong, same_actives, wrong_now};
+use lvdc_logic::{InForce, in_force_stays};
 use lvdc_map::Address;
 use lvdc_model::{Outcome, Repair};
 use lvdc_modules::{Bus, Wanted, wish};
@@ -118,8 +119,8 @@ impl Machine {
         }
     }
 
-    /// Damages cells, and puts in force what is stuck and dead in this step. Where the same events are active as in the step before,
-    /// there is nothing to do.
+    /// Damages cells, and puts in force what is stuck and dead in this step, and what acts on the copies. Where the same events are
+    /// active as in the step before, there is nothing to do.
     fn begin(&mut self)
         ensures shows { (o : Trial) (v : Voted) (ds : List device.Device) → Shows o self.old ds v
             → Shows o self.new ds (record v { twins = damages v.steps o.script v.twins }) }
@@ -142,6 +143,7 @@ impl Machine {
         ensures last { self.new.active.last ≡ Some self.old.steps }
     {
         same_actives(&self.script, self.steps - 1);
+        in_force_stays(&self.script, self.steps - 1);
         self.memory.stays(&self.script, self.steps - 1);
         self.script.active(self.steps, &mut self.active);
     }
@@ -156,6 +158,7 @@ impl Machine {
         self.memory.release(&self.script, &self.active);
         self.script.active(self.steps, &mut self.active);
         self.memory.begin(&self.script, &self.active, self.steps);
+        self.force = InForce::of_active(&self.script, &self.active, self.steps);
         self.wrong = wrong_now(&self.script, &self.active, self.steps);
     }
 
@@ -243,8 +246,7 @@ impl Machine {
             port: brought.port,
             ..self.bus
         };
-        self.logic
-            .step(order, &self.script, &self.active, self.steps, &voted);
+        self.logic.step_under(order, &self.force, &voted);
         self.bus = self.logic.bus(Word::ZERO, Word::ZERO);
         self.end = stop_of(self.bus.exchange.stop, self.steps);
         self.steps += 1;

@@ -1,8 +1,13 @@
-use Rattle.lvdc_machine.proofs.Begun.{same-at, stayed, stays-wrong}
+use Rattle.lvdc_machine.proofs.Begun.{same-at, stayed, stays-force, stays-wrong}
 use Rattle.lvdc_machine.proofs.machine.Machine.go_on.Goals as goal
 
 pub stays-requires : goal.stays-requires
 stays-requires c =
+    let stays = rw (← c.self.view_is) at c.requires in
+    same-at c.self.inside.script c.self.inside.steps c.self.inside.active.last stays.same
+
+pub in_force_stays-requires : goal.in_force_stays-requires
+in_force_stays-requires c =
     let stays = rw (← c.self.view_is) at c.requires in
     same-at c.self.inside.script c.self.inside.steps c.self.inside.active.last stays.same
 
@@ -13,9 +18,10 @@ invariant_of-self c =
       events = c.self.invariant.events;
       fits = c.active.ensures.fits;
       within = c.active.ensures.within;
+      force = rw c.active.ensures.last
+          (stays-force c.self.inside.script c.self.inside.steps c.self.inside.active.last c.self.inside.force stays.same c.self.invariant.force (c.in_force_stays.ensures c.self.inside.force));
       wrong = rw c.active.ensures.last
           (stays-wrong c.self.inside.script c.self.inside.steps c.self.inside.active.last c.self.inside.wrong stays.same c.self.invariant.wrong c.same_actives.ensures.named);
-      hurts = c.self.invariant.hurts;
       differed = c.self.invariant.differed;
       banks = c.self.invariant.banks;
       log = c.self.invariant.log;

@@ -1,20 +1,25 @@
 use Rattle.std.proofs.Common.{◌%◌, refl, arith}
+use Rattle.lvdc_machine.proofs.Judging.{known_force}
 use Rattle.lvdc_machine.proofs.Noting.{log-noted, repairs-noted, goes-on}
 use Rattle.lvdc_machine.proofs.Timer.{stays-in-time}
 use Rattle.lvdc_machine.proofs.Making.{log-room, repair-room, begun-made, ends-made, latched-from, shows-made}
 use Rattle.lvdc_machine.proofs.machine.Machine.make.Goals as goal
 
+pub step_under-requires : goal.step_under-requires
+step_under-requires c = record { differed = λ number copy. omega (arith, c.self.invariant.differed number copy, c.self.invariant.steps, c.self.invariant.limit) }
+
 pub invariant_of-self : goal.invariant_of-self
 invariant_of-self c =
     let left = rw (← c.self.view_is) at c.requires.left in
     let right = rw (← c.self.view_is) at c.requires.right in
+    let in_force = known_force c.self.inside.script c.self.inside.active.last c.self.inside.steps c.self.inside.force c.self.invariant.force (rw (← c.self.view_is) at c.requires.begun) in
     record {
       events = c.self.invariant.events;
       fits = c.self.invariant.fits;
       within = c.self.invariant.within;
+      force = c.self.invariant.force;
       wrong = c.self.invariant.wrong;
-      hurts = rw c.step.ensures.room c.self.invariant.hurts;
-      differed = c.step.ensures.differed;
+      differed = c.step_under.ensures.differed c.self.inside.steps c.self.invariant.differed;
       banks = c.self.invariant.banks;
       log = λ own. log-room c.self.inside.pace c.self.inside.steps c.self.inside.limit _ _ _ c.args.brought.line (c.self.invariant.log own) left
           (rw (← c.self.view_is) at c.requires.line) c.log_line.ensures.length c.log_line.ensures.none;
@@ -29,7 +34,7 @@ invariant_of-self c =
       steps = omega (arith, left);
       limit = c.self.invariant.limit;
       judges = c.self.invariant.judges;
-      timed = rw (latched-from c.self.inside.script c.self.inside.steps _ _ _ c.args.brought c.step.ensures.copies c.self.invariant.bus) (stays-in-time c.self.inside.mode c.self.inside.script c.self.inside.steps c.self.inside.logic.copies
+      timed = rw (latched-from c.self.inside.script c.self.inside.steps _ _ _ c.args.brought (c.step_under.ensures.copies c.self.inside.script c.self.inside.steps c.self.invariant.events in_force) c.self.invariant.bus) (stays-in-time c.self.inside.mode c.self.inside.script c.self.inside.steps c.self.inside.logic.copies
           c.args.brought.memory c.args.brought.port right c.self.invariant.timed);
       bus = c.bus-self-inside.ensures;
       going = λ none. rw c.bus-self-inside.ensures at (goes-on (c.bus-self-inside.result.exchange.stop % 4) c.self.inside.steps _ c.stop_of-self-inside.ensures none);
@@ -39,7 +44,8 @@ invariant_of-self c =
 
 pub returns-clause-shows : goal.returns-clause-shows
 returns-clause-shows c = λ o v ds h.
-    shows-made (rw (← c.self.view_is) at h) c.args.brought _ _ _ _ _ _ (latched-from c.self.inside.script c.self.inside.steps _ _ _ c.args.brought c.step.ensures.copies c.self.invariant.bus) c.step.ensures.counts c.log_line.ensures.items
+    let in_force = known_force c.self.inside.script c.self.inside.active.last c.self.inside.steps c.self.inside.force c.self.invariant.force (rw (← c.self.view_is) at c.requires.begun) in
+    shows-made (rw (← c.self.view_is) at h) c.args.brought _ _ _ _ _ _ (latched-from c.self.inside.script c.self.inside.steps _ _ _ c.args.brought (c.step_under.ensures.copies c.self.inside.script c.self.inside.steps c.self.invariant.events in_force) c.self.invariant.bus) c.step_under.ensures.counts c.log_line.ensures.items
     c.note_repair.ensures.items c.bus-self-inside.ensures c.stop_of-self-inside.ensures
 
 pub returns-clause-made : goal.returns-clause-made

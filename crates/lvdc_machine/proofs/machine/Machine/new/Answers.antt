@@ -12,12 +12,12 @@ returns-clause-stands g c =
       banks = refl;
       script = refl;
       unplugs = refl;
-      copies = c.in_ok-logic.ensures.copies;
+      copies = c.new-logic.ensures.copies;
       memory = rw c.in_ok-active.ensures.last (c.in_ok-memory.ensures.holds _ refl refl);
       left = c.prepare_all.ensures.devices;
       log = c.in_ok-log.ensures.items;
       repairs = c.in_ok-repairs.ensures.items;
-      counts = c.in_ok-logic.ensures.counts;
+      counts = c.new-logic.ensures.counts;
       steps = refl;
       end = refl;
     }) c.in_ok-active.ensures.last refl refl
@@ -27,9 +27,9 @@ invariant_of-result g c = record {
   events = c.requires.events;
   fits = c.in_ok-active.ensures.fits;
   within = nothing-within c.args.script _ c.in_ok-active.ensures.held;
+  force = rw c.in_ok-active.ensures.last tt;
   wrong = rw c.in_ok-active.ensures.last tt;
-  hurts = let room = c.in_ok-logic.ensures.room in omega (arith, room, c.len.ensures);
-  differed = c.in_ok-logic.ensures.differed;
+  differed = c.new-logic.ensures.differed;
   banks = c.in_ok-memory.ensures.banks;
   log = λ own. let none = c.in_ok-log.ensures.len in omega (arith, none);
   log_room = let none = c.in_ok-log.ensures.len in let had = c.in_ok-log.ensures.capacity in omega (arith, none, had, c.exchanges-exchanges.ensures);
@@ -38,9 +38,9 @@ invariant_of-result g c = record {
   steps = omega arith;
   limit = c.requires.limit;
   judges = λ e. judges-by c.args.mode (sym c.of-pace.ensures ∙ e);
-  timed = starts-in-time c.args.mode c.args.start _ c.in_ok-logic.ensures.copies;
+  timed = starts-in-time c.args.mode c.args.start _ c.new-logic.ensures.copies;
   bus = c.bus.ensures;
-  going = λ none. starts-going c.args.start _ c.in_ok-logic.ensures.copies;
+  going = λ none. starts-going c.args.start _ c.new-logic.ensures.copies;
   logged = rw c.in_ok-log.ensures.items (no-log 0);
   noted = rw c.in_ok-repairs.ensures.items (no-repairs c.args.banks 0);
 }
