@@ -1,17 +1,15 @@
 -- What the active events of a script do to a copy.
-use Rattle.std.proofs.Common.{◌≡◌, ℕ, zero, suc, ◌+◌, ◌≤◌, ◌<◌, Bool, true, false, cond, ◌&&◌, ◌||◌, ◌==◌, if◌then◌else◌, List, [], ◌∷◌, ◌++◌, length, filter, refl, sym, ◌∙◌, ap, subst, arith, length-append, append-nil, Option, Some, take, slice_index_or}
-use Rattle.std.specs.Prelude.{slice_get, slice_index, All, flat_map, option_to_list}
+use Rattle.std.proofs.Common.{◌≡◌, ℕ, zero, suc, ◌+◌, ◌<◌, Bool, true, false, cond, ◌&&◌, ◌||◌, ◌==◌, if◌then◌else◌, List, [], ◌∷◌, ◌++◌, length, filter, refl, sym, ◌∙◌, subst, arith, Some, take, slice_index_or}
+use Rattle.std.specs.Prelude.{slice_get, slice_index, All, flat_map}
 use Rattle.std.specs.List.{list_any}
 use Rattle.std.proofs.lemmas.Bool.{eqb-true}
-use Rattle.std.proofs.lemmas.Grind.{flat_map-append}
-use Rattle.std.proofs.lemmas.List.{take_more}
 use Rattle.std.proofs.lemmas.List.Elements.{All-append, All-nil}
-use Rattle.std.proofs.lemmas.List.Folds.{length-flat_map-take, list_any_more}
+use Rattle.std.proofs.lemmas.List.Folds.{list_any_more}
 use Rattle.std.proofs.lemmas.Option.{slice_get_within, get_or_from_slice_get}
 use Rattle.lvdc_vote.specs.Latches.{FitsLatches}
 use Rattle.lvdc_vote.specs.declared.hurt.Hurt.{Hurt}
 use Rattle.lvdc_modules.specs.States.{latches_of}
-use Rattle.lvdc_fault.specs.Script.{acts_on, is_within, is_active, active_events}
+use Rattle.lvdc_fault.specs.Script.{acts_on, is_within, is_active}
 use Rattle.lvdc_fault.specs.declared.event.Event.{Event}
 use Rattle.lvdc_fault.specs.declared.event.Event.TheVariants.{Flip, Force, Lag, Deaf, Damage, Stick, Dead}
 use Rattle.lvdc_model.specs.Voted.{hurts_by, hurts_on}

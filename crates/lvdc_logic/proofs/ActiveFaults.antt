@@ -1,17 +1,17 @@
 -- What the active events of a step come to is what is in force in it.
-use Rattle.std.proofs.Common.{◌≡◌, ℕ, zero, suc, ◌+◌, ◌-◌, ◌*◌, ◌/◌, ◌%◌, ◌<◌, ◌≤◌, Bool, true, false, ◌&&◌, ◌||◌, ◌==◌, if◌then◌else◌, List, [], ◌∷◌, ◌++◌, length, take, replicate, refl, sym, ◌∙◌, ap, subst, arith, Option, None, Some}
-use Rattle.std.specs.Prelude.{slice_get, slice_index_or, slice_set, All, flat_map}
+use Rattle.std.proofs.Common.{◌≡◌, ℕ, suc, ◌+◌, ◌-◌, ◌*◌, ◌/◌, ◌%◌, ◌<◌, Bool, true, false, ◌&&◌, ◌||◌, ◌==◌, if◌then◌else◌, List, [], ◌∷◌, ◌++◌, length, take, refl, sym, ◌∙◌, ap, arith, Option, None, Some}
+use Rattle.std.specs.Prelude.{slice_get, slice_set, All, flat_map}
 use Rattle.std.specs.List.{list_any}
 use Rattle.std.proofs.lemmas.Bool.{eqb-true, eqb-false}
 use Rattle.std.proofs.lemmas.Option.{slice_get_within, get_or_from_slice_get}
 use Rattle.std.proofs.lemmas.List.{length-set, get_or-set_same, get_or-set_other, get_or-replicate, take_more}
-use Rattle.lvdc_vote.specs.Harms.{no_harm, harm_and, harm_after, harm_of}
+use Rattle.lvdc_vote.specs.Harms.{harm_and, harm_after}
 use Rattle.lvdc_vote.specs.declared.harm.Harm.{Harm}
 use Rattle.lvdc_vote.specs.declared.hurt.Hurt.{Hurt}
 use Rattle.lvdc_fault.specs.Script.{acts_on, is_within, is_active, active_events, deafens, is_deaf}
 use Rattle.lvdc_fault.specs.declared.event.Event.{Event}
 use Rattle.lvdc_fault.specs.declared.event.Event.TheVariants.{Flip, Force, Lag, Deaf, Damage, Stick, Dead}
-use Rattle.lvdc_model.specs.Voted.{hurts_by, hurts_on}
+use Rattle.lvdc_model.specs.Voted.{hurts_by}
 use Rattle.lvdc_orders.specs.Events.{IsCopy, IsEvent}
 use Rattle.lvdc_logic.specs.InForce.{no_faults, faults_and, faults_at, copy_named, copies_and, nothing_in_force, in_force_and, in_force_after, faults_on}
 use Rattle.lvdc_logic.specs.HitModules.{names}

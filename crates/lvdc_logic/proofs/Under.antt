@@ -1,5 +1,5 @@
 -- What a copy latches under what is in force on it is what the script makes it latch.
-use Rattle.std.proofs.Common.{◌≡◌, ℕ, ◌+◌, ◌/◌, ◌%◌, ◌<◌, ◌≤◌, Bool, true, false, ◌==◌, if◌then◌else◌, List, length, refl, sym, ◌∙◌, ap, subst, arith}
+use Rattle.std.proofs.Common.{◌≡◌, ℕ, ◌+◌, ◌/◌, ◌%◌, ◌<◌, ◌≤◌, Bool, true, false, ◌==◌, if◌then◌else◌, List, length, refl, sym, ◌∙◌, subst, arith}
 use Rattle.std.specs.Prelude.{All}
 use Rattle.lvdc_vote.specs.Harms.{harmed, harm_of}
 use Rattle.lvdc_vote.specs.Latches.{latched_by, FitsLatches}

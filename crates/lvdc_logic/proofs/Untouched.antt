@@ -1,14 +1,13 @@
 -- A script does nothing to the copies of a module that none of its active events names.
-use Rattle.std.proofs.Common.{◌≡◌, ℕ, zero, suc, ◌+◌, ◌<◌, Bool, true, false, cond, ◌&&◌, ◌||◌, ◌==◌, List, [], ◌∷◌, take, filter, refl, sym, ◌∙◌, Some}
-use Rattle.std.specs.Prelude.{slice_get}
+use Rattle.std.proofs.Common.{◌≡◌, ℕ, Bool, true, false, cond, ◌&&◌, ◌||◌, ◌==◌, List, [], ◌∷◌, filter, refl, sym, ◌∙◌}
 use Rattle.std.specs.List.{list_any}
 use Rattle.std.proofs.lemmas.Bool.{false≢true}
 use Rattle.lvdc_fault.specs.Script.{acts_on, is_within, is_active, active_events, deafens, is_deaf}
 use Rattle.lvdc_fault.specs.declared.event.Event.{Event}
 use Rattle.lvdc_fault.specs.declared.event.Event.TheVariants.{Flip, Force, Lag, Deaf, Damage, Stick, Dead}
 use Rattle.lvdc_model.specs.Voted.{hurts_by, hurts_on}
-use Rattle.lvdc_logic.proofs.ActiveEvents.{idle_hurts, list_any_next}
-use Rattle.lvdc_logic.specs.HitModules.{names, hit_and, hit_by, IsUntouched}
+use Rattle.lvdc_logic.proofs.ActiveEvents.{idle_hurts}
+use Rattle.lvdc_logic.specs.HitModules.{names, IsUntouched}
 
 -- one false condition of three
 no_first : (a b c : Bool) → a ≡ false → (a && b && c) ≡ false

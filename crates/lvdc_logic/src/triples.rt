@@ -182,6 +182,6 @@ fn settle<M: LogicModule>(triple: &mut Triple<M>, hit: bool, voted: &M::Bus)
     if hit {
         triple.commit();
     } else {
-        *triple = Triple::new(M::next(voted));
+        triple.renew(M::next(voted));
     }
 }

@@ -48,7 +48,7 @@ fn run_script(alloc: Global, script: &Script, order: &Order, steps: u64) -> Resu
     requires steps { steps < 100 }
 {
     let mut active = Active::for_script(alloc, script)?;
-    let mut logic = Logic::new(alloc, Hop::of(Word::within(0o16)), script.len())?;
+    let mut logic = Logic::new(Hop::of(Word::within(0o16)));
     for step in 0..steps {
         script.active(step, &mut active);
         let voted = logic.bus(Word::ZERO, Word::ZERO);

@@ -163,14 +163,26 @@ sound_nothing_latched xs ys zs =
 pub kept_same : (words : List ℕ) → None ≡ kept_of words words
 kept_same words = let none : Option (List ℕ) = None in rw (kept_by true words words (λ e. refl, λ e. refl)) refl
 
--- nothing is kept beside the vote of three equal lists
-pub sound_equal : (xs : List ℕ) → IsSound (record { voted = xs; one = None; two = None; three = None; first = None; shadow_one = None; shadow_two = None; shadow_three = None; latched_one = false; latched_two = false; latched_three = false })
-sound_equal xs =
+-- what is kept of three equal copies, of which none is marked as having latched
+pub sound_renewed : (words : List ℕ) (one two three : Option (List ℕ)) → IsSound (record {
+      voted = words;
+      one = None;
+      two = None;
+      three = None;
+      first = None;
+      shadow_one = one;
+      shadow_two = two;
+      shadow_three = three;
+      latched_one = false;
+      latched_two = false;
+      latched_three = false;
+    })
+sound_renewed words one two three =
     record {
-      vote = sym (majority_of-first xs xs refl);
-      different_one = λ ws e. cc;
-      different_two = λ ws e. cc;
-      different_three = λ ws e. cc;
+      vote = sym (majority_of-first words words refl);
+      different_one = λ ws e. absurd (cc e);
+      different_two = λ ws e. absurd (cc e);
+      different_three = λ ws e. absurd (cc e);
       marked_one = λ e. absurd (false≢true e);
       marked_two = λ e. absurd (false≢true e);
       marked_three = λ e. absurd (false≢true e);
@@ -178,3 +190,7 @@ sound_equal xs =
       shadow_two = λ e. absurd (false≢true e);
       shadow_three = λ e. absurd (false≢true e);
     }
+
+-- nothing is kept beside the vote of three equal lists
+pub sound_equal : (xs : List ℕ) → IsSound (record { voted = xs; one = None; two = None; three = None; first = None; shadow_one = None; shadow_two = None; shadow_three = None; latched_one = false; latched_two = false; latched_three = false })
+sound_equal xs = sound_renewed xs None None None

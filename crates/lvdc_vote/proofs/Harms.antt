@@ -1,6 +1,6 @@
 -- What many hurts of one copy come to is what they make of it one after another.
 use Rattle.std.proofs.Common.{◌≡◌, ℕ, zero, suc, ◌+◌, ◌-◌, ◌≤◌, ◌<◌, Bool, true, false, ◌||◌, ◌==◌, if◌then◌else◌, List, [], ◌∷◌, length, replicate, take, refl, sym, ◌∙◌, ap, arith, min}
-use Rattle.std.specs.Prelude.{All, slice_index, slice_index_or, slice_set}
+use Rattle.std.specs.Prelude.{All, slice_index_or, slice_set}
 use Rattle.std.specs.Int.{bit_at}
 use Rattle.std.proofs.lemmas.List.{length-set}
 use Rattle.std.proofs.lemmas.Nat.Bits.{bit_at-lt, bit_at-zero, same_from_bits}

@@ -1,5 +1,5 @@
 -- Worked values of the definitions.
-use Rattle.std.proofs.Common.{◌≡◌, ℕ, refl, List, [], ◌∷◌, true, false, arith}
+use Rattle.std.proofs.Common.{◌≡◌, ℕ, refl, [], ◌∷◌, true, false, arith}
 use Rattle.lvdc_vote.specs.Bits.{majority, flipped, forced}
 use Rattle.lvdc_vote.specs.Latches.{latched_by}
 use Rattle.lvdc_vote.specs.Calls.{Meets}

@@ -103,6 +103,21 @@ impl<M: LogicModule> Triple<M> {
         }
     }
 
+    /// All three copies have this state, and none has latched.
+    pub fn renew(&mut self, state: M::State)
+        ensures value { self.new ≡ settled (M.State.latches state) (M.State.latches state) (M.State.latches state) }
+        ensures sized { IsSized M.State.LATCHES self.new }
+    {
+        self.voted = state;
+        self.one = None;
+        self.two = None;
+        self.three = None;
+        self.first = None;
+        self.latched_one = false;
+        self.latched_two = false;
+        self.latched_three = false;
+    }
+
     /// These copies, of which none has latched.
     pub fn from_copies(one: M::State, two: M::State, three: M::State) -> Triple<M>
         ensures value { result ≡ settled (M.State.latches one) (M.State.latches two) (M.State.latches three) }

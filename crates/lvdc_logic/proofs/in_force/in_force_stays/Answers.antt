@@ -1,4 +1,4 @@
-use Rattle.std.proofs.Common.{◌≡◌, ◌+◌, ◌/◌, ◌%◌, refl, ◌∙◌}
+use Rattle.std.proofs.Common.{◌+◌, ◌/◌, ◌%◌, refl, ◌∙◌}
 use Rattle.lvdc_logic.proofs.ActiveEvents.{hurts_stay}
 use Rattle.lvdc_logic.proofs.in_force.in_force_stays.Goals as goal
 

@@ -1,5 +1,4 @@
-use Rattle.std.proofs.Common.{◌≡◌, ◌<◌, length, sym, ◌∙◌, subst}
-use Rattle.lvdc_vote.specs.Latches.{forced_at}
+use Rattle.std.proofs.Common.{◌<◌, sym, subst}
 use Rattle.lvdc_vote.proofs.Harms.{patched_at_none, patched_at_is}
 use Rattle.lvdc_vote.proofs.harm.patch_latch.Goals as goal
 

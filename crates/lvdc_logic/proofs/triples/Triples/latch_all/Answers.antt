@@ -1,7 +1,6 @@
-use Rattle.std.proofs.Common.{◌≡◌, ℕ, ◌<◌, ◌/◌, ◌%◌, ◌+◌, length, take, slice_index_or, refl, sym, ◌∙◌, ap, subst}
+use Rattle.std.proofs.Common.{ℕ, ◌<◌, length, take, slice_index_or, refl, sym, ◌∙◌, ap, subst}
 use Rattle.lvdc_vote.specs.Copies.{IsFullOrder}
 use Rattle.lvdc_logic.specs.InForce.{faults_at, latched_under}
-use Rattle.lvdc_logic.specs.Latching.{after_numbers}
 use Rattle.lvdc_logic.proofs.Numbers.{numbers_more, numbers_pass, numbers_fresh, latched_stays}
 use Rattle.lvdc_logic.proofs.triples.Triples.latch_all.Goals as goal
 use Rattle.lvdc_logic.proofs.triples.Triples.latch_all.Goals.{then-has, else-has}

@@ -1,6 +1,5 @@
-use Rattle.std.proofs.Common.{◌∙◌, refl, sym, ap, arith, subst}
+use Rattle.std.proofs.Common.{◌∙◌, sym, ap, arith}
 use Rattle.lvdc_model.specs.Runs.{read_of_wish}
-use Rattle.lvdc_machine.specs.Sound.{KnowsWrong}
 use Rattle.lvdc_machine.proofs.Judging.{found-wrong, found-none, known_wrong}
 use Rattle.lvdc_machine.proofs.machine.Machine.found.Goals as goal
 
