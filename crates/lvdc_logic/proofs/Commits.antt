@@ -1,5 +1,6 @@
 -- Where all 21 copies have latched, the commit gives what each latched, in whatever order.
-use Rattle.std.proofs.Common.{◌≡◌, ℕ, ◌+◌, ◌<◌, Bool, true, false, List, refl, ap, ◌∙◌, arith}
+use Rattle.std.proofs.Common.{◌≡◌, ℕ, ◌+◌, ◌<◌, Bool, true, false, List, refl, sym, ap, ◌∙◌, arith}
+use Rattle.std.proofs.lemmas.Bool.{false≢true}
 use Rattle.std.specs.Prelude.{◌==◌}
 use Rattle.std.specs.List.{list_any}
 use Rattle.lvdc_vote.specs.Copies.{Copies, after_latches, after_commit, settled, IsFresh}
@@ -17,7 +18,7 @@ use Rattle.lvdc_fault.specs.declared.event.Event.{Event}
 use Rattle.lvdc_model.specs.Voted.{next_three, next_copies, thrice}
 use Rattle.lvdc_logic.specs.declared.triples.Triples.{Triples}
 use Rattle.lvdc_logic.specs.HitModules.{is_hit, IsUntouched}
-use Rattle.lvdc_logic.specs.Latching.{copies_in, list_if, new_latches, after_numbers, after_step, after_steps, AllFresh}
+use Rattle.lvdc_logic.specs.Latching.{copies_in, list_if, new_latches, after_numbers, after_step, after_steps, AllFresh, AllSettle, Settles}
 use Rattle.lvdc_logic.specs.declared.hit_modules.HitModules.{HitModules}
 
 -- a list names each of the 21 numbers
@@ -68,6 +69,27 @@ steps_are script step t hit order voted words are all others =
       stepped hit.exchange t.exchange order 18 words (exchange_row voted) (next_three script step 7 exchange_row t.exchange (copies_in t) voted) all (omega arith) (three_are words (new_latches script step t voted) 18 are (omega arith))
           (λ h. untouched_three script step 7 exchange_row t.exchange (copies_in t) voted (others 6 (omega arith) h)),
     ) refl
+
+-- each copy of a module has latched where it is hit, and none where it isn't
+settles : (hit : Bool) (t : Copies) (order : List ℕ) (first : ℕ) (words : ℕ → List ℕ) → NamesAll order → first + 2 < 21 → IsFresh t → Settles hit (after_latches t (list_if hit order) first words)
+settles true t order first words all h fresh =
+    record {
+      latched = λ e. record { one = rw (all first (omega (arith, h))) refl; two = rw (all (first + 1) (omega (arith, h))) refl; three = rw (all (first + 2) h) refl };
+      fresh = λ e. absurd (false≢true (sym e));
+    }
+settles false t order first words all h fresh = record { latched = λ e. absurd (false≢true e); fresh = λ e. fresh }
+
+pub all_settle : (t : Triples) (hit : HitModules) (order : List ℕ) (words : ℕ → List ℕ) → NamesAll order → AllFresh t → AllSettle hit (after_numbers t hit order words)
+all_settle t hit order words all fresh =
+    record {
+      timer = settles hit.timer t.timer order 0 words all (omega arith) fresh.timer;
+      locator = settles hit.locator t.locator order 3 words all (omega arith) fresh.locator;
+      decoder = settles hit.decoder t.decoder order 6 words all (omega arith) fresh.decoder;
+      selector = settles hit.selector t.selector order 9 words all (omega arith) fresh.selector;
+      accumulator = settles hit.accumulator t.accumulator order 12 words all (omega arith) fresh.accumulator;
+      multiplier = settles hit.multiplier t.multiplier order 15 words all (omega arith) fresh.multiplier;
+      exchange = settles hit.exchange t.exchange order 18 words all (omega arith) fresh.exchange;
+    }
 
 -- and after it no copy of a module has latched
 step_fresh : (hit : Bool) (t : Copies) (next : List ℕ) → IsFresh (after_step hit t next)

@@ -55,6 +55,10 @@ unanimous_counted t (a ∷ []) size h = absurd (omega (arith, size))
 unanimous_counted t (a ∷ b ∷ []) size h = absurd (omega (arith, size))
 unanimous_counted t (a ∷ b ∷ c ∷ d ∷ counts) size h = absurd (omega (arith, size))
 
+-- nor where none is said to
+pub agreed_counted : (t : Copies) (counts : List ℕ) → length counts ≡ 3 → ((c : ℕ) → differs_of t c ≡ false) → counts ≡ counted_three t counts
+agreed_counted t counts size none = unanimous_counted t counts size (rw (none 0, none 1, none 2) refl)
+
 -- no copy that has not differed
 zero_at : (k : ℕ) → slice_index (0 ∷ 0 ∷ 0 ∷ []) k ≤ 0
 zero_at zero = omega arith

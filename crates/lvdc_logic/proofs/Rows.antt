@@ -1,5 +1,9 @@
 -- Worked latches and counts of the logic.
-use Rattle.std.proofs.Common.{◌≡◌, ℕ, List, [], ◌∷◌, refl}
+use Rattle.std.proofs.Common.{◌≡◌, ℕ, true, List, [], ◌∷◌, Some, refl}
+use Rattle.lvdc_vote.specs.Harms.{harm_of}
+use Rattle.lvdc_vote.specs.declared.hurt.Hurt.TheVariants as hurts
+use Rattle.lvdc_fault.specs.declared.event.Event.TheVariants.{Lag, Deaf, Flip}
+use Rattle.lvdc_logic.specs.InForce.{copy_named, faults_at, in_force_after, no_faults, nothing_in_force}
 use Rattle.lvdc_logic.specs.Listing.{copies_of, counts_of}
 use Rattle.lvdc_logic.specs.Logic.{latch_of, count_of}
 
@@ -18,3 +22,13 @@ latches_by_module_copy_and_index = (refl, refl, refl, refl, refl)
 counts_by_module_and_copy :
     (count_of (counts_of places) 1 1 ≡ 0) × (count_of (counts_of places) 2 3 ≡ 5) × (count_of (counts_of places) 7 3 ≡ 20)
 counts_by_module_and_copy = (refl, refl, refl)
+
+-- copy 2 of DECODER is number 7
+copy_by_its_number : copy_named (Lag 3 2 0 9) ≡ Some 7
+copy_by_its_number = refl
+
+-- copy 3 of ACCUMULATOR, number 14, is deaf and has a bit of its second latch turned over; copy 2 has nothing
+two_events_of_one_copy :
+    let copies = (in_force_after nothing_in_force (Deaf 5 3 0 9 ∷ Flip 5 3 0 9 1 4 ∷ [])).copies in
+    (faults_at copies 14 ≡ record { deaf = true; harm = harm_of (hurts.Flip 1 4 ∷ []) }) × (faults_at copies 13 ≡ no_faults)
+two_events_of_one_copy = (refl, refl)

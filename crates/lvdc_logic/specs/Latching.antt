@@ -1,5 +1,5 @@
 -- Seven triples whose copies, numbered from 0 to 20, latch one after another.
-use Rattle.std.specs.Prelude.{◌≡◌, ℕ, ◌+◌, ◌/◌, ◌%◌, Bool, true, List, [], ◌∷◌, ◌==◌, if◌then◌else◌, IsSome}
+use Rattle.std.specs.Prelude.{◌≡◌, ℕ, ◌+◌, ◌/◌, ◌%◌, Bool, true, false, List, [], ◌∷◌, ◌==◌, if◌then◌else◌, IsSome}
 use Rattle.lvdc_vote.specs.Copies.{Copies, copy_of, after_latch, after_latches, after_commit, IsFresh, IsSized}
 use Rattle.lvdc_modules.specs.Timer.{timer_row}
 use Rattle.lvdc_modules.specs.Locator.{locator_row}
@@ -111,15 +111,20 @@ pub record HasLatched (t : Copies) : Type 0 where
   pub two : IsSome t.shadow_two
   pub three : IsSome t.shadow_three
 
--- each copy of each module that is hit has latched
-pub record AllLatched (hit : HitModules) (t : Triples) : Type 0 where
-  pub timer : hit.timer ≡ true → HasLatched t.timer
-  pub locator : hit.locator ≡ true → HasLatched t.locator
-  pub decoder : hit.decoder ≡ true → HasLatched t.decoder
-  pub selector : hit.selector ≡ true → HasLatched t.selector
-  pub accumulator : hit.accumulator ≡ true → HasLatched t.accumulator
-  pub multiplier : hit.multiplier ≡ true → HasLatched t.multiplier
-  pub exchange : hit.exchange ≡ true → HasLatched t.exchange
+-- each copy of a module has latched where it is hit, and none where it isn't
+pub record Settles (hit : Bool) (t : Copies) : Type 0 where
+  pub latched : hit ≡ true → HasLatched t
+  pub fresh : hit ≡ false → IsFresh t
+
+-- so it is in all modules
+pub record AllSettle (hit : HitModules) (t : Triples) : Type 0 where
+  pub timer : Settles hit.timer t.timer
+  pub locator : Settles hit.locator t.locator
+  pub decoder : Settles hit.decoder t.decoder
+  pub selector : Settles hit.selector t.selector
+  pub accumulator : Settles hit.accumulator t.accumulator
+  pub multiplier : Settles hit.multiplier t.multiplier
+  pub exchange : Settles hit.exchange t.exchange
 
 -- each copy has as many latches as its module
 pub record AllSized (t : Triples) : Type 0 where

@@ -86,8 +86,7 @@ impl Logic {
     {
         harm_suffices();
         self.triples.latch_all(order, force, voted);
-        self.triples.commit(force.hit, voted);
-        self.counts.count(&self.triples);
+        self.triples.commit(force.hit, voted, &mut self.counts);
     }
 
     /// In how many steps a copy differed from the vote. Modules are 1 to 7 and copies 1 to 3.

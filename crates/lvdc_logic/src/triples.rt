@@ -1,11 +1,14 @@
-ghost use Rattle.std.specs.Prelude.{◌≡◌, ◌<◌, ◌+◌, ◌/◌, ◌%◌, None, true, map};
+ghost use Rattle.std.specs.Prelude.{◌≡◌, ℕ, ◌≤◌, ◌<◌, ◌+◌, ◌/◌, ◌%◌, ◌^◌, None, map, slice_index};
 ghost use Rattle.lvdc_vote.specs.Copies.{copy_of, shadow_of, vote_of, IsFullOrder, IsSized};
 ghost use Rattle.lvdc_vote.specs.Harms.{harmed};
 ghost use Rattle.lvdc_modules.specs.Rows.{bus_of, start_latches};
-ghost use Rattle.lvdc_model.specs.Voted.{thrice};
+ghost use Rattle.lvdc_model.specs.Voted.{counted, counted_three, thrice};
+ghost use Rattle.lvdc_logic.specs.Counts.{counts_in};
 ghost use Rattle.lvdc_logic.specs.InForce.{faults_at, latched_under};
-ghost use Rattle.lvdc_logic.specs.Latching.{copies_in, row_of, latches_in, triple_in, after_number, after_numbers, after_step, after_steps, AllFresh, AllLatched, AllSized, HasLatched};
+ghost use Rattle.lvdc_logic.specs.Latching.{copies_in, row_of, latches_in, triple_in, after_number, after_numbers, after_step, after_steps, AllFresh, AllSettle, AllSized, Settles};
+ghost use Rattle.lvdc_logic.specs.Logic.{DifferedAtMost};
 
+use crate::counts::Counts;
 use crate::hit_modules::HitModules;
 use crate::in_force::{Faults, InForce};
 use lvdc_map::Hop;
@@ -156,32 +159,58 @@ impl Triples {
         }
     }
 
-    /// What the copies of the modules that are hit latched takes their place. What the three of another module latch is worked
-    /// out once, from the votes.
-    pub fn commit(&mut self, hit: HitModules, voted: &Bus)
-        requires { AllLatched hit self.old }
+    /// What the copies of the modules that are hit latched takes their place, and each that differs from the new vote is counted.
+    /// What the three of another module latch is worked out once, from the votes, and none of them differs.
+    pub fn commit(&mut self, hit: HitModules, voted: &Bus, counts: &mut Counts)
+        requires latched { AllSettle hit self.old }
+        requires differed { DifferedAtMost (2 ^ 63) (counts_in counts.old) }
         ensures value { self.new ≡ after_steps self.old hit voted.now }
+        ensures counts { counts_in counts.new ≡ counted (copies_in self.new) (counts_in counts.old) }
         ensures sized { AllSized self.new }
     {
-        settle(&mut self.timer, hit.timer, voted);
-        settle(&mut self.locator, hit.locator, voted);
-        settle(&mut self.decoder, hit.decoder, voted);
-        settle(&mut self.selector, hit.selector, voted);
-        settle(&mut self.accumulator, hit.accumulator, voted);
-        settle(&mut self.multiplier, hit.multiplier, voted);
-        settle(&mut self.exchange, hit.exchange, voted);
+        settle(&mut self.timer, &mut counts.timer, hit.timer, voted);
+        settle(&mut self.locator, &mut counts.locator, hit.locator, voted);
+        settle(&mut self.decoder, &mut counts.decoder, hit.decoder, voted);
+        settle(&mut self.selector, &mut counts.selector, hit.selector, voted);
+        settle(&mut self.accumulator, &mut counts.accumulator, hit.accumulator, voted);
+        settle(&mut self.multiplier, &mut counts.multiplier, hit.multiplier, voted);
+        settle(&mut self.exchange, &mut counts.exchange, hit.exchange, voted);
     }
 }
 
-/// The next copies of a module: what they latched, where it is hit, or three times the state that follows from the votes.
-fn settle<M: LogicModule>(triple: &mut Triple<M>, hit: bool, voted: &M::Bus)
-    requires { hit ≡ true → HasLatched triple.old }
+/// The next copies of a module: what they latched, where it is hit, or three times the state that follows from the votes. Only where
+/// it is hit can one differ from the vote.
+fn settle<M: LogicModule>(
+    triple: &mut Triple<M>,
+    counts: &mut [u64; 3],
+    hit: bool,
+    voted: &M::Bus,
+)
+    requires latched { Settles hit triple.old }
+    requires differed { (c : ℕ) → slice_index counts.old c ≤ 2 ^ 63 }
     ensures value { triple.new ≡ after_step hit triple.old (M.next_of voted.now) }
+    ensures counts { counts.new ≡ counted_three triple.new counts.old }
     ensures sized { IsSized M.State.LATCHES triple.new }
 {
     if hit {
         triple.commit();
+        *counts = counted_three(triple, *counts);
     } else {
         triple.renew(M::next(voted));
     }
+}
+
+/// The counts of the copies of a module, with one more for each that differs from the vote.
+fn counted_three<M: LogicModule>(triple: &Triple<M>, counts: [u64; 3]) -> [u64; 3]
+    requires { (c : ℕ) → slice_index counts c ≤ 2 ^ 63 }
+    ensures { result ≡ counted_three triple.now counts }
+{
+    if triple.is_unanimous() {
+        return counts;
+    }
+    [
+        counts[0] + u64::from(triple.differs(0)),
+        counts[1] + u64::from(triple.differs(1)),
+        counts[2] + u64::from(triple.differs(2)),
+    ]
 }

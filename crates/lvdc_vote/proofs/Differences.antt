@@ -1,6 +1,6 @@
 -- What is kept of the differences gives the three whole copies back.
 use Rattle.std.proofs.Common.{◌≡◌, ℕ, List, [], length, refl, sym, ◌∙◌, ap, Bool, true, false, not, Some, None, Option}
-use Rattle.std.specs.Prelude.{if◌then◌else◌, is_some, unwrap_or, IsSome}
+use Rattle.std.specs.Prelude.{if◌then◌else◌, ◌==◌, is_some, unwrap_or, IsSome}
 use Rattle.std.specs.Bool.{Decides}
 use Rattle.std.proofs.lemmas.Bool.{false≢true}
 use Rattle.lvdc_vote.specs.Latches.{same_words, majority_of}
@@ -163,26 +163,14 @@ sound_nothing_latched xs ys zs =
 pub kept_same : (words : List ℕ) → None ≡ kept_of words words
 kept_same words = let none : Option (List ℕ) = None in rw (kept_by true words words (λ e. refl, λ e. refl)) refl
 
--- what is kept of three equal copies, of which none is marked as having latched
-pub sound_renewed : (words : List ℕ) (one two three : Option (List ℕ)) → IsSound (record {
-      voted = words;
-      one = None;
-      two = None;
-      three = None;
-      first = None;
-      shadow_one = one;
-      shadow_two = two;
-      shadow_three = three;
-      latched_one = false;
-      latched_two = false;
-      latched_three = false;
-    })
-sound_renewed words one two three =
+-- nothing is kept beside the vote of three equal lists
+pub sound_equal : (xs : List ℕ) → IsSound (record { voted = xs; one = None; two = None; three = None; first = None; shadow_one = None; shadow_two = None; shadow_three = None; latched_one = false; latched_two = false; latched_three = false })
+sound_equal xs =
     record {
-      vote = sym (majority_of-first words words refl);
-      different_one = λ ws e. absurd (cc e);
-      different_two = λ ws e. absurd (cc e);
-      different_three = λ ws e. absurd (cc e);
+      vote = sym (majority_of-first xs xs refl);
+      different_one = λ ws e. cc;
+      different_two = λ ws e. cc;
+      different_three = λ ws e. cc;
       marked_one = λ e. absurd (false≢true e);
       marked_two = λ e. absurd (false≢true e);
       marked_three = λ e. absurd (false≢true e);
@@ -191,6 +179,28 @@ sound_renewed words one two three =
       shadow_three = λ e. absurd (false≢true e);
     }
 
--- nothing is kept beside the vote of three equal lists
-pub sound_equal : (xs : List ℕ) → IsSound (record { voted = xs; one = None; two = None; three = None; first = None; shadow_one = None; shadow_two = None; shadow_three = None; latched_one = false; latched_two = false; latched_three = false })
-sound_equal xs = sound_renewed xs None None None
+-- what is kept where all three copies become the same, and no shadow changes
+pub sound_renewed : (k : Kept) (words : List ℕ) → IsSound k → IsSound (record k { voted = words; one = None; two = None; three = None })
+sound_renewed k words sound =
+    record {
+      vote = sym (majority_of-first words words refl);
+      different_one = λ ws e. cc;
+      different_two = λ ws e. cc;
+      different_three = λ ws e. cc;
+      marked_one = sound.marked_one;
+      marked_two = sound.marked_two;
+      marked_three = sound.marked_three;
+      shadow_one = sound.shadow_one;
+      shadow_two = sound.shadow_two;
+      shadow_three = sound.shadow_three;
+    }
+
+-- of three equal copies none differs
+pub none_differs : (words : List ℕ) (c : ℕ) → differs_of (settled words words words) c ≡ false
+none_differs words c = rw (majority_of-first words words refl) (by (c == 0) (c == 1)) where
+  same : not (same_words words words) ≡ false
+  same = ap not ((same_words-Decides words words).1 refl)
+  by : (a b : Bool) → not (same_words (if a then words else (if b then words else words)) words) ≡ false
+  by true b = same
+  by false true = same
+  by false false = same

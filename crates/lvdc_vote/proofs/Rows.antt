@@ -1,6 +1,7 @@
 -- Worked values of the definitions.
 use Rattle.std.proofs.Common.{◌≡◌, ℕ, refl, [], ◌∷◌, true, false, arith}
 use Rattle.lvdc_vote.specs.Bits.{majority, flipped, forced}
+use Rattle.lvdc_vote.specs.Harms.{harm_of, patched, no_patch}
 use Rattle.lvdc_vote.specs.Latches.{latched_by}
 use Rattle.lvdc_vote.specs.Calls.{Meets}
 use Rattle.lvdc_vote.specs.Copies.{Copies, settled, after_latch, after_commit, vote_of, differs_of, copy_of}
@@ -29,6 +30,15 @@ lag_before_flip = refl
 force_then_flip : latched_by (3 ∷ 7 ∷ []) (0o17 ∷ 5 ∷ []) (Force 0 1 0 ∷ Flip 0 1 ∷ []) ≡ 0o17 ∷ 5 ∷ []
 unfolding flipped forced
 force_then_flip = refl
+
+-- a bit that is set and turned over, a bit that is turned over, and a lag, in one patch and a mark
+hurts_in_one_patch : harm_of (Force 0 1 0 ∷ Flip 0 3 ∷ Lag ∷ []) ≡ record { lags = true; patches = record { mask = 1; value = 3 } ∷ no_patch ∷ no_patch ∷ no_patch ∷ no_patch ∷ [] }
+unfolding flipped forced
+hurts_in_one_patch = refl
+
+patched_bits : patched (record { mask = 1; value = 3 }) 0o14 ≡ 0o17
+unfolding patched flipped forced
+patched_bits = refl
 
 one_wrong_copy_is_outvoted : vote_of (settled (1 ∷ 2 ∷ []) (1 ∷ 3 ∷ []) (1 ∷ 2 ∷ [])) ≡ 1 ∷ 2 ∷ []
 unfolding majority

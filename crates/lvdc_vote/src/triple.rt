@@ -1,8 +1,8 @@
-ghost use Rattle.std.specs.Prelude.{◌≡◌, ℕ, ◌<◌, List, slice_get, Some, None, true, not, ◌&&◌, IsSome, All, is_some, unwrap_or};
+ghost use Rattle.std.specs.Prelude.{◌≡◌, ℕ, ◌<◌, List, slice_get, Some, None, true, false, not, ◌&&◌, IsSome, All, is_some, unwrap_or};
 ghost use Rattle.std.specs.Option.{option_map};
 ghost use Rattle.lvdc_vote.specs.Bits.{TwoAre};
 ghost use Rattle.lvdc_vote.specs.Latches.{latched_by, FitsLatches, IsMajority};
-ghost use Rattle.lvdc_vote.specs.Copies.{settled, copy_of, shadow_of, after_latch, after_commit, vote_of, differs_of, IsSized};
+ghost use Rattle.lvdc_vote.specs.Copies.{settled, copy_of, shadow_of, after_latch, after_commit, vote_of, differs_of, IsFresh, IsSized};
 ghost use Rattle.lvdc_vote.specs.Differences.{kept_of};
 ghost use Rattle.lvdc_vote.specs.Harms.{harmed};
 
@@ -103,19 +103,17 @@ impl<M: LogicModule> Triple<M> {
         }
     }
 
-    /// All three copies have this state, and none has latched.
+    /// All three copies have this state.
     pub fn renew(&mut self, state: M::State)
+        requires { IsFresh self.old }
         ensures value { self.new ≡ settled (M.State.latches state) (M.State.latches state) (M.State.latches state) }
+        ensures agree { (c : ℕ) → differs_of self.new c ≡ false }
         ensures sized { IsSized M.State.LATCHES self.new }
     {
         self.voted = state;
         self.one = None;
         self.two = None;
         self.three = None;
-        self.first = None;
-        self.latched_one = false;
-        self.latched_two = false;
-        self.latched_three = false;
     }
 
     /// These copies, of which none has latched.

@@ -4,13 +4,20 @@ use Rattle.lvdc_logic.specs.InForce.{faults_at, latched_under}
 use Rattle.lvdc_logic.specs.Latching.{copies_in, after_steps, AllFresh}
 use Rattle.lvdc_logic.specs.Counts.{counts_in}
 use Rattle.lvdc_logic.specs.declared.triples.Triples.{Triples}
-use Rattle.lvdc_logic.proofs.Commits.{steps_are, steps_fresh}
+use Rattle.lvdc_logic.proofs.Commits.{all_settle, steps_are, steps_fresh}
 use Rattle.lvdc_logic.proofs.Differing.{counted_at_most}
 use Rattle.lvdc_logic.proofs.Under.{latched_is}
 use Rattle.lvdc_logic.proofs.logic.Logic.step_under.Goals as goal
 
-pub count-requires : goal.count-requires
-count-requires c = subst (DifferedAtMost (2 ^ 63)) (ap (λ v. v.counts) (sym c.self.view_is)) c.requires.differed
+pub commit-requires-clause-latched : goal.commit-requires-clause-latched
+commit-requires-clause-latched c =
+    let force = c.args.force.now in
+    let t = c.self.inside.triples in
+    rw c.latch_all.ensures.value
+    (all_settle t force.hit c.args.order.now (λ n. latched_under (faults_at force.copies n) t c.args.voted.now n) c.latch_all.ensures.full.all c.self.invariant.0)
+
+pub commit-requires-clause-differed : goal.commit-requires-clause-differed
+commit-requires-clause-differed c = subst (DifferedAtMost (2 ^ 63)) (ap (λ v. v.counts) (sym c.self.view_is)) c.requires.differed
 
 pub returns-clause-copies : goal.returns-clause-copies
 returns-clause-copies c script step events in_force =
@@ -26,7 +33,7 @@ returns-clause-copies c script step events in_force =
 
 pub returns-clause-differed : goal.returns-clause-differed
 returns-clause-differed c most before =
-    subst (DifferedAtMost (most + 1)) (sym c.count.ensures)
+    subst (DifferedAtMost (most + 1)) (sym c.commit.ensures.counts)
     (counted_at_most most (copies_in c.commit.new.self) (counts_in c.self.inside.counts) (subst (DifferedAtMost most) (ap (λ v. v.counts) (sym c.self.view_is)) before))
 
 pub invariant_of-self : goal.invariant_of-self
