@@ -2,12 +2,10 @@
 use Rattle.std.proofs.Common.{◌≡◌, ℕ, refl, true, false, List, [], ◌∷◌}
 use Rattle.std.specs.declared.option.Option.TheVariants.{None, Some}
 use Rattle.lvdc_word.specs.Cell.{with_stuck}
-use Rattle.lvdc_port.specs.Device.{Device}
 use Rattle.lvdc_port.specs.declared.device.Kind.TheVariants.{Tape, Recorder}
 use Rattle.lvdc_vote.specs.Bits.{majority, flipped}
 use Rattle.lvdc_plain.specs.declared.records.Stop.TheVariants as stops
 use Rattle.lvdc_plain.specs.declared.records.Unplug.{Unplug}
-use Rattle.lvdc_fault.specs.declared.event.Event.{Event}
 use Rattle.lvdc_fault.specs.declared.event.Event.TheVariants.{Flip, Damage}
 use Rattle.lvdc_fault.specs.declared.verdict.Verdict.TheVariants as verdicts
 use Rattle.lvdc_model.specs.declared.outcome.Outcome.TheVariants as outcomes
@@ -45,6 +43,11 @@ a_tape_is_unplugged : ((guarded (ported (record { port = 0; time = 1 } ∷ [])) 
     × ((guarded (ported (record { port = 0; time = 1 } ∷ [])) 6).devices ≡ record { port = 0o17; kind = Recorder; state = [] } ∷ [])
 unfolding with_stuck majority flipped
 a_tape_is_unplugged = (refl, refl)
+
+-- it is taken away as the first step of that time begins
+unplugged_with_the_first_step : (guarded (ported (record { port = 0; time = 1 } ∷ [])) 4).devices ≡ record { port = 0o17; kind = Recorder; state = [] } ∷ []
+unfolding with_stuck majority flipped
+unplugged_with_the_first_step = refl
 
 -- ---- stops
 

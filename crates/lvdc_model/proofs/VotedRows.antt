@@ -3,7 +3,7 @@ use Rattle.std.proofs.Common.{◌≡◌, ℕ, refl, true, false, [], ◌∷◌}
 use Rattle.std.specs.declared.option.Option.TheVariants.{None, Some}
 use Rattle.lvdc_map.specs.Memory as memory
 use Rattle.lvdc_plain.specs.declared.records.Stop.TheVariants as stops
-use Rattle.lvdc_fault.specs.declared.event.Event.TheVariants.{Flip, Deaf, Damage, Dead}
+use Rattle.lvdc_fault.specs.declared.event.Event.TheVariants.{Flip, Deaf, Damage, Stick, Dead}
 use Rattle.lvdc_fault.specs.declared.verdict.Verdict.TheVariants as verdicts
 use Rattle.lvdc_model.specs.declared.outcome.Outcome.TheVariants as outcomes
 use Rattle.lvdc_model.specs.Known.{is_known}
@@ -79,3 +79,18 @@ judges_alone : ((alone and_for_add 9).end ≡ Some (outcomes.Inadmissible (verdi
     × ((alone (load (Damage 0 (at 1 0) 0 3 ∷ [])) 3).end ≡ Some (outcomes.Inadmissible (verdicts.Memory 1 (at 1 0))))
 unfolding with_stuck majority flipped
 judges_alone = (refl, refl)
+
+-- it judges the cells as they are once the damage of the step is done
+judges_the_damage_of_the_step : (alone (load (Damage 0 (at 1 0) 1 3 ∷ [])) 3).end ≡ Some (outcomes.Inadmissible (verdicts.Memory 1 (at 1 0)))
+unfolding with_stuck majority flipped
+judges_the_damage_of_the_step = refl
+
+-- after a verdict a word is told by what is stuck in the step that was judged
+abbrev stuck_in_the_bad_step : Trial
+stuck_in_the_bad_step = sum (Flip 3 1 4 4 0 0o1000 ∷ Flip 3 2 4 4 0 0o1000 ∷ Stick 0 (at 1 7) 4 4 3 3 ∷ [])
+
+stuck_bits_of_the_bad_step : ((guarded stuck_in_the_bad_step 9).end ≡ Some (outcomes.Inadmissible (verdicts.Logic 4 3)))
+    × (is_known stuck_in_the_bad_step (guarded stuck_in_the_bad_step 9) (at 1 7) ≡ false)
+    × (is_known stuck_in_the_bad_step (guarded stuck_in_the_bad_step 4) (at 1 7) ≡ true)
+unfolding with_stuck majority flipped
+stuck_bits_of_the_bad_step = (refl, refl, refl)
