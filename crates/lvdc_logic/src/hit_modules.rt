@@ -1,4 +1,4 @@
-ghost use Rattle.std.specs.Prelude.{◌≡◌, true, []};
+ghost use Rattle.std.specs.Prelude.{◌≡◌, ◌<◌, true, []};
 ghost use Rattle.lvdc_logic.specs.HitModules.{names, hit_and, hit_by, is_hit};
 
 use lvdc_fault::Event;
@@ -61,17 +61,18 @@ impl HitModules {
 
     /// Is the module of this number one of them? Modules are counted from 0.
     pub fn has(self, number: u8) -> bool
+        requires { number < 7 }
         ensures { result ≡ is_hit self number }
     {
-        match number {
-            0 => self.timer,
-            1 => self.locator,
-            2 => self.decoder,
-            3 => self.selector,
-            4 => self.accumulator,
-            5 => self.multiplier,
-            _ => self.exchange,
-        }
+        [
+            self.timer,
+            self.locator,
+            self.decoder,
+            self.selector,
+            self.accumulator,
+            self.multiplier,
+            self.exchange,
+        ][usize::from(number)]
     }
 }
 
