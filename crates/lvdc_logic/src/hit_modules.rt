@@ -1,4 +1,4 @@
-ghost use Rattle.std.specs.Prelude.{◌≡◌, ◌<◌, true, []};
+ghost use Rattle.std.specs.Prelude.{◌≡◌, ℕ, ◌<◌, true, false, [], slice_index_or};
 ghost use Rattle.lvdc_logic.specs.HitModules.{names, hit_and, hit_by, is_hit};
 
 use lvdc_fault::Event;
@@ -59,10 +59,9 @@ impl HitModules {
             || self.exchange)
     }
 
-    /// Is the module of this number one of them? Modules are counted from 0.
-    pub fn has(self, number: u8) -> bool
-        requires { number < 7 }
-        ensures { result ≡ is_hit self number }
+    /// Of each module whether it is one of them, in order.
+    pub fn listed(self) -> [bool; 7]
+        ensures { (k : ℕ) → k < 7 → slice_index_or result k false ≡ is_hit self k }
     {
         [
             self.timer,
@@ -72,7 +71,7 @@ impl HitModules {
             self.accumulator,
             self.multiplier,
             self.exchange,
-        ][usize::from(number)]
+        ]
     }
 }
 

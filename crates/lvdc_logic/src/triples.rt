@@ -152,8 +152,9 @@ impl Triples {
         if force.hit.is_empty() {
             return;
         }
+        let hit = force.hit.listed();
         for number in numbers {
-            if force.hit.has(*number / 3) {
+            if hit[usize::from(*number / 3)] {
                 self.latch_next(*number, force.on_copy(*number), voted);
             }
         }
