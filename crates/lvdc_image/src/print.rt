@@ -1,7 +1,7 @@
-ghost use Rattle.std.specs.Prelude.{◌≡◌, ◌<◌, ◌≤◌, ◌++◌, ◌∷◌, [], length, map, codes, List, All, IfOk, IfSome, OnOk, Ok};
+ghost use Rattle.std.specs.Prelude.{◌≡◌, ◌<◌, ◌≤◌, ◌++◌, ◌∷◌, [], length, map, List, All, IfOk, IfSome, OnOk, Ok};
 ghost use Rattle.lvdc_map.specs.Hop.{IsHopConstant};
 ghost use Rattle.lvdc_text.specs.Lines.{lines_of, NumberedLine, numbered};
-ghost use Rattle.lvdc_image.specs.Image.{IsPlaced, word_line, start_line, pair_name, simplex_line, simplex_lines, head_lines, image_lines, text_of, image_text};
+ghost use Rattle.lvdc_image.specs.Image.{IsPlaced, word_line, pair_name, simplex_lines, head_lines, image_lines, text_of, image_text};
 ghost use Rattle.lvdc_image.specs.Reading.{texts, image_of};
 ghost use Rattle.lvdc_image.specs.declared.TheConstants.{LONGEST_IMAGE};
 

@@ -1,9 +1,8 @@
-ghost use Rattle.std.specs.Prelude.{◌≡◌, ◌≢◌, ◌+◌, ◌-◌, ◌^◌, ◌<◌, ◌∷◌, length, map, codes, IfOk, IfErr, All, Ok, Err, None, Some};
+ghost use Rattle.std.specs.Prelude.{◌≡◌, ◌≢◌, ◌-◌, ◌^◌, ◌<◌, length, map, codes, IfOk, IfErr, All, Ok, Err, None};
 ghost use Rattle.std.specs.Str.{bytes_eq};
-ghost use Rattle.lvdc_map.specs.Memory.{are_rising, AllThere};
 ghost use Rattle.lvdc_text.specs.Lines.{IsWithin, part_of, numbered};
 ghost use Rattle.lvdc_image.specs.Image.{Contents, IsSound, image_lines};
-ghost use Rattle.lvdc_image.specs.Reading.{entry_in, placed_of, after_end, words_from, image_with, after_start, from_start, image_of};
+ghost use Rattle.lvdc_image.specs.Reading.{entry_in, placed_of, words_from, image_with, after_start, from_start, image_of};
 ghost use Rattle.lvdc_image.specs.declared.fault.ImageFault.TheVariants.{NoMemory as WantsMemory};
 
 use crate::entry::entry_in;

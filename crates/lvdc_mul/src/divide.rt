@@ -1,5 +1,5 @@
-ghost use Rattle.std.specs.Prelude.{◌≡◌, ◌<◌, ◌^◌, neg_ℤ, pos, unsigned_abs};
-ghost use Rattle.lvdc_word.specs.Word.{signed, word_of};
+ghost use Rattle.std.specs.Prelude.{◌≡◌, ◌<◌, unsigned_abs};
+ghost use Rattle.lvdc_word.specs.Word.{signed};
 ghost use Rattle.lvdc_mul.specs.Control.{control_of};
 ghost use Rattle.lvdc_mul.specs.Unit.{sign_phase, bit_phase, divide_phase, divide_result};
 

@@ -1,4 +1,4 @@
-ghost use Rattle.std.specs.Prelude.{◌≡◌, ◌+◌, ◌*◌, ◌/◌, ◌%◌, ◌^◌, ◌<◌, ◌==◌, ◌+ℤ◌, ◌*ℤ◌, ◌≤ℤ◌, pos, negsuc};
+ghost use Rattle.std.specs.Prelude.{◌≡◌, ◌<◌, ◌+ℤ◌, ◌*ℤ◌, ◌≤ℤ◌, pos, negsuc};
 ghost use Rattle.lvdc_word.specs.Word.{signed, word_of};
 ghost use Rattle.lvdc_mul.specs.Control.{control_of};
 ghost use Rattle.lvdc_mul.specs.Unit.{digit, multiply_sum, multiply_phase, multiply_result};

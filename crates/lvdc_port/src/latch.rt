@@ -1,4 +1,4 @@
-ghost use Rattle.std.specs.Prelude.{◌≡◌, ◌+◌, ◌-◌, ◌^◌, ◌≤◌, ◌<◌, ◌∷◌, []};
+ghost use Rattle.std.specs.Prelude.{◌≡◌, ◌-◌, ◌^◌, ◌<◌, ◌∷◌, []};
 ghost use Rattle.lvdc_port.specs.declared.device.Kind.TheVariants.{Latch as LatchKind};
 
 use crate::device::{Failed, Kind, PortDevice};

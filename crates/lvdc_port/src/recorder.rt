@@ -1,4 +1,4 @@
-ghost use Rattle.std.specs.Prelude.{◌≡◌, ◌+◌, ◌-◌, ◌^◌, ◌≤◌, ◌++◌, ◌∷◌, [], vec_len, vec_capacity};
+ghost use Rattle.std.specs.Prelude.{◌≡◌, ◌-◌, [], vec_len, vec_capacity};
 ghost use Rattle.lvdc_port.specs.Device.{AreWords};
 ghost use Rattle.lvdc_port.specs.declared.device.Kind.TheVariants.{Recorder as RecorderKind};
 

@@ -1,4 +1,4 @@
-ghost use Rattle.std.specs.Prelude.{◌≡◌, ◌+◌, ◌-◌, ◌^◌, ◌≤◌, []};
+ghost use Rattle.std.specs.Prelude.{◌≡◌, ◌-◌, ◌^◌, []};
 ghost use Rattle.lvdc_port.specs.declared.device.Kind.TheVariants.{Ticker as TickerKind};
 
 use crate::device::{Failed, Kind, PortDevice};

@@ -1,7 +1,4 @@
 ghost use Rattle.std.specs.Prelude.{◌≡◌};
-ghost use Rattle.lvdc_text.specs.Lines.{NumberedLine};
-ghost use Rattle.lvdc_source.specs.Lines.{Parts};
-ghost use Rattle.lvdc_source.specs.Operations.{operation_of};
 ghost use Rattle.lvdc_source.specs.Source.{is_bad_label, wrong_operand, by_operand, by_parts, meaning_of, Tells};
 
 use crate::bodies::body_in;

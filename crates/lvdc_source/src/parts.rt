@@ -1,4 +1,4 @@
-ghost use Rattle.std.specs.Prelude.{◌≡◌, ◌≤◌, [], length, map, slice_index_or, All};
+ghost use Rattle.std.specs.Prelude.{◌≡◌, ◌≤◌, length, map, All};
 ghost use Rattle.lvdc_text.specs.Lines.{IsWithin, part_of, word_texts_of};
 ghost use Rattle.lvdc_source.specs.Lines.{is_labelled, word_at, parts_of};
 ghost use Rattle.lvdc_text.specs.declared.comment.TheConstants.{LONGEST_LINE};

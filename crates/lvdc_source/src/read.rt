@@ -1,6 +1,6 @@
 ghost use Rattle.std.specs.Prelude.{◌≡◌, ◌≢◌, ◌-◌, ◌^◌, ◌<◌, length, IfOk, IfErr, All, Ok, Err, []};
 ghost use Rattle.lvdc_text.specs.Lines.{IsWithin, numbered};
-ghost use Rattle.lvdc_source.specs.Source.{after_end, source_of, Tells};
+ghost use Rattle.lvdc_source.specs.Source.{after_end, source_of};
 ghost use Rattle.lvdc_source.specs.declared.fault.SourceFault.TheVariants.{NoMemory as WantsMemory};
 
 use crate::line::meaning_of;
