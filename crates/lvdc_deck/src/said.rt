@@ -1,10 +1,9 @@
-ghost use Rattle.std.specs.Prelude.{◌≡◌, ◌≢◌, ℕ, List, ◌+◌, ◌-◌, ◌^◌, ◌<◌, ◌≤◌, ◌∷◌, length, map, true, IfOk, IfErr, All, Ok, Err};
-ghost use Rattle.lvdc_map.specs.Hop.{HopConstant};
+ghost use Rattle.std.specs.Prelude.{◌≡◌, ◌≢◌, ℕ, List, ◌-◌, ◌^◌, ◌<◌, ◌≤◌, ◌∷◌, length, map, true, IfOk, IfErr, All, Ok, Err};
 ghost use Rattle.lvdc_map.specs.Memory.{are_rising, AllThere};
-ghost use Rattle.lvdc_text.specs.Lines.{IsWithin, part_of, word_texts_of};
+ghost use Rattle.lvdc_text.specs.Lines.{IsWithin, part_of};
 ghost use Rattle.lvdc_orders.specs.Events.{IsEvent};
 ghost use Rattle.lvdc_script_lines.specs.Lines.{fault_in, order_in};
-ghost use Rattle.lvdc_deck.specs.Sections.{nothing_said, entry_in, start_line, simplex_line, ports_line, faults_line, order_line, run_line, debug_line, opens, in_order, with_event, with_order, belongs, by_word, by_tokens, after_line, Makes};
+ghost use Rattle.lvdc_deck.specs.Sections.{nothing_said, entry_in, start_line, simplex_line, ports_line, faults_line, order_line, run_line, debug_line, in_order, with_event, with_order, belongs, by_tokens, after_line, Makes};
 ghost use Rattle.lvdc_deck.specs.Deck.{told_from, count_in, made_of};
 ghost use Rattle.lvdc_text.specs.declared.comment.TheConstants.{LONGEST_LINE};
 ghost use Rattle.lvdc_deck.specs.declared.TheConstants.{MOST_TIMES, MOST_EVENTS};

@@ -1,5 +1,4 @@
 ghost use Rattle.std.specs.Prelude.{◌≡◌, ◌↔◌, ◌<◌, ◌≤◌, ◌++◌, ◌∷◌, [], length, slice_index_or, IsErr, OnOk, OnErr};
-ghost use Rattle.lvdc_vote.specs.Copies.{IsFullOrder};
 ghost use Rattle.lvdc_orders.specs.Orders.{plain_order, orders_of, order_at};
 
 use crate::{Order, OrdersFull};
@@ -15,8 +14,7 @@ pub struct Orders {
 }
 
 impl Model for Orders {
-    ghost use Rattle.std.specs.Prelude.{◌≡◌, ◌≤◌, ℕ, List, length, All};
-    ghost use Rattle.lvdc_vote.specs.Copies.{IsFullOrder};
+    ghost use Rattle.std.specs.Prelude.{◌≡◌, ◌≤◌, ℕ, List, length};
     ghost use Rattle.lvdc_orders.specs.Orders.{plain_order};
 
     ghost Value = { List (List ℕ) };

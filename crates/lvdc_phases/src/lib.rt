@@ -5,7 +5,7 @@
 //! when the latches stand for a plain state, a latch a line; `PhaseLaw` (in `specs/Standing.antt`) says what then follows.
 #![tactic(auto)]
 
-ghost use Rattle.std.specs.Prelude.{◌≡◌, ℕ, ◌<◌, ◌^◌};
+ghost use Rattle.std.specs.Prelude.{ℕ, ◌<◌, ◌^◌};
 ghost use Rattle.lvdc_map.specs.Address.{Spot};
 ghost use Rattle.lvdc_map.specs.Hop.{HopConstant, IsHopConstant};
 ghost use Rattle.lvdc_map.specs.Memory.{Memory, word_at};

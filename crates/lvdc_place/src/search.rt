@@ -1,4 +1,4 @@
-ghost use Rattle.std.specs.Prelude.{◌≡◌, ◌+◌, ◌≤◌, IfSome};
+ghost use Rattle.std.specs.Prelude.{◌≡◌, IfSome};
 ghost use Rattle.lvdc_place.specs.Fitting.{Fits};
 ghost use Rattle.lvdc_place.specs.Slots.{set_of, least_place, with_slots, block_slots, with_block};
 ghost use Rattle.lvdc_place.specs.declared.block.Kind.TheVariants.{Code};

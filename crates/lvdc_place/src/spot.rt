@@ -1,4 +1,4 @@
-ghost use Rattle.std.specs.Prelude.{◌≡◌, ◌+◌, ◌<◌, ◌≤◌, true, IfOk, IfSome};
+ghost use Rattle.std.specs.Prelude.{◌≡◌, ◌+◌, ◌<◌, ◌≤◌, true, IfOk};
 ghost use Rattle.lvdc_place.specs.Slot.{slot_after, sector_start};
 ghost use Rattle.lvdc_place.specs.Blocks.{size_ahead, blocks_of};
 ghost use Rattle.lvdc_place.specs.Fitting.{AreInRange, AllFit};

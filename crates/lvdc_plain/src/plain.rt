@@ -1,6 +1,6 @@
 //! The plain machine.
 
-ghost use Rattle.std.specs.Prelude.{◌≡◌, ◌≢◌, ℕ, ◌+◌, ◌-◌, ◌*◌, ◌%◌, ◌^◌, ◌≤◌, ◌<◌, length, map, true, IsSome, IsNone, slice_index, vec_len, vec_capacity, OnOk, OnErr, IfOk, IfErr, Option, Some, None};
+ghost use Rattle.std.specs.Prelude.{◌≡◌, ◌≢◌, ℕ, ◌+◌, ◌-◌, ◌*◌, ◌≤◌, ◌<◌, length, map, true, IsSome, IsNone, slice_index, vec_len, vec_capacity, OnOk, OnErr, IfOk, IfErr, Some, None};
 ghost use Rattle.lvdc_map.specs.Address.{number_of};
 ghost use Rattle.lvdc_map.specs.Banks.{is_there};
 ghost use Rattle.lvdc_map.specs.Memory.{Memory, word_at, IsMemory, are_rising, AllThere};

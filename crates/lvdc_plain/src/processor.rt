@@ -1,6 +1,6 @@
 //! The registers and the memory, and what an instruction does to them.
 
-ghost use Rattle.std.specs.Prelude.{◌≡◌, ◌-◌, ◌<◌, ℕ, None, if◌then◌else◌};
+ghost use Rattle.std.specs.Prelude.{◌≡◌, ◌-◌, ◌<◌, None, if◌then◌else◌};
 ghost use Rattle.lvdc_isa.specs.Instr.{takes_operand};
 ghost use Rattle.lvdc_map.specs.Hop.{after, word_of_hop};
 ghost use Rattle.lvdc_map.specs.Memory.{Memory, IsMemory};
