@@ -13,7 +13,6 @@ use Rattle.lvdc_port.specs.Device.{Device}
 use Rattle.lvdc_port.specs.Devices.{exchange_word, after_exchange, HoldWords}
 use Rattle.lvdc_port.specs.declared.requests.PortRequest.TheVariants.{Read, Write}
 use Rattle.lvdc_modules.specs.declared.wanted.Wanted.{Wanted}
-use Rattle.lvdc_modules.specs.declared.wanted.Wanted.TheVariants.{Nothing, Fetch, Operand, PortRead, PortWrite}
 use Rattle.lvdc_modules.specs.declared.wanted.Wanted.TheVariants as wanted
 use Rattle.lvdc_plain.specs.Accesses.{Store, store_of, store_to, store_by}
 use Rattle.lvdc_plain.specs.Plain.{PlainState}

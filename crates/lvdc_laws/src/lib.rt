@@ -3,7 +3,7 @@
 //! the heart of what the simulator promises. The laws of whole runs rest on those of one step, which come after them.
 #![tactic(auto)]
 
-ghost use Rattle.std.specs.Prelude.{◌≡◌, ◌≢◌, ℕ, suc, ◌*◌, ◌<◌, None, Some, []};
+ghost use Rattle.std.specs.Prelude.{◌≡◌, ◌≢◌, ℕ, suc, ◌*◌, None, Some, []};
 ghost use Rattle.lvdc_map.specs.Address.{Spot};
 ghost use Rattle.lvdc_map.specs.Banks.{HasBank};
 ghost use Rattle.lvdc_plain.specs.Run.{Opening, run};

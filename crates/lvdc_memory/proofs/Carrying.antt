@@ -8,7 +8,7 @@ use Rattle.lvdc_map.specs.Memory.{Memory, word_at, stored, IsMemory}
 use Rattle.lvdc_twin.specs.Calls as calls
 use Rattle.lvdc_twin.specs.Calls.{ChangesAreLocal}
 use Rattle.lvdc_twin.specs.Store as store
-use Rattle.lvdc_twin.specs.Store.{Store, IsStore, stored_in, stuck_in, shown_in, survives}
+use Rattle.lvdc_twin.specs.Store.{Store, IsStore, stored_in, shown_in, survives}
 use Rattle.lvdc_twin.specs.declared.both_bad.BothBad.{BothBad}
 use Rattle.lvdc_twin.specs.declared.read_out.ReadOut.{ReadOut}
 use Rattle.lvdc_fault.specs.Ledger.{Intended}

@@ -1,4 +1,4 @@
-use Rattle.std.proofs.Common.{List, Some, sym, subst, ◌+◌, ◌∙◌}
+use Rattle.std.proofs.Common.{List, Some, sym, subst, ◌+◌}
 use Rattle.lvdc_fault.specs.declared.event.Event.{Event}
 use Rattle.lvdc_twin.specs.Store.{nothing}
 use Rattle.lvdc_model.specs.Exchanges.{damages}
