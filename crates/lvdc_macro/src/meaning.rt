@@ -1,4 +1,4 @@
-ghost use Rattle.std.specs.Prelude.{◌≡◌, ◌-◌, ◌^◌, ◌<◌, ℕ, List, length, All, IfOk};
+ghost use Rattle.std.specs.Prelude.{◌-◌, ◌^◌, ◌<◌, ℕ, List, length, All, IfOk};
 ghost use Rattle.lvdc_macro.specs.Macros.{meaning_of};
 ghost use Rattle.lvdc_macro.specs.Making.{macros_of, Means, HasLinesOf};
 ghost use Rattle.lvdc_text.specs.Lines.{IsWithin};

@@ -1,7 +1,6 @@
 //! The redundancy part of a report: which copies differed how often, and which cells were repaired.
 
 ghost use Rattle.std.specs.Prelude.{◌≡◌, ◌+◌, ◌*◌, ◌<◌, ◌≤◌, ◌^◌, ◌++◌, length, All, OnOk};
-ghost use Rattle.lvdc_logic.specs.Logic.{count_of};
 ghost use Rattle.lvdc_report.specs.Voted.{wrong_line, wrong_lines, wrong_text, switch_text, repair_line, repairs_text};
 
 use crate::end::put_address;

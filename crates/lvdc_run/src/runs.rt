@@ -1,10 +1,9 @@
 //! Runs of a deck by each of the machines.
 
-ghost use Rattle.std.specs.Prelude.{◌≡◌, ◌≤◌, List, ℕ, length, map, OnOk, OnErr, IfOk};
+ghost use Rattle.std.specs.Prelude.{◌≡◌, ◌≤◌, List, ℕ, length, map, OnErr, IfOk};
 ghost use Rattle.lvdc_port.specs.Devices.{AreDistinct};
 ghost use Rattle.lvdc_plain.specs.View.{answer_of_end as plain_answer_of_end};
 ghost use Rattle.lvdc_machine.specs.View.{answer_of_end};
-ghost use Rattle.lvdc_machine.specs.declared.mode.Mode.TheVariants as modes;
 ghost use Rattle.lvdc_report.specs.Report.{outcome_of};
 ghost use Rattle.lvdc_reply.specs.Answer.{answer_with};
 ghost use Rattle.lvdc_run.specs.Trials.{trial_of, IsRunnable};
