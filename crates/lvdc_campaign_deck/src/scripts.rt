@@ -1,7 +1,6 @@
 //! The scripts of a campaign, line by line.
 
 ghost use Rattle.std.specs.Prelude.{◌≡◌, ◌≢◌, ◌<◌, ◌≤◌, ◌-◌, ◌^◌, length, map, IfOk, IfErr, OnOk, All, Ok, Err, None, IsTrue};
-ghost use Rattle.std.specs.Str.{bytes_eq};
 ghost use Rattle.lvdc_text.specs.Lines.{IsWithin, part_of};
 ghost use Rattle.lvdc_script_lines.specs.Lines.{fault_in};
 ghost use Rattle.lvdc_source.specs.Names.{is_name};

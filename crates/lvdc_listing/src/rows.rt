@@ -1,6 +1,6 @@
 //! The rows of the lines of a source.
 
-ghost use Rattle.std.specs.Prelude.{◌≡◌, ◌<◌, ◌-◌, ◌++◌, ◌∷◌, [], length, replicate, map, decimal, All, OnOk};
+ghost use Rattle.std.specs.Prelude.{◌≡◌, ◌<◌, ◌-◌, ◌++◌, ◌∷◌, [], replicate, map, decimal, All, OnOk};
 ghost use Rattle.lvdc_map.specs.Memory.{IsMemory, memory_of};
 ghost use Rattle.lvdc_text.specs.Lines.{IsWithin, numbered};
 ghost use Rattle.lvdc_image.specs.Image.{text_of};

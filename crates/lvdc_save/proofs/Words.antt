@@ -1,5 +1,5 @@
 -- Texts of words with single blanks between them, and what the words of such a text are.
-use Rattle.std.proofs.Common.{◌≡◌, ℕ, ◌+◌, ◌*◌, ◌-◌, ◌/◌, ◌%◌, ◌^◌, ◌<◌, ◌≤◌, zero, suc, Bool, true, false, leb, ltb, ◌&&◌, ◌==◌, List, [], ◌∷◌, ◌++◌, All, length, get_or, None, Some, refl, sym, ap, ◌∙◌, arith, rules, append_assoc, append-nil, decimal, if◌then◌else◌}
+use Rattle.std.proofs.Common.{◌≡◌, ℕ, ◌+◌, ◌*◌, ◌-◌, ◌/◌, ◌%◌, ◌^◌, ◌<◌, ◌≤◌, zero, suc, Bool, true, false, leb, ltb, ◌==◌, List, [], ◌∷◌, ◌++◌, All, length, get_or, None, Some, refl, sym, ap, ◌∙◌, arith, rules, append_assoc, append-nil, decimal, if◌then◌else◌}
 use Rattle.std.specs.Prelude.{nat_lt, nat_le}
 use Rattle.std.specs.List.{list_all, slice_split, filter}
 use Rattle.std.proofs.lemmas.Bool.{leb-true, ltb-true}

@@ -1,7 +1,6 @@
 //! The lines of events, as a deck has them.
 
-ghost use Rattle.std.specs.Prelude.{◌≡◌, ◌++◌, codes, OnOk};
-ghost use Rattle.lvdc_report.specs.Report.{spot_text};
+ghost use Rattle.std.specs.Prelude.{◌≡◌, ◌++◌, OnOk};
 ghost use Rattle.lvdc_fault.specs.declared.event.Event.TheVariants as happens;
 ghost use Rattle.lvdc_save.specs.Lines.{fault_line};
 

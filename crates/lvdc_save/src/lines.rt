@@ -1,14 +1,14 @@
 //! The lines of a saved text, one by one.
 
-ghost use Rattle.std.specs.Prelude.{◌≡◌, ◌<◌, ◌≤◌, ◌^◌, ◌++◌, ◌+◌, map, length, codes, OnOk, All};
+ghost use Rattle.std.specs.Prelude.{◌≡◌, ◌<◌, ◌≤◌, ◌^◌, ◌++◌, ◌+◌, map, length, OnOk, All};
 ghost use Rattle.lvdc_map.specs.Address.{IsAddress};
-ghost use Rattle.lvdc_image.specs.Image.{IsPlaced, pair_name, simplex_line};
+ghost use Rattle.lvdc_image.specs.Image.{IsPlaced, pair_name};
 ghost use Rattle.lvdc_vote.specs.Copies.{IsFullOrder};
-ghost use Rattle.lvdc_report.specs.Report.{lines_of, direction, spot_text, exchange_line};
+ghost use Rattle.lvdc_report.specs.Report.{direction, exchange_line};
 ghost use Rattle.lvdc_report.specs.Voted.{switch_text, repair_line};
 ghost use Rattle.lvdc_save.specs.declared.TheConstants.{MOST_TIMES};
 ghost use Rattle.lvdc_save.specs.declared.entry.Entry.TheVariants as says;
-ghost use Rattle.lvdc_save.specs.Lines.{number_after, word_after, copy_line, select_line, cell_line, word_line, state_line, unplug_line, order_line, entry_line};
+ghost use Rattle.lvdc_save.specs.Lines.{copy_line, select_line, cell_line, word_line, state_line, unplug_line, order_line, entry_line};
 ghost use Rattle.lvdc_save.specs.Printed.{IsExchange, IsSupply, IsUnplug};
 
 use crate::entry::Entry;

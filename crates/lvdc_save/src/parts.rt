@@ -1,8 +1,8 @@
 //! The parts of lines.
 
-ghost use Rattle.std.specs.Prelude.{◌≡◌, ◌<◌, ◌^◌, ◌++◌, map, All, OnOk};
+ghost use Rattle.std.specs.Prelude.{◌≡◌, ◌<◌, ◌^◌, ◌++◌, All, OnOk};
 ghost use Rattle.lvdc_map.specs.Address.{IsAddress};
-ghost use Rattle.lvdc_report.specs.Report.{lines_of, spot_text};
+ghost use Rattle.lvdc_report.specs.Report.{lines_of};
 ghost use Rattle.lvdc_save.specs.Lines.{number_after, word_after, cell_after, spot_after, acts_on};
 
 use lvdc_map::Address;
