@@ -8,7 +8,6 @@ use Rattle.lvdc_word.specs.Cell.{code_of}
 use Rattle.lvdc_map.specs.Address.{number_of}
 use Rattle.lvdc_map.specs.Banks.{is_there}
 use Rattle.lvdc_map.specs.Memory as image
-use Rattle.lvdc_map.specs.Memory.{AllThere}
 use Rattle.lvdc_map.specs.declared.placed.Placed.{Placed}
 use Rattle.lvdc_twin.specs.Store.{slot_of}
 use Rattle.lvdc_twin.specs.Cells.{NamesPlace, are_rising}

@@ -3,10 +3,10 @@
 ghost use Rattle.std.specs.Prelude.{◌≡◌, ◌<◌, ◌≤◌, ◌+◌, ◌-◌, ◌^◌, ◌∷◌, ◌++◌, [], ℕ, List, length, map, codes, IfOk, IfSome, All};
 ghost use Rattle.std.specs.List.{list_any};
 ghost use Rattle.std.specs.Str.{bytes_eq};
-ghost use Rattle.lvdc_text.specs.Lines.{IsWithin, part_of, word_texts_of};
+ghost use Rattle.lvdc_text.specs.Lines.{IsWithin, part_of};
 ghost use Rattle.lvdc_save.specs.Sound.{IsEntry};
 ghost use Rattle.lvdc_save.specs.Lines.{entry_line};
-ghost use Rattle.lvdc_save.specs.Entries.{title_in, steps_line_in, count_line_in, pair_bit, pairs_in, simplex_line_in, copy_line_in, select_of, select_line_in, cell_line_in, word_line_in, exchange_line_in, switch_in, repair_of, repair_line_in, state_line_in, unplug_line_in, script_of, end_in, list_line_in, head_line_in, entry_in, spelled, entry_of};
+ghost use Rattle.lvdc_save.specs.Entries.{title_in, steps_line_in, count_line_in, pair_bit, simplex_line_in, copy_line_in, select_of, select_line_in, cell_line_in, word_line_in, exchange_line_in, switch_in, repair_of, repair_line_in, state_line_in, unplug_line_in, script_of, end_in, list_line_in, head_line_in, entry_in, entry_of};
 ghost use Rattle.lvdc_script_lines.specs.Lines.{fault_in, order_in};
 
 use crate::fields::{cell_in, port_in, spot_in, steps_in, times_in, twin_in, words_in};

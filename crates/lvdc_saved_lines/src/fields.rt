@@ -1,7 +1,6 @@
 //! The fields of lines.
 
-ghost use Rattle.std.specs.Prelude.{◌≡◌, ◌<◌, ◌≤◌, ◌^◌, ℕ, List, map, option_map, IfSome, IfOk, All};
-ghost use Rattle.lvdc_map.specs.Address.{Spot};
+ghost use Rattle.std.specs.Prelude.{◌≡◌, ◌<◌, ◌≤◌, map, option_map, IfSome, IfOk, All};
 ghost use Rattle.lvdc_text.specs.Lines.{IsWithin, part_of};
 ghost use Rattle.lvdc_save.specs.declared.TheConstants.{MOST_TIMES};
 ghost use Rattle.lvdc_save.specs.Entries.{steps_in, times_in, port_in, twin_in, cell_in, spot_in, words_in};

@@ -1,4 +1,4 @@
-ghost use Rattle.std.specs.Prelude.{◌≡◌, ◌≢◌, ◌+◌, ◌-◌, ◌^◌, ◌*◌, ◌++◌, ◌≤◌, ◌<◌, ◌==◌, ◌%◌, [], ℕ, List, length, map, true, if◌then◌else◌, OnOk, OnErr, IfOk, All, Ok, Err};
+ghost use Rattle.std.specs.Prelude.{◌≡◌, ◌+◌, ◌-◌, ◌^◌, ◌*◌, ◌++◌, ◌≤◌, ◌<◌, ◌==◌, ◌%◌, length, map, true, if◌then◌else◌, OnOk, IfOk, All};
 ghost use Rattle.lvdc_twin.specs.Store.{slot_of};
 ghost use Rattle.lvdc_port.specs.Supplies.{kind_at};
 ghost use Rattle.std.specs.List.{list_any};
@@ -9,8 +9,7 @@ ghost use Rattle.lvdc_save.specs.declared.TheConstants.{MOST_TIMES, MOST_EVENTS,
 ghost use Rattle.lvdc_save.specs.Sound.{IsSound};
 ghost use Rattle.lvdc_save.specs.declared.entry.Entry.TheVariants as says;
 ghost use Rattle.lvdc_save.specs.Entries.{entry_of};
-ghost use Rattle.lvdc_save.specs.Reading.{nothing_said, section_of, place_of, holds_one, HasNext, least_after, least_in, is_at_rest, is_next_copy, agrees, fits, is_unplugged, line_in, without_words, without_device, lacking, latch_at, marks_with, adds, moved_on, after_entry, by_entry, whole_of, saved_in, Makes};
-ghost use Rattle.lvdc_save.specs.declared.fault.SaveFault.TheVariants.{NoMemory as WantsMemory, BadSave};
+ghost use Rattle.lvdc_save.specs.Reading.{nothing_said, section_of, place_of, holds_one, HasNext, least_after, least_in, is_at_rest, is_next_copy, agrees, fits, is_unplugged, line_in, without_words, without_device, lacking, latch_at, adds, after_entry, by_entry, whole_of, Makes};
 
 use crate::entries::entry_of;
 use lvdc_fault::Script;
@@ -53,7 +52,6 @@ pub(crate) struct Reading {
 }
 
 impl Model for Reading {
-    ghost use Rattle.std.specs.Prelude.{◌≤◌, length};
     ghost use Rattle.lvdc_save.specs.Reading.{Progress};
 
     ghost Value = { Progress };

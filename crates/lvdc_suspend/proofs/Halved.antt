@@ -1,5 +1,5 @@
 -- What is known of a text that was saved, from where its machine stood.
-use Rattle.std.proofs.Common.{◌≡◌, ℕ, ◌*◌, List, map, Result, Ok, Err, OnOk, IfOk, None, Some, refl, sym, ap, subst, ◌∙◌, inl, inr, ◌⊎◌, arith}
+use Rattle.std.proofs.Common.{◌≡◌, ℕ, ◌*◌, List, map, Result, Ok, Err, OnOk, IfOk, None, Some, sym, ap, subst, ◌∙◌, arith}
 use Rattle.std.specs.declared.option.Option.{Option}
 use Rattle.lvdc_port.specs.Device as device
 use Rattle.lvdc_fault.specs.declared.event.Event.{Event}

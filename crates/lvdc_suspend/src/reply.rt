@@ -1,4 +1,4 @@
-ghost use Rattle.std.specs.Prelude.{◌≡◌, ◌≢◌, ◌-◌, ◌^◌, ◌<◌, ◌≤◌, ◌%◌, length, map, None, Some, Ok, Err, OnOk, OnErr, IfOk, IfErr};
+ghost use Rattle.std.specs.Prelude.{◌≡◌, ◌≢◌, ◌-◌, ◌^◌, ◌<◌, ◌≤◌, length, map, Ok, Err, OnErr, IfOk, IfErr};
 ghost use Rattle.lvdc_port.specs.Devices.{AreDistinct};
 ghost use Rattle.lvdc_deck.specs.declared.fault.DeckFault.TheVariants.{NoMemory as WantsMemory};
 ghost use Rattle.lvdc_reply.specs.Answer.{answer_with};

@@ -1,6 +1,6 @@
 //! What the devices hold.
 
-ghost use Rattle.std.specs.Prelude.{◌≡◌, ◌++◌, ◌<◌, ◌^◌, length, map, slice_get, OnOk, IfOk};
+ghost use Rattle.std.specs.Prelude.{◌≡◌, ◌++◌, map, slice_get, OnOk, IfOk};
 ghost use Rattle.lvdc_deck.specs.Sections.{supply_of};
 ghost use Rattle.lvdc_suspend.specs.States.{state_at, states_of};
 
