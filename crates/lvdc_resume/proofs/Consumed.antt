@@ -11,7 +11,7 @@ use Rattle.lvdc_text.specs.Lines.{NumberedLine, is_line_feed, lines_of, part_of,
 use Rattle.lvdc_text.proofs.Texts.{texts-lines_of}
 use Rattle.lvdc_port.specs.Device.{Device}
 use Rattle.lvdc_report.specs.Report as report
-use Rattle.lvdc_report.specs.Report.{exchange_line, log_text}
+use Rattle.lvdc_report.specs.Report.{exchange_line}
 use Rattle.lvdc_report.specs.Voted.{repair_line}
 use Rattle.lvdc_save.specs.Entries.{entry_in, spelled}
 use Rattle.lvdc_save.specs.Lines.{entry_line}

@@ -1,5 +1,5 @@
 -- How a saved text is answered, by what it tells.
-use Rattle.std.proofs.Common.{◌≡◌, ℕ, List, map, Ok, Err, refl, sym, ap, subst, inl, inr, ◌⊎◌, arith}
+use Rattle.std.proofs.Common.{◌≡◌, ℕ, List, map, Ok, Err, refl, sym, ap, subst, inl, inr}
 use Rattle.lvdc_port.specs.Device.{Device}
 use Rattle.lvdc_reply.specs.Answer.{Answer, answer_with, refusal_text}
 use Rattle.lvdc_reply.specs.Replies as reply

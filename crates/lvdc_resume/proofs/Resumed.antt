@@ -1,5 +1,5 @@
 -- What the run that goes on comes to, from where its machine and devices stand.
-use Rattle.std.proofs.Common.{◌≡◌, ℕ, List, map, Result, Ok, Err, OnErr, None, Some, refl, sym, ap, subst, ◌∙◌}
+use Rattle.std.proofs.Common.{◌≡◌, ℕ, List, map, None, Some, refl, sym, ap, subst, ◌∙◌}
 use Rattle.std.specs.declared.option.Option.{Option}
 use Rattle.lvdc_port.specs.Device as device
 use Rattle.lvdc_port.specs.Supplies.{kind_at}

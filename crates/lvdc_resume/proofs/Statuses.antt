@@ -1,5 +1,5 @@
 -- What the statuses 5 and 6 of a resumed run come from.
-use Rattle.std.proofs.Common.{◌≡◌, ℕ, List, Result, Ok, Err, None, Some, refl, ap, ◌∙◌, inl, inr, ◌⊎◌, arith}
+use Rattle.std.proofs.Common.{◌≡◌, ℕ, List, Result, Ok, Err, None, Some, refl, ap, ◌∙◌, ◌⊎◌, arith}
 use Rattle.std.specs.declared.option.Option.{Option}
 use Rattle.lvdc_port.specs.Device as device
 use Rattle.lvdc_model.specs.declared.outcome.Outcome.{Outcome}
