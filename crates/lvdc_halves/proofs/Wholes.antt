@@ -1,5 +1,5 @@
 -- A run that goes on from a text that tells it is answered as the whole run is.
-use Rattle.std.proofs.Common.{◌≡◌, ◌≢◌, ℕ, List, Result, Ok, Err, OnErr, sym, ap, ◌∙◌}
+use Rattle.std.proofs.Common.{◌≡◌, ◌≢◌, ℕ, List, Ok, sym, ap, ◌∙◌}
 use Rattle.lvdc_port.specs.Device.{Device}
 use Rattle.lvdc_save.specs.Reading.{saved_of}
 use Rattle.lvdc_save.specs.declared.saved.Saved.{Saved}
