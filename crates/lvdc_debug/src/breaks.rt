@@ -1,4 +1,4 @@
-ghost use Rattle.std.specs.Prelude.{◌≡◌, ◌↔◌, ◌≤◌, [], length, true, false, IfOk, IsErr, OnErr};
+ghost use Rattle.std.specs.Prelude.{◌≡◌, ◌↔◌, ◌≤◌, [], length, false, IfOk, IsErr, OnErr};
 ghost use Rattle.lvdc_debug.specs.Breaks.{is_same_spot, is_set, takes, with_break};
 
 use crate::Spot2;

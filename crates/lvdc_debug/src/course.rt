@@ -5,7 +5,7 @@ ghost use Rattle.lvdc_port.specs.Device as device;
 ghost use Rattle.lvdc_model.specs.Trial.{Trial};
 ghost use Rattle.lvdc_laws.specs.Ends.{IsOpening};
 ghost use Rattle.lvdc_machine.specs.Stands.{Stands, state_by};
-ghost use Rattle.lvdc_debug.specs.Session.{Subject, at_start, place_of, rests, rests_after, first_after, left, after_command, does_all};
+ghost use Rattle.lvdc_debug.specs.Session.{Subject, at_start, place_of, rests, left, after_command, does_all};
 ghost use Rattle.lvdc_debug.specs.Standing.{IsReady, Moves, IsSubject};
 
 use crate::{Breaks, Command, Spot2};

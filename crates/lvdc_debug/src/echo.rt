@@ -1,7 +1,6 @@
 //! A line of a session as it is written again.
 
 ghost use Rattle.std.specs.Prelude.{◌≡◌, ◌+◌, ◌≤◌, ◌++◌, length, OnOk};
-ghost use Rattle.lvdc_text.specs.Lines.{is_blank};
 ghost use Rattle.lvdc_debug.specs.Commands.{after_blanks, before_blanks};
 ghost use Rattle.lvdc_debug.specs.Session.{echo_line};
 
