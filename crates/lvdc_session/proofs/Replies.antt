@@ -1,5 +1,5 @@
 -- How a session is answered, by its deck.
-use Rattle.std.proofs.Common.{◌≡◌, ℕ, true, List, map, Result, Ok, Err, OnErr, None, refl, sym, ap, subst, inl, inr, ◌⊎◌, arith}
+use Rattle.std.proofs.Common.{◌≡◌, ℕ, true, List, map, Ok, Err, None, refl, sym, ap, subst}
 use Rattle.lvdc_port.specs.Device.{Device}
 use Rattle.lvdc_deck.specs.Deck.{deck_of}
 use Rattle.lvdc_deck.specs.Faults.{name_of, line_of}

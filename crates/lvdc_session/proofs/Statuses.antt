@@ -1,5 +1,5 @@
 -- What the statuses of a session come from.
-use Rattle.std.proofs.Common.{◌≡◌, ◌≢◌, ℕ, true, List, IsSome, Result, Ok, Err, None, Some, refl, ap, subst, ◌∙◌, inl, inr, ◌⊎◌, arith}
+use Rattle.std.proofs.Common.{◌≡◌, ◌≢◌, ℕ, true, List, IsSome, Result, Ok, Err, None, Some, refl, ap, subst, ◌∙◌, inl, inr, arith}
 use Rattle.std.specs.declared.option.Option.{Option}
 use Rattle.lvdc_port.specs.Device.{Device}
 use Rattle.lvdc_plain.specs.declared.records.Stop.{Stop}
