@@ -1,7 +1,5 @@
-ghost use Rattle.std.specs.Prelude.{◌≡◌, ◌+◌, ◌-◌, ◌^◌, ◌<◌, ◌≤◌, length, slice_index_or, IfOk};
-ghost use Rattle.lvdc_text.specs.Lines.{lines_of};
+ghost use Rattle.std.specs.Prelude.{◌≡◌, ◌-◌, ◌^◌, ◌<◌, ◌≤◌, length, slice_index_or, IfOk};
 ghost use Rattle.lvdc_assemble.specs.Answers.{assembly_in, status_of};
-ghost use Rattle.lvdc_macro.specs.Making.{Expands};
 ghost use Rattle.lvdc_macro.specs.declared.expansion.TheConstants.{LONGEST_EXPANSION};
 ghost use Rattle.lvdc_expand.specs.Answers.{expansion_in, assembled_text, status_by, text_by};
 ghost use Rattle.lvdc_expand.specs.declared.TheConstants.{LONGEST_TEXT};
