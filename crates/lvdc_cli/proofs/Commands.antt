@@ -1,5 +1,5 @@
 -- The laws of the runs, as facts of commands: each command has its case.
-use Rattle.std.proofs.Common.{◌≡◌, ◌≢◌, ℕ, false, List, map, Result, Ok, Err, IfOk, OnOk, refl, sym, subst, ap, ◌∙◌, ◌⊎◌, inl, inr, arith}
+use Rattle.std.proofs.Common.{◌≡◌, ◌≢◌, ℕ, false, List, map, Result, Ok, Err, IfOk, refl, sym, subst, ap, ◌∙◌, ◌⊎◌, inl, inr, arith}
 use Rattle.lvdc_port.specs.Device.{Device}
 use Rattle.std.specs.declared.option.Option.{Option}
 use Rattle.lvdc_model.specs.Trial.{Trial}

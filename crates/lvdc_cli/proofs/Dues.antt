@@ -1,5 +1,5 @@
 -- What the answer that is due says of its status.
-use Rattle.std.proofs.Common.{◌≡◌, ◌≢◌, ℕ, ◌+◌, ◌<◌, true, List, length, map, None, Some, IsSome, refl, sym, ap, subst, ◌∙◌, inl, inr, ◌⊎◌, arith}
+use Rattle.std.proofs.Common.{◌≡◌, ◌≢◌, ℕ, ◌+◌, ◌<◌, true, List, length, map, None, Some, IsSome, refl, sym, ap, subst, ◌∙◌, inl, inr, arith}
 use Rattle.std.specs.declared.option.Option.{Option}
 use Rattle.std.specs.Io.KnownBytes.{IsAtEnd}
 use Rattle.lvdc_text.specs.Causes.{Rose}
@@ -9,7 +9,7 @@ use Rattle.lvdc_reply.specs.Answer.{Answer}
 use Rattle.lvdc_reply.specs.Replies.{Quiet, IsRefused}
 use Rattle.lvdc_reply.proofs.Statuses.{kept_quiet}
 use Rattle.lvdc_cli.specs.declared.command.Command.{Command}
-use Rattle.lvdc_cli.specs.Words.{command_of, reads, reads_for, limit_of, limit_for}
+use Rattle.lvdc_cli.specs.Words.{command_of, reads, limit_of, limit_for}
 use Rattle.lvdc_cli.specs.Commands.{command_answer, input_of, usage_answer, read_fault_answer, too_long_answer, memory_answer, IsReplyTo, IsLeftUnanswered, answer_by, answer, HoldsFor}
 use Rattle.lvdc_cli.specs.Outside.{SourceState, Outside}
 use Rattle.lvdc_cli.specs.Top.{HasRead, IsInput, IsAbandoned, after_reading, IsDue, usage, read_fault, too_long, replied, wants_memory, IsRefusal}

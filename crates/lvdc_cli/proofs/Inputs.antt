@@ -1,5 +1,5 @@
 -- What was read, where the source tells its bytes.
-use Rattle.std.proofs.Common.{◌≡◌, ℕ, ◌+◌, ◌<◌, ◌≤◌, Bool, true, false, nat_lt, List, [], ◌++◌, length, map, None, Some, IsSome, if◌then◌else◌, refl, sym, ap, subst, ◌∙◌, arith, length-append}
+use Rattle.std.proofs.Common.{◌≡◌, ℕ, ◌+◌, ◌<◌, ◌≤◌, Bool, true, false, nat_lt, List, [], ◌++◌, length, None, Some, IsSome, if◌then◌else◌, refl, sym, ap, subst, ◌∙◌, arith, length-append}
 use Rattle.std.proofs.lemmas.Bool.Decides.{nat_tests}
 use Rattle.std.proofs.lemmas.List.{append-nil}
 use Rattle.std.specs.declared.option.Option.{Option}
@@ -12,7 +12,7 @@ use Rattle.lvdc_reply.specs.Answer.{Answer}
 use Rattle.lvdc_run.specs.declared.job.Job.{Job}
 use Rattle.lvdc_cli.specs.declared.command.Command.{Command}
 use Rattle.lvdc_cli.specs.Words.{reads, reads_for, limit_of, limit_for}
-use Rattle.lvdc_cli.specs.Commands.{command_answer, input_of, too_long_answer, answer_by, Has, RunsThat}
+use Rattle.lvdc_cli.specs.Commands.{command_answer, input_of, too_long_answer, answer_by, Has}
 use Rattle.lvdc_cli.specs.Outside.{SourceState}
 use Rattle.lvdc_cli.specs.Top.{HasReadUpTo, HasRead}
 use Rattle.lvdc_cli.proofs.Commands.{RunSays, command_is}

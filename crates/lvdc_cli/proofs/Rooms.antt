@@ -1,8 +1,8 @@
 -- The room that texts may take: a report's at least, a session's at most.
-use Rattle.std.proofs.Common.{ℕ, ◌≤◌, arith}
+use Rattle.std.proofs.Common.{◌≤◌, arith}
 use Rattle.std.specs.declared.option.Option.{Option}
 use Rattle.std.specs.declared.option.Option.TheVariants.{None, Some}
-use Rattle.lvdc_cli.specs.declared.TheConstants.{ROOM, SESSION_ROOM, SAVED_ROOM, RESUMED_ROOM}
+use Rattle.lvdc_cli.specs.declared.TheConstants.{ROOM, SESSION_ROOM}
 use Rattle.lvdc_cli.specs.declared.command.Command.{Command}
 use Rattle.lvdc_cli.specs.declared.command.Command.TheVariants.{Run, Soak, Assemble, Debug, Save, Resume, Campaign, Uplink, Expand}
 use Rattle.lvdc_cli.specs.Commands.{room_of, room_for}

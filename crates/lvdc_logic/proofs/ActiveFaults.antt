@@ -51,21 +51,21 @@ acts_by_number : (number copy first last step n : ℕ) → IsCopy number copy �
     → acts_on number copy first last step (n / 3 + 1) (n % 3 + 1) ≡ (3 * (number - 1) + (copy - 1) == n)
 acts_by_number number copy first last step n is within =
     by_module (number == n / 3 + 1) (copy == n % 3 + 1) (3 * (number - 1) + (copy - 1) == n) refl refl refl where
-  by_module : (a b c : Bool) → (number == n / 3 + 1) ≡ a → (copy == n % 3 + 1) ≡ b → (3 * (number - 1) + (copy - 1) == n) ≡ c
-      → (a && b && is_within first last step) ≡ c
-  by_module true true true ha hb hc = within
-  by_module true true false ha hb hc =
-      let m = eqb-true number (n / 3 + 1) ha in
-      let k = eqb-true copy (n % 3 + 1) hb in
-      absurd (eqb-false (3 * (number - 1) + (copy - 1)) n hc (omega (arith, m, k)))
-  by_module true false true ha hb hc =
-      let e = eqb-true (3 * (number - 1) + (copy - 1)) n hc in
-      absurd (eqb-false copy (n % 3 + 1) hb (omega (arith, e, is.first_module, is.first_copy, is.last_copy)))
-  by_module true false false ha hb hc = refl
-  by_module false b true ha hb hc =
-      let e = eqb-true (3 * (number - 1) + (copy - 1)) n hc in
-      absurd (eqb-false number (n / 3 + 1) ha (omega (arith, e, is.first_module, is.first_copy, is.last_copy)))
-  by_module false b false ha hb hc = refl
+      by_module : (a b c : Bool) → (number == n / 3 + 1) ≡ a → (copy == n % 3 + 1) ≡ b → (3 * (number - 1) + (copy - 1) == n) ≡ c
+          → (a && b && is_within first last step) ≡ c
+      by_module true true true ha hb hc = within
+      by_module true true false ha hb hc =
+          let m = eqb-true number (n / 3 + 1) ha in
+          let k = eqb-true copy (n % 3 + 1) hb in
+          absurd (eqb-false (3 * (number - 1) + (copy - 1)) n hc (omega (arith, m, k)))
+      by_module true false true ha hb hc =
+          let e = eqb-true (3 * (number - 1) + (copy - 1)) n hc in
+          absurd (eqb-false copy (n % 3 + 1) hb (omega (arith, e, is.first_module, is.first_copy, is.last_copy)))
+      by_module true false false ha hb hc = refl
+      by_module false b true ha hb hc =
+          let e = eqb-true (3 * (number - 1) + (copy - 1)) n hc in
+          absurd (eqb-false number (n / 3 + 1) ha (omega (arith, e, is.first_module, is.first_copy, is.last_copy)))
+      by_module false b false ha hb hc = refl
 
 -- one hurt more, where the copy is the one that is named
 hurt_if : (b : Bool) (f : Faults) (hurt : Hurt) → record { deaf = f.deaf || false; harm = harm_after f.harm (if b then hurt ∷ [] else []) } ≡ (if b then record f { harm = harm_and f.harm hurt } else f)

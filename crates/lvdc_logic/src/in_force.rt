@@ -1,12 +1,12 @@
 //! What is in force on each copy of the logic: what the active events come to, however many they are.
 
-ghost use Rattle.std.specs.Prelude.{◌≡◌, ℕ, ◌+◌, ◌<◌, All, IfSome};
+ghost use Rattle.std.specs.Prelude.{◌≡◌, ◌+◌, ◌<◌, All, IfSome};
 ghost use Rattle.lvdc_vote.specs.Harms.{harm_and};
 ghost use Rattle.lvdc_vote.specs.Latches.{FitsLatches};
 ghost use Rattle.lvdc_fault.specs.Script.{active_at};
-ghost use Rattle.lvdc_logic.specs.InForce.{copies_and, copy_named, faults_and, faults_at, in_force_and, no_faults, nothing_in_force, IsInForce};
+ghost use Rattle.lvdc_logic.specs.InForce.{copy_named, faults_and, faults_at, in_force_and, no_faults, nothing_in_force, IsInForce};
 ghost use Rattle.lvdc_logic.specs.declared.in_force.InForce.{InForce};
-ghost use Rattle.lvdc_orders.specs.Events.{IsCopy, IsEvent};
+ghost use Rattle.lvdc_orders.specs.Events.{IsEvent};
 
 use crate::hit_modules::HitModules;
 use lvdc_fault::{Active, Event, Script, active_suffice, same_actives};
@@ -39,7 +39,10 @@ impl Faults {
         match *event {
             Event::Flip { index, mask, .. } => self.and_hurt(Hurt::Flip { index, mask }),
             Event::Force {
-                index, mask, value, ..
+                index,
+                mask,
+                value,
+                ..
             } => self.and_hurt(Hurt::Force { index, mask, value }),
             Event::Lag { .. } => self.and_hurt(Hurt::Lag),
             Event::Deaf { .. } => Faults {

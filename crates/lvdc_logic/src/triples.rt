@@ -172,21 +172,36 @@ impl Triples {
         settle(&mut self.timer, &mut counts.timer, hit.timer, voted);
         settle(&mut self.locator, &mut counts.locator, hit.locator, voted);
         settle(&mut self.decoder, &mut counts.decoder, hit.decoder, voted);
-        settle(&mut self.selector, &mut counts.selector, hit.selector, voted);
-        settle(&mut self.accumulator, &mut counts.accumulator, hit.accumulator, voted);
-        settle(&mut self.multiplier, &mut counts.multiplier, hit.multiplier, voted);
-        settle(&mut self.exchange, &mut counts.exchange, hit.exchange, voted);
+        settle(
+            &mut self.selector,
+            &mut counts.selector,
+            hit.selector,
+            voted,
+        );
+        settle(
+            &mut self.accumulator,
+            &mut counts.accumulator,
+            hit.accumulator,
+            voted,
+        );
+        settle(
+            &mut self.multiplier,
+            &mut counts.multiplier,
+            hit.multiplier,
+            voted,
+        );
+        settle(
+            &mut self.exchange,
+            &mut counts.exchange,
+            hit.exchange,
+            voted,
+        );
     }
 }
 
 /// The next copies of a module: what they latched, where it is hit, or three times the state that follows from the votes. Only where
 /// it is hit can one differ from the vote.
-fn settle<M: LogicModule>(
-    triple: &mut Triple<M>,
-    counts: &mut [u64; 3],
-    hit: bool,
-    voted: &M::Bus,
-)
+fn settle<M: LogicModule>(triple: &mut Triple<M>, counts: &mut [u64; 3], hit: bool, voted: &M::Bus)
     requires latched { Settles hit triple.old }
     requires differed { (c : ℕ) → slice_index counts.old c ≤ 2 ^ 63 }
     ensures value { triple.new ≡ after_step hit triple.old (M.next_of voted.now) }

@@ -1,6 +1,6 @@
 ghost use Rattle.std.specs.Prelude.{◌≡◌, ℕ, ◌+◌, map, OnOk, OnErr, IfOk, IfErr};
 ghost use Rattle.lvdc_port.specs.Device.{word_of_time};
-ghost use Rattle.lvdc_port.specs.Devices.{has_port, port_of, exchange_word, after_exchange, HasSpare, AreDistinct};
+ghost use Rattle.lvdc_port.specs.Devices.{port_of, exchange_word, after_exchange, HasSpare, AreDistinct};
 ghost use Rattle.lvdc_plain.specs.Lists.{Since};
 ghost use Rattle.lvdc_machine.specs.Causes.{Fails};
 

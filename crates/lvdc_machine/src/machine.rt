@@ -1,6 +1,6 @@
 //! The voted machine.
 
-ghost use Rattle.std.specs.Prelude.{◌≡◌, ℕ, ◌+◌, ◌-◌, ◌*◌, ◌/◌, ◌≤◌, ◌<◌, length, map, All, true, IsSome, IsNone, OnOk, IfOk, Option, Some, None, [], ◌≢◌};
+ghost use Rattle.std.specs.Prelude.{◌≡◌, ℕ, ◌+◌, ◌-◌, ◌*◌, ◌≤◌, ◌<◌, length, map, All, true, IsSome, IsNone, OnOk, IfOk, Option, Some, None, [], ◌≢◌};
 ghost use Rattle.lvdc_map.specs.Memory.{are_rising, AllThere};
 ghost use Rattle.lvdc_port.specs.Devices.{has_port, HasSpare, AreDistinct};
 ghost use Rattle.lvdc_fault.specs.declared.verdict.Verdict.{Verdict};

@@ -1,4 +1,4 @@
-ghost use Rattle.std.specs.Prelude.{◌≡◌, ℕ, ◌%◌, List, IfOk, None};
+ghost use Rattle.std.specs.Prelude.{◌≡◌, ◌%◌, List, IfOk, None};
 ghost use Rattle.lvdc_port.specs.Device as device;
 ghost use Rattle.lvdc_model.specs.Trial.{Trial};
 ghost use Rattle.lvdc_model.specs.Voted.{Voted};

@@ -1,6 +1,5 @@
 -- How the program answers: as the top call does over devices of which only the start is known outside.
 use Rattle.std.specs.Prelude.{◌≡◌, ℕ, ◌+◌, true, List, [], IsSome}
-use Rattle.std.specs.declared.option.Option.{Option}
 use Rattle.std.specs.declared.option.Option.TheVariants.{None, Some}
 use Rattle.lvdc_text.specs.Causes.{Rose}
 use Rattle.lvdc_text.specs.Transfer.{TookCount, TookAtMost}

@@ -1,6 +1,6 @@
 //! Physical places: what a twin shows there, and what is damaged, stuck or dead.
 
-ghost use Rattle.std.specs.Prelude.{◌≡◌, ◌-◌, ◌/◌, ◌<◌, bit_xor};
+ghost use Rattle.std.specs.Prelude.{◌≡◌, ◌-◌, ◌<◌, bit_xor};
 ghost use Rattle.lvdc_map.specs.Banks.{IsPlace};
 ghost use Rattle.lvdc_twin.specs.Store.{IsStore, stored_in, stuck_in, is_dead, selected_in, shown_in, with_cell, with_stuck_bits, with_dead};
 ghost use Rattle.lvdc_twin.specs.Calls.{ChangesAreLocal};

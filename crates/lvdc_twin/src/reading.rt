@@ -3,7 +3,7 @@
 ghost use Rattle.std.specs.Prelude.{◌≡◌, ℕ, ◌-◌, ◌/◌, ◌%◌, ◌^◌, ◌<◌, true, false, Ok, IfOk, IfSome, IsErr, OnErr, ◌↔◌};
 ghost use Rattle.lvdc_word.specs.Cell.{code_of};
 ghost use Rattle.lvdc_map.specs.Banks.{is_there, is_simplex, home, IsPlace};
-ghost use Rattle.lvdc_twin.specs.Store.{IsStore, nothing, selected_in, shown_in, survives, with_selected};
+ghost use Rattle.lvdc_twin.specs.Store.{IsStore, selected_in, shown_in, survives, with_selected};
 ghost use Rattle.lvdc_twin.specs.Calls.{answer_by_one, answer_by_two, answer_of, after_answer, shows_word, Finds, Mends, NoneGood};
 
 use crate::{BothBad, ReadOut, Twins};

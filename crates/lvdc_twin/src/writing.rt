@@ -1,6 +1,6 @@
 //! Writes: each twin that holds the address stores the word.
 
-ghost use Rattle.std.specs.Prelude.{◌≡◌, ◌/◌, ◌<◌, true};
+ghost use Rattle.std.specs.Prelude.{◌≡◌, ◌<◌, true};
 ghost use Rattle.lvdc_map.specs.Banks.{is_there, home, IsPlace};
 ghost use Rattle.lvdc_twin.specs.Store.{IsStore, with_word};
 ghost use Rattle.lvdc_twin.specs.Calls.{with_held, after_write};

@@ -200,6 +200,7 @@ pub none_differs : (words : List ℕ) (c : ℕ) → differs_of (settled words wo
 none_differs words c = rw (majority_of-first words words refl) (by (c == 0) (c == 1)) where
   same : not (same_words words words) ≡ false
   same = ap not ((same_words-Decides words words).1 refl)
+
   by : (a b : Bool) → not (same_words (if a then words else (if b then words else words)) words) ≡ false
   by true b = same
   by false true = same

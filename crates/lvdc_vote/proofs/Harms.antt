@@ -188,6 +188,7 @@ harmed_is hurts old next few same fits = rw (any_lags no_harm hurts) (by_lag (la
   begun_with : (ws : List ℕ) → length ws ≡ length old → patched_all (harm_of hurts).patches ws ≡ hurt_by_all ws hurts
   begun_with ws long =
       sym (hurts_patched no_harm ws hurts (omega (arith, few, long)) (rw long fits)) ∙ ap (λ (now : List ℕ). hurt_by_all now hurts) (patched_all_none 5 ws)
+
   by_lag : (b : Bool) → patched_all (harm_of hurts).patches (if b then old else next) ≡ hurt_by_all (if b then old else next) hurts
   by_lag true = begun_with old refl
   by_lag false = begun_with next same

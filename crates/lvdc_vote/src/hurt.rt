@@ -5,10 +5,9 @@ use crate::{LogicModule, Vote};
 use lvdc_word::Word;
 
 /// What is wrong with one copy of a module as it latches.
-#[derive(Clone, Copy, Debug, Default, PartialEq, Eq)]
+#[derive(Clone, Copy, Debug, PartialEq, Eq)]
 pub enum Hurt {
     /// The copy keeps its old latches.
-    #[default]
     Lag,
     /// The bits under the mask are turned over in one latch.
     Flip { index: u8, mask: Word },

@@ -1,4 +1,4 @@
-ghost use Rattle.std.specs.Prelude.{◌≡◌, ℕ, ◌<◌, List, slice_get, Some, None, true, false, not, ◌&&◌, IsSome, All, is_some, unwrap_or};
+ghost use Rattle.std.specs.Prelude.{◌≡◌, ℕ, ◌<◌, slice_get, Some, None, true, false, not, ◌&&◌, IsSome, All, is_some, unwrap_or};
 ghost use Rattle.std.specs.Option.{option_map};
 ghost use Rattle.lvdc_vote.specs.Bits.{TwoAre};
 ghost use Rattle.lvdc_vote.specs.Latches.{latched_by, FitsLatches, IsMajority};

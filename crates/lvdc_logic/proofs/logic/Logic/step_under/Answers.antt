@@ -28,8 +28,8 @@ returns-clause-copies c script step events in_force =
     rw (← c.self.view_is)
     (ap copies_in (c.commit.ensures.value ∙ ap (λ (t : Triples). after_steps t force.hit voted) c.latch_all.ensures.value)
     ∙ steps_are script step t force.hit order voted (λ n. latched_under (faults_at force.copies n) t voted n)
-        (latched_is c.harm_suffices.ensures script step force t voted c.self.invariant.1 events in_force)
-        c.latch_all.ensures.full.all in_force.others)
+    (latched_is c.harm_suffices.ensures script step force t voted c.self.invariant.1 events in_force)
+    c.latch_all.ensures.full.all in_force.others)
 
 pub returns-clause-differed : goal.returns-clause-differed
 returns-clause-differed c most before =
