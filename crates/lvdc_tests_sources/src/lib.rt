@@ -12,6 +12,8 @@ mod macros;
 #[cfg(test)]
 mod place;
 #[cfg(test)]
+mod rows;
+#[cfg(test)]
 mod source;
 #[cfg(test)]
 mod uplink;

@@ -1,10 +1,12 @@
+use crate::rows::{bytes, same};
 use lvdc_macro::{Expansion, MacroFault, expand};
 use lvdc_text::lines;
 use std::alloc::Global;
 use std::test::Fail;
 
 /// The expansion of a short source, or its refusal.
-fn expansion(alloc: Global, source: &[u8]) -> Result<Result<Expansion, MacroFault>, Fail> {
+fn expansion(alloc: Global, source: &str) -> Result<Result<Expansion, MacroFault>, Fail> {
+    let source = bytes(source);
     if source.len() > 100_000 {
         return Err("a short source".into());
     }
@@ -15,20 +17,21 @@ fn expansion(alloc: Global, source: &[u8]) -> Result<Result<Expansion, MacroFaul
 #[test]
 fn a_call_is_written_out(rt: HostRuntime) -> Result<(), Fail> {
     let source =
-        b"DOUBLE  MACRO\n        CLA   &1\n        ADD   &1\n        MEND\n        DOUBLE X\n";
+        "DOUBLE  MACRO\n        CLA   &1\n        ADD   &1\n        MEND\n        DOUBLE X\n";
     let made = expansion(rt.alloc(), source)??;
-    assert_eq!(rt;
+    same(
+        &rt,
         made.bytes.items(),
-        b"        CLA   X\n        ADD   X\n".as_slice()
+        bytes("        CLA   X\n        ADD   X\n"),
     );
-    assert_eq!(rt; made.origins.items(), [5, 5].as_slice());
+    same(&rt, made.origins.items(), [5, 5].as_slice());
     Ok(())
 }
 
 #[test]
 fn a_macro_that_calls_itself_is_too_deep(rt: HostRuntime) -> Result<(), Fail> {
-    let source = b"LOOP    MACRO\n        LOOP\n        MEND\n        LOOP\n        END\n";
+    let source = "LOOP    MACRO\n        LOOP\n        MEND\n        LOOP\n        END\n";
     let refused = expansion(rt.alloc(), source)?.err();
-    assert_eq!(rt; refused, Some(MacroFault::TooDeep(4)));
+    same(&rt, refused, Some(MacroFault::TooDeep(4)));
     Ok(())
 }

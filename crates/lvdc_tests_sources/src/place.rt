@@ -1,7 +1,9 @@
+use crate::rows::{bytes, same};
 use lvdc_place::{Layout, PlaceFault, Spot, place};
 use lvdc_source::{Program, parse_source};
 use lvdc_text::lines;
 use std::alloc::Global;
+use std::process::Abort;
 use std::test::Fail;
 
 /// A short source.
@@ -38,13 +40,36 @@ fn spot(alloc: Global, text: &[u8], item: usize) -> Result<Option<(u8, u8, u8, O
     Ok(layout.spot(item).map(numbers))
 }
 
-/// Where the next pooled word stands.
-fn pool(layout: &mut Layout, pair: u8, sector: u8) -> Result<Option<(u8, u8, u8)>, Fail> {
+/// An item of a short source stands here.
+fn stands(
+    rt: &impl Abort,
+    alloc: Global,
+    (text, item): (&[u8], usize),
+    due: Option<(u8, u8, u8, Option<u8>)>,
+) -> Result<(), Fail> {
+    same(rt, spot(alloc, text, item)?, due);
+    Ok(())
+}
+
+/// A short source has this refusal.
+fn refuses(rt: &impl Abort, alloc: Global, text: &[u8], due: PlaceFault) -> Result<(), Fail> {
+    same(rt, fault(alloc, text)?, Some(due));
+    Ok(())
+}
+
+/// The next pooled word stands here.
+fn pools(
+    rt: &impl Abort,
+    layout: &mut Layout,
+    (pair, sector): (u8, u8),
+    due: Option<(u8, u8, u8)>,
+) -> Result<(), Fail> {
     if pair >= 4 || sector >= 16 {
         return Err("a sector".into());
     }
     let at = layout.pool(pair, sector);
-    Ok(at.map(|at| (at.pair, at.sector, at.loc)))
+    same(rt, at.map(|at| (at.pair, at.sector, at.loc)), due);
+    Ok(())
 }
 
 /// Appends a line so many times.
@@ -66,9 +91,8 @@ fn a_block_fills_its_sector(rt: HostRuntime) -> Result<(), Fail> {
     let mut text = Vec::new(rt.alloc());
     code(&mut text, 256)?;
     text.extend_from_slice(b" END\n")?;
-    assert_eq!(rt; spot(rt.alloc(), &text, 0)?, None);
-    assert_eq!(rt; spot(rt.alloc(), &text, 256)?, Some((0, 0, 0o377, Some(0))));
-    Ok(())
+    stands(&rt, rt.alloc(), (&text, 0), None)?;
+    stands(&rt, rt.alloc(), (&text, 256), Some((0, 0, 0o377, Some(0))))
 }
 
 #[test]
@@ -76,8 +100,7 @@ fn a_larger_block_has_no_room(rt: HostRuntime) -> Result<(), Fail> {
     let mut text = Vec::new(rt.alloc());
     code(&mut text, 257)?;
     text.extend_from_slice(b" END\n")?;
-    assert_eq!(rt; fault(rt.alloc(), &text)?, Some(PlaceFault::NoRoom(1)));
-    Ok(())
+    refuses(&rt, rt.alloc(), &text, PlaceFault::NoRoom(1))
 }
 
 #[test]
@@ -87,60 +110,56 @@ fn a_block_is_not_split(rt: HostRuntime) -> Result<(), Fail> {
     code(&mut text, 10)?;
     code(&mut text, 6)?;
     text.extend_from_slice(b" END\n")?;
-    assert_eq!(rt; spot(rt.alloc(), &text, 252)?, Some((0, 0, 0, Some(1))));
+    stands(&rt, rt.alloc(), (&text, 252), Some((0, 0, 0, Some(1))))?;
     // The six slots that were left are those of the third block.
-    assert_eq!(rt; spot(rt.alloc(), &text, 263)?, Some((0, 0, 0o372, Some(0))));
-    Ok(())
+    stands(&rt, rt.alloc(), (&text, 263), Some((0, 0, 0o372, Some(0))))
 }
 
 #[test]
 fn words_fill_their_sector(rt: HostRuntime) -> Result<(), Fail> {
-    let mut full = layout(rt.alloc(), b" WORDS 0,02\n BSS 256\n END\n")?;
-    assert_eq!(rt; pool(&mut full, 0, 2)?, None);
-    assert_eq!(rt; pool(&mut full, 0, 3)?, Some((0, 3, 0)));
-    assert_eq!(rt; pool(&mut full, 0, 3)?, Some((0, 3, 1)));
-    let more = b" WORDS 0,02\n BSS 256\n WORDS 0,02\n OCT 1\n END\n";
-    assert_eq!(rt; fault(rt.alloc(), more)?, Some(PlaceFault::NoRoom(3)));
-    Ok(())
+    let full = " WORDS 0,02\n BSS 256\n END\n";
+    let mut full = layout(rt.alloc(), bytes(full))?;
+    pools(&rt, &mut full, (0, 2), None)?;
+    pools(&rt, &mut full, (0, 3), Some((0, 3, 0)))?;
+    pools(&rt, &mut full, (0, 3), Some((0, 3, 1)))?;
+    let more = " WORDS 0,02\n BSS 256\n WORDS 0,02\n OCT 1\n END\n";
+    refuses(&rt, rt.alloc(), bytes(more), PlaceFault::NoRoom(3))
 }
 
 #[test]
 fn a_word_needs_both_slots(rt: HostRuntime) -> Result<(), Fail> {
-    let text = b" ORG 0,01,1,000\n CLA 000\n WORDS 0,01\n OCT 1\n END\n";
-    assert_eq!(rt; spot(rt.alloc(), text, 1)?, Some((0, 1, 0, Some(1))));
-    assert_eq!(rt; spot(rt.alloc(), text, 3)?, Some((0, 1, 1, None)));
+    let text = bytes(" ORG 0,01,1,000\n CLA 000\n WORDS 0,01\n OCT 1\n END\n");
+    stands(&rt, rt.alloc(), (text, 1), Some((0, 1, 0, Some(1))))?;
+    stands(&rt, rt.alloc(), (text, 3), Some((0, 1, 1, None)))?;
     let mut layout = layout(rt.alloc(), text)?;
-    assert_eq!(rt; pool(&mut layout, 0, 1)?, Some((0, 1, 2)));
-    Ok(())
+    pools(&rt, &mut layout, (0, 1), Some((0, 1, 2)))
 }
 
 #[test]
 fn fixed_blocks_meet_at_the_saver(rt: HostRuntime) -> Result<(), Fail> {
-    let below = b" ORG 0,17,0,374\n CLA 000\n ORG 0,17,0,376\n CLA 000\n CLA 000\n END\n";
-    assert_eq!(rt; spot(rt.alloc(), below, 4)?, Some((0, 15, 0o377, Some(0))));
-    let across = b" ORG 0,17,1,374\n CLA 000\n CLA 000\n END\n";
-    assert_eq!(rt; fault(rt.alloc(), across)?, Some(PlaceFault::Overlap(1)));
-    let past = b" WORDS 0,17,376\n BSS 3\n END\n";
-    assert_eq!(rt; fault(rt.alloc(), past)?, Some(PlaceFault::NoRoom(1)));
-    Ok(())
+    let below = bytes(" ORG 0,17,0,374\n CLA 000\n ORG 0,17,0,376\n CLA 000\n CLA 000\n END\n");
+    stands(&rt, rt.alloc(), (below, 4), Some((0, 15, 0o377, Some(0))))?;
+    let across = bytes(" ORG 0,17,1,374\n CLA 000\n CLA 000\n END\n");
+    refuses(&rt, rt.alloc(), across, PlaceFault::Overlap(1))?;
+    let past = bytes(" WORDS 0,17,376\n BSS 3\n END\n");
+    refuses(&rt, rt.alloc(), past, PlaceFault::NoRoom(1))
 }
 
 #[test]
 fn floating_words_end_before_375(rt: HostRuntime) -> Result<(), Fail> {
-    let mut full = layout(rt.alloc(), b" WORDS 1,17\n BSS 253\n END\n")?;
-    assert_eq!(rt; pool(&mut full, 1, 15)?, None);
-    let more = b" WORDS 1,17\n BSS 254\n END\n";
-    assert_eq!(rt; fault(rt.alloc(), more)?, Some(PlaceFault::NoRoom(1)));
-    Ok(())
+    let full = bytes(" WORDS 1,17\n BSS 253\n END\n");
+    let mut full = layout(rt.alloc(), full)?;
+    pools(&rt, &mut full, (1, 15), None)?;
+    let more = bytes(" WORDS 1,17\n BSS 254\n END\n");
+    refuses(&rt, rt.alloc(), more, PlaceFault::NoRoom(1))
 }
 
 #[test]
 fn fixed_blocks_come_first(rt: HostRuntime) -> Result<(), Fail> {
     // The fixed block takes the place that the floating one before it would have.
-    let text = b" CODE\n CLA 000\n USE 0,02\n CLA 000\n ORG 0,00,0,001\n CLA 000\n END\n";
-    assert_eq!(rt; spot(rt.alloc(), text, 2)?, None);
-    assert_eq!(rt; spot(rt.alloc(), text, 3)?, Some((0, 0, 3, Some(0))));
-    let shared = b" CODE\n ORG 0,00,0,001\n CLA 000\n WORDS 0,00,000\n BSS 2\n END\n";
-    assert_eq!(rt; fault(rt.alloc(), shared)?, Some(PlaceFault::Overlap(4)));
-    Ok(())
+    let text = bytes(" CODE\n CLA 000\n USE 0,02\n CLA 000\n ORG 0,00,0,001\n CLA 000\n END\n");
+    stands(&rt, rt.alloc(), (text, 2), None)?;
+    stands(&rt, rt.alloc(), (text, 3), Some((0, 0, 3, Some(0))))?;
+    let shared = bytes(" CODE\n ORG 0,00,0,001\n CLA 000\n WORDS 0,00,000\n BSS 2\n END\n");
+    refuses(&rt, rt.alloc(), shared, PlaceFault::Overlap(4))
 }

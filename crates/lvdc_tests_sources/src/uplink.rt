@@ -1,8 +1,10 @@
+use crate::rows::{bytes, same};
 use lvdc_image::{Image, print_image};
 use lvdc_text::{put_decimal, put_octal};
 use lvdc_uplink::{Answer, Uplink};
 use lvdc_word::Word;
 use std::alloc::Global;
+use std::process::Abort;
 use std::test::Fail;
 
 /// The line of a frame of load 1: eight ones for the places after those of the frames before it, from sector 01 on.
@@ -24,51 +26,58 @@ fn line_of_ones(alloc: Global, number: u64) -> Result<Vec<u8>, Fail> {
     Ok(line)
 }
 
+/// An uplink over an image without words.
+fn uplink(alloc: Global) -> Result<Uplink, Fail> {
+    Ok(Uplink::new(alloc, Image::from_words(Vec::new(alloc)))?)
+}
+
+/// A message has this answer.
+fn answers(rt: &impl Abort, uplink: &mut Uplink, line: &str, due: Answer) -> Result<(), Fail> {
+    same(rt, uplink.message(bytes(line))?, due);
+    Ok(())
+}
+
 #[test]
 fn a_load_is_committed_once(rt: HostRuntime) -> Result<(), Fail> {
     let alloc = rt.alloc();
-    let mut uplink = Uplink::new(alloc, Image::from_words(Vec::new(alloc)))?;
-    assert_eq!(rt; uplink.message(b"OPEN 1 1")?, Answer::Opened(1));
-    assert_eq!(rt;
-        uplink.message(b"FRAME 1 1 0 01 000 5 407")?,
-        Answer::Framed { id: 1, i: 1 }
-    );
-    assert_eq!(rt; uplink.message(b"COMMIT 1 407")?, Answer::Committed(1));
-    assert_eq!(rt; uplink.message(b"COMMIT 1 407")?, Answer::Committed(1));
-    let text = b"LVDC 1\n0 01 000 000000005\nEND\n";
-    assert_eq!(rt;
-        print_image(alloc, uplink.image())?.as_slice(),
-        text.as_slice()
+    let mut uplink = uplink(alloc)?;
+    answers(&rt, &mut uplink, "OPEN 1 1", Answer::Opened(1))?;
+    let framed = Answer::Framed { id: 1, i: 1 };
+    answers(&rt, &mut uplink, "FRAME 1 1 0 01 000 5 407", framed)?;
+    answers(&rt, &mut uplink, "COMMIT 1 407", Answer::Committed(1))?;
+    answers(&rt, &mut uplink, "COMMIT 1 407", Answer::Committed(1))?;
+    let printed = print_image(alloc, uplink.image())?;
+    same(
+        &rt,
+        printed.as_slice(),
+        bytes("LVDC 1\n0 01 000 000000005\nEND\n"),
     );
     Ok(())
 }
 
 #[test]
 fn a_refused_message_names_its_cause(rt: HostRuntime) -> Result<(), Fail> {
-    let alloc = rt.alloc();
-    let mut uplink = Uplink::new(alloc, Image::from_words(Vec::new(alloc)))?;
-    assert_eq!(rt; uplink.message(b"OPEN 1 2")?, Answer::Opened(1));
-    assert_eq!(rt;
-        uplink.message(b"FRAME 1 1 0 01 000 5 406")?,
-        Answer::Check(Word::within(0o407))
-    );
-    assert_eq!(rt; uplink.message(b"COMMIT 1 0")?, Answer::Missing(1));
-    assert_eq!(rt; uplink.message(b"OPEN 2 1")?, Answer::Busy(1));
-    assert_eq!(rt; uplink.message(b"ABANDON 1")?, Answer::Abandoned(1));
-    assert_eq!(rt; uplink.image().words().len(), 0);
+    let mut uplink = uplink(rt.alloc())?;
+    answers(&rt, &mut uplink, "OPEN 1 2", Answer::Opened(1))?;
+    let check = Answer::Check(Word::within(0o407));
+    answers(&rt, &mut uplink, "FRAME 1 1 0 01 000 5 406", check)?;
+    answers(&rt, &mut uplink, "COMMIT 1 0", Answer::Missing(1))?;
+    answers(&rt, &mut uplink, "OPEN 2 1", Answer::Busy(1))?;
+    answers(&rt, &mut uplink, "ABANDON 1", Answer::Abandoned(1))?;
+    same(&rt, uplink.image().words().len(), 0);
     Ok(())
 }
 
 #[test]
 fn a_load_may_have_64_frames_of_eight_words(rt: HostRuntime) -> Result<(), Fail> {
     let alloc = rt.alloc();
-    let mut uplink = Uplink::new(alloc, Image::from_words(Vec::new(alloc)))?;
+    let mut uplink = uplink(alloc)?;
     uplink.message(b"OPEN 1 64")?;
     for before in 0..64u64 {
         let line = line_of_ones(alloc, 64 - before)?;
         uplink.message(&line)?;
     }
-    assert_eq!(rt; uplink.message(b"COMMIT 1 104540")?, Answer::Committed(1));
-    assert_eq!(rt; uplink.image().words().len(), 512);
+    answers(&rt, &mut uplink, "COMMIT 1 104540", Answer::Committed(1))?;
+    same(&rt, uplink.image().words().len(), 512);
     Ok(())
 }
