@@ -23,3 +23,6 @@ loop-line-preserved c =
 
 pub returns-clause-none : goal.returns-clause-none
 returns-clause-none c = at_last c.args.bytes.now c.loop-line.line-index c.args.lines.now _ c.loop-line-test.false c.loop-line.invariant
+
+pub part-text-requires : goal.part-text-requires
+part-text-requires c = c.requires _ _ c.loop-line-test.true

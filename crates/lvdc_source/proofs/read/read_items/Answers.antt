@@ -52,3 +52,16 @@ loop-index-preserved c =
 pub returns-clause-refusal : goal.returns-clause-refusal
 returns-clause-refusal c = λ _.
     at_missing_end c.args.bytes.now c.loop-index.items.items c.loop-index.block c.loop-index.next c.loop-index.index c.args.lines.now _ c.loop-index-test.false c.loop-index.invariant
+
+pub returns-in_err-meaning-clause-items : goal.returns-in_err-meaning-clause-items
+returns-in_err-meaning-clause-items c =
+    let parts = err_from_is_err_and c.from_residual.result c.from_residual.ensures.1 in
+    rw parts.1 tt
+
+pub part-requires : goal.part-requires
+part-requires c = c.requires.within _ _ c.loop-index-test.true
+
+pub returns-in_err-after_end-in-End-clause-items : goal.returns-in_err-after_end-in-End-clause-items
+returns-in_err-after_end-in-End-clause-items c =
+    let parts = err_from_is_err_and c.from_residual-in_err-after_end-in-End.result c.from_residual-in_err-after_end-in-End.ensures.1 in
+    rw parts.1 tt
