@@ -1,5 +1,7 @@
 use Rattle.std.proofs.Common.{List, Ok, Err, sym, ap, ◌∙◌}
 use Rattle.std.proofs.lemmas.List.{drop_more, take_rest}
+use Rattle.std.proofs.lemmas.List.Elements.{All-drop}
+use Rattle.lvdc_text.specs.Lines.{IsWithin}
 use Rattle.lvdc_text.specs.declared.cutting.Line.{Line}
 use Rattle.lvdc_patch.specs.declared.fault.PatchFault.{PatchFault}
 use Rattle.lvdc_patch.specs.Input.{kind_of}
@@ -33,3 +35,9 @@ pub returns-clause-refusal : goal.returns-clause-refusal
 returns-clause-refusal c =
     heading-none c.args.heading c.args.bytes.now c.args.next c.args.lines.now c.loop-index.index no_line _ c.loop-index.invariant c.loop-index-test.false
     ∙ ap (λ (fault : PatchFault). Err fault) (sym c.missing-2.ensures)
+
+pub part-requires : goal.part-requires
+part-requires c = c.requires.within _ _ c.loop-index-test.true
+
+pub returns-in-Due-clause-within : goal.returns-in-Due-clause-within
+returns-in-Due-clause-within c = rw take_rest (All-drop (IsWithin c.args.bytes.now) c.loop-index.index c.args.lines.now c.requires.within)
