@@ -1,9 +1,11 @@
 -- One more block.
-use Rattle.std.proofs.Common.{◌≡◌, ◌+◌, ◌<◌, [], ◌∷◌, ◌++◌, length, take, is_ok, sym, ap, ◌∙◌, arith}
+use Rattle.std.proofs.Common.{◌≡◌, ◌+◌, ◌<◌, List, [], ◌∷◌, ◌++◌, length, take, Ok, is_ok, sym, ap, subst, ◌∙◌, arith}
 use Rattle.std.proofs.ResultArms.{chosen}
-use Rattle.std.proofs.lemmas.List.{length-take-le, length_push}
+use Rattle.std.proofs.lemmas.List.{length-take-le, length_push, take_all, drop_all}
+use Rattle.lvdc_place.specs.declared.block.Block.{Block}
+use Rattle.lvdc_place.specs.Fitting.{AllFit}
 use Rattle.lvdc_place.specs.Slots.{set_of}
-use Rattle.lvdc_place.specs.Placement.{Places}
+use Rattle.lvdc_place.specs.Placement.{Places, places_with_all}
 use Rattle.lvdc_place.proofs.Walks.{places_with-more, fit-more}
 use Rattle.lvdc_place.proofs.placing.stand_blocks.Goals as goal
 
@@ -24,3 +26,12 @@ loop-block-preserved c =
       count = length_push places place ∙ ap (λ n. n + 1) c.loop-block.invariant.count;
       fit = fit-more blocks i block places place within c.block-item.is c.in-Ok.ensures.fits c.loop-block.invariant.fit count;
     })
+
+pub returns-clause-stand : goal.returns-clause-stand
+returns-clause-stand c =
+    let so_far : Places = record { places = c.loop-block.places.items; taken = set_of c.loop-block.search } in
+    sym c.loop-block.invariant.stand ∙ ap (places_with_all (Ok so_far)) (drop_all c.loop-block.block-index c.args.blocks.now c.loop-block-test.false)
+
+pub returns-clause-fit : goal.returns-clause-fit
+returns-clause-fit c =
+    subst (λ (blocks : List Block). AllFit blocks c.loop-block.places.items) (take_all c.loop-block.block-index c.args.blocks.now c.loop-block-test.false) c.loop-block.invariant.fit
