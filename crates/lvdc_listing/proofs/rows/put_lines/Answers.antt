@@ -34,3 +34,6 @@ loop-line-preserved c =
             listed = omega arith;
           })
     ]
+
+pub part-text-requires : goal.part-text-requires
+part-text-requires c = c.requires.within _ _ c.loop-line-test.true
