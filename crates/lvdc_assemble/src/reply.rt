@@ -47,6 +47,30 @@ fn print(
     }
 }
 
+/// The reply to a source that was assembled.
+fn tell(
+    alloc: Global,
+    product: Product,
+    assembly: &Assembly,
+    bytes: &[u8],
+    lines: &[Line],
+) -> Result<Reply, NoMemory>
+    requires listed { product ≡ Listing → length bytes.now ≤ 2 ^ 20 }
+    requires within { All (IsWithin bytes.now) lines.now }
+    requires lines { lines.now ≡ lines_of bytes.now }
+    requires assembled { assembly_in bytes.now ≡ Ok assembly.now }
+    ensures status { IfOk result (λ reply. reply.status ≡ 0) }
+    ensures text { IfOk result (λ reply. reply.text ≡ product_text product bytes.now assembly.now) }
+    ensures short { IfOk result (λ reply. length reply.text ≤ LONGEST_TEXT) }
+    ensures image { product ≡ Image → IfOk result (λ reply. length reply.text ≤ LONGEST_IMAGE) }
+{
+    let text = print(alloc, product, assembly, bytes, lines)?;
+    Ok(Reply {
+        status: 0,
+        text: Seq::from_vec(text),
+    })
+}
+
 /// The reply to a refused source.
 fn refuse(alloc: Global, fault: AsmFault) -> Result<Reply, NoMemory>
     ensures refused { OnOk result (fault ≢ WantsMemory) }
@@ -72,13 +96,7 @@ pub fn assemble_bytes(alloc: Global, product: Product, bytes: &[u8]) -> Result<R
 {
     let found = lines(alloc, bytes)?;
     match assemble(alloc, bytes, found.as_slice()) {
-        Ok(assembly) => {
-            let text = print(alloc, product, &assembly, bytes, &found)?;
-            Ok(Reply {
-                status: 0,
-                text: Seq::from_vec(text),
-            })
-        }
+        Ok(assembly) => tell(alloc, product, &assembly, bytes, &found),
         Err(fault) => refuse(alloc, fault),
     }
 }
