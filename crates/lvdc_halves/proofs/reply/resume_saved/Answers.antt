@@ -2,6 +2,12 @@ use Rattle.lvdc_reply.proofs.Statuses.{on_err}
 use Rattle.lvdc_halves.proofs.Wholes.{whole-run}
 use Rattle.lvdc_halves.proofs.reply.resume_saved.Goals as goal
 
+pub returns-clause-reply : goal.returns-clause-reply
+returns-clause-reply g c = c.in_ok-reply.ensures.reply
+
+pub returns-clause-room : goal.returns-clause-room
+returns-clause-room g c = c.in_ok-reply.ensures.room
+
 pub returns-clause-halves : goal.returns-clause-halves
 returns-clause-halves g c = λ number deck_bytes before h alike unfailed.
     whole-run deck_bytes before _ c.args.bytes.now _ (c.saved_tells_run.ensures number deck_bytes before _ c.args.bytes.now h alike)
