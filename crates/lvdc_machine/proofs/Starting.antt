@@ -1,6 +1,6 @@
 -- A machine before its first step.
-use Rattle.std.proofs.Common.{◌≡◌, ℕ, ◌%◌, ◌<◌, List, [], ◌∷◌, All, length, map, refl, sym, ap, ◌∙◌, subst, arith}
-use Rattle.std.specs.Prelude.{slice_index}
+use Rattle.std.proofs.Common.{◌≡◌, ℕ, ◌%◌, ◌<◌, List, [], ◌∷◌, All, length, map, Result, Ok, Err, refl, sym, ap, ◌∙◌, subst, arith}
+use Rattle.std.specs.Prelude.{slice_index, OnOk}
 use Rattle.std.specs.declared.option.Option.{Option}
 use Rattle.std.specs.declared.option.Option.TheVariants.{None}
 use Rattle.lvdc_map.specs.Hop.{HopConstant}
@@ -52,3 +52,8 @@ starts-in-time Through start copies is = tt
 -- the vote is against a stop
 pub starts-going : (start : HopConstant) (copies : List Copies) → copies ≡ map thrice (start_latches start) → (bus_of_votes copies).exchange.stop % 4 ≡ 0
 starts-going start copies is = rw is (ap (λ ws. slice_index ws 0 % 4) (majority_of-first (0 ∷ 0 ∷ []) (0 ∷ 0 ∷ []) refl))
+
+-- what holds in any case holds where a result is given
+pub on_ok_always : {A E : Type 0} {P : Type 0} (r : Result A E) → P → OnOk r P
+on_ok_always (Ok x) h = h
+on_ok_always (Err e) h = tt

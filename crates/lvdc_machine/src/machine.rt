@@ -1,7 +1,8 @@
 //! The voted machine.
 
-ghost use Rattle.std.specs.Prelude.{◌≡◌, ℕ, ◌+◌, ◌-◌, ◌*◌, ◌≤◌, ◌<◌, length, map, All, true, IsSome, IsNone, OnOk, IfOk, Option, Some, None, [], ◌≢◌};
+ghost use Rattle.std.specs.Prelude.{◌≡◌, ℕ, ◌+◌, ◌-◌, ◌*◌, ◌≤◌, ◌<◌, List, length, map, All, true, IsSome, IsNone, OnOk, IfOk, Option, Some, None, [], ◌≢◌, vec_capacity};
 ghost use Rattle.lvdc_map.specs.Memory.{are_rising, AllThere};
+ghost use Rattle.lvdc_port.specs.Device as device;
 ghost use Rattle.lvdc_port.specs.Devices.{has_port, HasSpare, AreDistinct};
 ghost use Rattle.lvdc_fault.specs.declared.verdict.Verdict.{Verdict};
 ghost use Rattle.lvdc_model.specs.Trial.{Trial};
@@ -137,14 +138,44 @@ impl Machine {
     {
         places_words(image);
         is_hop_constant(start);
+        prepare_all(devices, Pace::of(mode).exchanges(limit))?;
+        Machine::at_start(alloc, image, banks, start, script, unplugs, mode, limit)
+    }
+
+    /// A machine before its first step, of the trial with these arguments and whatever devices.
+    fn at_start(
+        alloc: Global,
+        image: &[Placed],
+        banks: Banks,
+        start: Hop,
+        script: Script,
+        unplugs: Vec<Unplug>,
+        mode: Mode,
+        limit: u64,
+    ) -> Result<Machine, NoMemory>
+        requires limit { limit ≤ Self.LIMIT }
+        requires there { AllThere banks image.now }
+        requires events { All IsEvent script }
+        ensures stands { (devices : List device.Device) → IfOk result (λ machine. Stands
+            (record {
+              opening = record { image = image.now; banks = banks; start = start; unplugs = unplugs.items; devices = devices };
+              script = script;
+            })
+            0 machine devices) }
+        ensures banks { IfOk result (λ machine. machine.banks ≡ banks) }
+        ensures script { IfOk result (λ machine. machine.script ≡ script) }
+        ensures unplugs { IfOk result (λ machine. machine.unplugs ≡ unplugs.items) }
+        ensures limit { IfOk result (λ machine. machine.limit ≡ limit) }
+        ensures mode { IfOk result (λ machine. machine.mode ≡ mode) }
+        ensures pace { IfOk result (λ machine. machine.pace ≡ pace_of mode) }
+        ensures steps { IfOk result (λ machine. machine.steps ≡ 0) }
+        ensures end { IfOk result (λ machine. machine.end ≡ None) }
+    {
         let pace = Pace::of(mode);
-        let exchanges = pace.exchanges(limit);
-        let log = Vec::with_capacity(alloc, exchanges as usize)?;
-        let repairs = Vec::with_capacity(alloc, pace.repairs(limit) as usize)?;
-        let active = Active::for_script(alloc, &script)?;
-        let logic = Logic::new(start);
         let memory = VotedMemory::new(alloc, image, banks)?;
-        prepare_all(devices, exchanges)?;
+        let active = Active::for_script(alloc, &script)?;
+        let (log, repairs) = room_for(alloc, pace.exchanges(limit), pace.repairs(limit))?;
+        let logic = Logic::new(start);
         Ok(Machine {
             banks,
             bus: logic.bus(Word::ZERO, Word::ZERO),
@@ -285,4 +316,20 @@ impl Machine {
         }
         Outcome::Done
     }
+}
+
+/// Room for so many port exchanges and so many repairs.
+fn room_for(
+    alloc: Global,
+    exchanges: u64,
+    repairs: u64,
+) -> Result<(Vec<Exchange>, Vec<Repair>), NoMemory>
+    ensures log { IfOk result (λ room. room.0.items ≡ []) }
+    ensures log_room { IfOk result (λ room. exchanges ≤ vec_capacity room.0) }
+    ensures repairs { IfOk result (λ room. room.1.items ≡ []) }
+    ensures repairs_room { IfOk result (λ room. repairs ≤ vec_capacity room.1) }
+{
+    let log = Vec::with_capacity(alloc, exchanges as usize)?;
+    let repairs = Vec::with_capacity(alloc, repairs as usize)?;
+    Ok((log, repairs))
 }

@@ -26,7 +26,8 @@ use crate::{Machine, Mode, Pace, Snapshot};
 use lvdc_fault::{Active, Script, wrong_now};
 use lvdc_logic::{InForce, Logic};
 use lvdc_memory::VotedMemory;
-use lvdc_plain::Unplug;
+use lvdc_model::Repair;
+use lvdc_plain::{Exchange, Unplug};
 use lvdc_port::{PortDevice, prepare_all};
 use lvdc_word::{NoMemory, Seq, Word};
 use std::alloc::Global;
@@ -67,15 +68,41 @@ impl Machine {
         ensures devices { map device_of devices.new.items ≡ map device_of devices.old.items }
         ensures faults { map faults devices.new.items ≡ map faults devices.old.items }
     {
+        prepare_all(devices, 3 * limit - snapshot.steps)?;
+        Machine::resumed(alloc, snapshot, script, unplugs, limit)
+    }
+
+    /// A machine that judges and goes on from a snapshot, with whatever devices.
+    fn resumed(
+        alloc: Global,
+        snapshot: Snapshot,
+        script: Script,
+        unplugs: Vec<Unplug>,
+        limit: u64,
+    ) -> Result<Machine, NoMemory>
+        requires whole { IsWhole snapshot }
+        requires steps { snapshot.steps ≤ 3 * limit }
+        requires limit { limit ≤ Self.LIMIT }
+        requires events { All IsEvent script }
+        ensures stands { (devices : List device.Device) → IfOk result (λ machine. (o : Trial) (v : Voted) → o.script ≡ script
+            → o.opening.unplugs ≡ unplugs.items → o.opening.banks ≡ snapshot.banks → Means snapshot v → v.devices ≡ devices
+            → StandsFrom o v 0 machine devices) }
+        ensures banks { IfOk result (λ machine. machine.banks ≡ snapshot.banks) }
+        ensures script { IfOk result (λ machine. machine.script ≡ script) }
+        ensures unplugs { IfOk result (λ machine. machine.unplugs ≡ unplugs.items) }
+        ensures limit { IfOk result (λ machine. machine.limit ≡ limit) }
+        ensures mode { IfOk result (λ machine. machine.mode ≡ Guarded) }
+        ensures pace { IfOk result (λ machine. machine.pace ≡ ByStep) }
+        ensures made { IfOk result (λ machine. machine.steps ≡ snapshot.steps) }
+        ensures end { IfOk result (λ machine. machine.end ≡ None) }
+    {
         let steps = snapshot.steps;
-        let left = 3 * limit - steps;
+        let banks = snapshot.banks;
         let logic = Logic::from_latches(snapshot.latches.items(), snapshot.differed.items());
         let (active, memory) = memory_of(alloc, &snapshot, &script)?;
-        let log = with_room(snapshot.log, left)?;
-        let repairs = with_room(snapshot.repairs, left)?;
-        prepare_all(devices, left)?;
+        let (log, repairs) = noted_in(snapshot, 3 * limit - steps)?;
         Ok(Machine {
-            banks: snapshot.banks,
+            banks,
             bus: logic.bus(Word::ZERO, Word::ZERO),
             logic,
             memory,
@@ -93,6 +120,18 @@ impl Machine {
             end: None,
         })
     }
+}
+
+/// The port exchanges and the repairs of a snapshot, and room for so many more of each.
+fn noted_in(snapshot: Snapshot, more: u64) -> Result<(Vec<Exchange>, Vec<Repair>), NoMemory>
+    ensures log { IfOk result (λ noted. noted.0.items ≡ snapshot.log) }
+    ensures log_room { IfOk result (λ noted. vec_len noted.0 + more ≤ vec_capacity noted.0) }
+    ensures repairs { IfOk result (λ noted. noted.1.items ≡ snapshot.repairs) }
+    ensures repairs_room { IfOk result (λ noted. vec_len noted.1 + more ≤ vec_capacity noted.1) }
+{
+    let log = with_room(snapshot.log, more)?;
+    let repairs = with_room(snapshot.repairs, more)?;
+    Ok((log, repairs))
 }
 
 /// The items of a list, and room for so many more.

@@ -1,13 +1,22 @@
-ghost use Rattle.std.specs.Prelude.{◌≡◌, ◌%◌, List, IfOk, None};
+ghost use Rattle.std.specs.Prelude.{◌≡◌, ℕ, ◌%◌, ◌≤◌, ◌<◌, List, All, length, IfOk, Option, None};
+ghost use Rattle.lvdc_map.specs.Memory.{Memory, AllThere};
 ghost use Rattle.lvdc_port.specs.Device as device;
+ghost use Rattle.lvdc_twin.specs.Cells.{AreHeld};
+ghost use Rattle.lvdc_fault.specs.Ledger.{ArePlaced};
 ghost use Rattle.lvdc_model.specs.Trial.{Trial};
+ghost use Rattle.lvdc_model.specs.Twins.{Twins};
 ghost use Rattle.lvdc_model.specs.Voted.{Voted};
+ghost use Rattle.lvdc_logic.specs.Listing.{copies_of, counts_of};
+ghost use Rattle.lvdc_logic.specs.Logic.{DifferedAtMost};
+ghost use Rattle.lvdc_memory.specs.Holds.{Holds, StoreCells, AreIntended};
 ghost use Rattle.lvdc_machine.specs.Shows.{Shows};
 ghost use Rattle.lvdc_machine.specs.declared.mode.Mode.TheVariants.{Guarded};
 ghost use Rattle.lvdc_machine.specs.Snapshot.{IsWhole, Means};
 
 use crate::Machine;
+use lvdc_logic::Logic;
 use lvdc_map::{Banks, Placed};
+use lvdc_memory::VotedMemory;
 use lvdc_model::Repair;
 use lvdc_plain::Exchange;
 use lvdc_twin::Held;
@@ -46,18 +55,74 @@ impl Machine {
         ensures banks { IfOk result (λ s. s.banks ≡ self.now.banks) }
         ensures steps { IfOk result (λ s. s.steps ≡ self.now.steps) }
     {
+        let (latches, differed) = logic_lists(alloc, &self.logic)?;
+        let (selected, cells, words) = memory_lists(alloc, &self.memory)?;
+        let (log, repairs) = noted_lists(alloc, &self.log, &self.repairs)?;
         Ok(Snapshot {
             steps: self.steps,
-            latches: Seq::from_vec(self.logic.latches(alloc)?),
-            differed: Seq::from_vec(self.logic.counts(alloc)?),
-            selected: Seq::from_vec(self.memory.selected(alloc)?),
-            cells: Seq::from_vec(self.memory.held(alloc)?),
-            words: Seq::from_vec(self.memory.placed(alloc)?),
-            log: Seq::from_vec(lines_of(alloc, &self.log)?),
-            repairs: Seq::from_vec(repairs_of(alloc, &self.repairs)?),
+            latches,
+            differed,
+            selected,
+            cells,
+            words,
+            log,
+            repairs,
             banks: self.banks,
         })
     }
+}
+
+/// The latches of the logic, and in how many steps each copy differed.
+fn logic_lists(alloc: Global, logic: &Logic) -> Result<(Seq<Word>, Seq<u64>), NoMemory>
+    ensures latches { IfOk result (λ lists. length lists.0 ≡ 45) }
+    ensures copies { IfOk result (λ lists. copies_of lists.0 ≡ logic.now.copies) }
+    ensures differed { IfOk result (λ lists. length lists.1 ≡ 21) }
+    ensures counts { IfOk result (λ lists. counts_of lists.1 ≡ logic.now.counts) }
+    ensures most { (most : ℕ) → DifferedAtMost most logic.now.counts → IfOk result (λ lists. All (λ count. count ≤ most) lists.1) }
+{
+    let latches = logic.latches(alloc)?;
+    let counts = logic.counts(alloc)?;
+    Ok((Seq::from_vec(latches), Seq::from_vec(counts)))
+}
+
+/// The selected twins, the stored cells and the intended words of the memory.
+fn memory_lists(
+    alloc: Global,
+    memory: &VotedMemory,
+) -> Result<(Seq<u8>, Seq<Held>, Seq<Placed>), NoMemory>
+    ensures pairs { IfOk result (λ lists. length lists.0 ≡ 4) }
+    ensures twins { IfOk result (λ lists. All (λ twin. twin < 2) lists.0) }
+    ensures selected { IfOk result (λ lists. lists.0 ≡ memory.now.twins.selected) }
+    ensures held { IfOk result (λ lists. AreHeld memory.now.twins lists.1) }
+    ensures cells { IfOk result (λ lists. (o : Trial) (in_force : Option ℕ) (t : Twins) (i : Memory) → Holds o in_force memory.now t i
+        → StoreCells lists.1 t) }
+    ensures placed { IfOk result (λ lists. ArePlaced memory.now.ledger lists.2) }
+    ensures there { IfOk result (λ lists. AllThere memory.now.twins.banks lists.2) }
+    ensures words { IfOk result (λ lists. (o : Trial) (in_force : Option ℕ) (t : Twins) (i : Memory) → Holds o in_force memory.now t i
+        → AreIntended lists.2 i) }
+{
+    let selected = memory.selected(alloc)?;
+    let cells = memory.held(alloc)?;
+    let words = memory.placed(alloc)?;
+    Ok((
+        Seq::from_vec(selected),
+        Seq::from_vec(cells),
+        Seq::from_vec(words),
+    ))
+}
+
+/// The port exchanges and the repairs, as they are.
+fn noted_lists(
+    alloc: Global,
+    log: &[Exchange],
+    noted: &[Repair],
+) -> Result<(Seq<Exchange>, Seq<Repair>), NoMemory>
+    ensures log { IfOk result (λ lists. lists.0 ≡ log.now) }
+    ensures repairs { IfOk result (λ lists. lists.1 ≡ noted.now) }
+{
+    let lines = lines_of(alloc, log)?;
+    let repairs = repairs_of(alloc, noted)?;
+    Ok((Seq::from_vec(lines), Seq::from_vec(repairs)))
 }
 
 /// The same lines.

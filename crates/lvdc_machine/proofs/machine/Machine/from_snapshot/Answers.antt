@@ -1,53 +1,38 @@
-use Rattle.std.proofs.Common.{length, sym, ap, refl, ◌∙◌, arith}
-use Rattle.lvdc_machine.proofs.Again.{few-repairs, begins-timed, log-whole}
-use Rattle.lvdc_machine.proofs.Standing.{after-none}
+use Rattle.lvdc_machine.proofs.Starting.{on_ok_always}
 use Rattle.lvdc_machine.proofs.machine.Machine.from_snapshot.Goals as goal
 
-pub invariant_of-result : goal.invariant_of-result
-invariant_of-result g c =
-    let whole = c.requires.whole in
-    let few = few-repairs c.args.snapshot.banks c.args.snapshot.steps c.args.snapshot.repairs whole.repairs in
-    let room = c.in_ok-log.ensures.room in
-    let noted_room = c.in_ok-repairs.ensures.room in
-    let same = ap length c.in_ok-repairs.ensures.items in
-    let within = c.requires.steps in
-    record {
-      events = c.requires.events;
-      fits = c.in_ok-active.ensures.fits;
-      within = c.in_ok-active.ensures.within;
-      force = c.force_before.ensures;
-      wrong = c.wrong_before.ensures;
-      differed = c.from_latches-logic.ensures.differed c.args.snapshot.steps (rw c.items-2.ensures whole.most);
-      banks = c.in_ok-active.ensures.banks;
-      log = λ own. absurd (cc own);
-      log_room = omega (arith, room);
-      repairs = omega (arith, few, same, within);
-      repairs_room = omega (arith, noted_room);
-      steps = c.requires.steps;
-      limit = c.requires.limit;
-      judges = λ e. refl;
-      timed = rw (c.from_latches-logic.ensures.copies, c.items.ensures) (begins-timed c.args.snapshot whole);
-      bus = c.bus.ensures;
-      going = λ none. rw (c.from_latches-logic.ensures.copies, c.items.ensures) whole.stop;
-      logged = rw c.in_ok-log.ensures.items (log-whole c.args.snapshot whole);
-      noted = rw c.in_ok-repairs.ensures.items whole.repairs;
-    }
-
 pub returns-clause-stands : goal.returns-clause-stands
-returns-clause-stands g c = λ o v script unplugs banks means left. record {
-  shows = record {
-    banks = sym banks;
-    script = sym script;
-    unplugs = sym unplugs;
-    copies = rw c.items.ensures at c.from_latches-logic.ensures.copies ∙ sym means.copies;
-    memory = c.in_ok-active.ensures.holds o v script banks means;
-    left = c.prepare_all.ensures.devices ∙ sym left;
-    log = c.in_ok-log.ensures.items ∙ sym means.log;
-    repairs = c.in_ok-repairs.ensures.items ∙ sym means.repairs;
-    counts = rw c.items-2.ensures at c.from_latches-logic.ensures.counts ∙ sym means.counts;
-    steps = sym means.steps;
-    end = sym means.end;
-  };
-  begun = c.in_ok-active.ensures.last;
-  ends = sym (after-none v.steps ∙ means.steps);
-}
+returns-clause-stands g c = rw c.prepare_all.ensures.devices (c.resumed.ensures.stands _)
+
+pub returns-clause-banks : goal.returns-clause-banks
+returns-clause-banks g c = c.resumed.ensures.banks
+
+pub returns-clause-script : goal.returns-clause-script
+returns-clause-script g c = c.resumed.ensures.script
+
+pub returns-clause-unplugs : goal.returns-clause-unplugs
+returns-clause-unplugs g c = c.resumed.ensures.unplugs
+
+pub returns-clause-limit : goal.returns-clause-limit
+returns-clause-limit g c = c.resumed.ensures.limit
+
+pub returns-clause-mode : goal.returns-clause-mode
+returns-clause-mode g c = c.resumed.ensures.mode
+
+pub returns-clause-pace : goal.returns-clause-pace
+returns-clause-pace g c = c.resumed.ensures.pace
+
+pub returns-clause-made : goal.returns-clause-made
+returns-clause-made g c = c.resumed.ensures.made
+
+pub returns-clause-end : goal.returns-clause-end
+returns-clause-end g c = c.resumed.ensures.end
+
+pub returns-clause-room : goal.returns-clause-room
+returns-clause-room g c = on_ok_always c.resumed.result c.in_ok-prepare_all.ensures.ok
+
+pub returns-clause-devices : goal.returns-clause-devices
+returns-clause-devices g c = c.prepare_all.ensures.devices
+
+pub returns-clause-faults : goal.returns-clause-faults
+returns-clause-faults g c = c.prepare_all.ensures.faults

@@ -1,3 +1,4 @@
+use Rattle.std.proofs.Common.{refl}
 use Rattle.lvdc_machine.proofs.Begun.{same-at, stayed, stays-force, stays-wrong}
 use Rattle.lvdc_machine.proofs.machine.Machine.go_on.Goals as goal
 
@@ -56,3 +57,14 @@ returns-clause-shows c = λ o v ds h.
       steps = s.steps;
       end = s.end;
     }
+
+pub same_actives-requires : goal.same_actives-requires
+same_actives-requires c =
+    let stays = rw (← c.self.view_is) at c.requires in
+    same-at c.self.inside.script c.self.inside.steps c.self.inside.active.last stays.same
+
+pub returns-clause-new : goal.returns-clause-new
+returns-clause-new c = rw (← c.self.view_is) refl
+
+pub returns-clause-last : goal.returns-clause-last
+returns-clause-last c = rw (← c.self.view_is) c.active.ensures.last
