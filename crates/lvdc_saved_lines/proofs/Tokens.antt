@@ -4,7 +4,7 @@ use Rattle.std.specs.List.{list_any}
 use Rattle.std.proofs.lemmas.List.{drop_more, drop_all}
 use Rattle.lvdc_text.specs.declared.cutting.Line.{Line}
 use Rattle.lvdc_text.specs.Numbers.{word_in}
-use Rattle.lvdc_save.specs.Entries.{words_with, words_in, select_line_in, repair_line_in}
+use Rattle.lvdc_save.specs.Entries.{words_with, words_in, copy_line_in, select_line_in, cell_line_in, repair_line_in}
 
 -- the texts of the parts from an index on begin with that of the part there
 texts-more : (text_of : Line → List ℕ) (lines : List Line) (i : ℕ) (d : Line) → i < length lines →
@@ -74,6 +74,21 @@ module _ (text_of : Line → List ℕ) (test : List ℕ → Bool) (tokens : List
   test-done all = ap (list_any test) (sym (texts-done text_of tokens i all)) ∙ so_far
 
 -- ---- lines with too few or too many tokens
+
+pub copy_short : {A : Type 0} (text_of : A → List ℕ) (fields : List A) → length fields < 3 → copy_line_in (map text_of fields) ≡ None
+copy_short text_of [] few = refl
+copy_short text_of (a ∷ []) few = refl
+copy_short text_of (a ∷ b ∷ []) few = refl
+copy_short text_of (a ∷ b ∷ c ∷ rest) few = absurd (omega (arith, few))
+
+pub cell_other : {A : Type 0} (text_of : A → List ℕ) (fields : List A) → length fields ≢ 5 → cell_line_in (map text_of fields) ≡ None
+cell_other text_of [] other = refl
+cell_other text_of (a ∷ []) other = refl
+cell_other text_of (a ∷ b ∷ []) other = refl
+cell_other text_of (a ∷ b ∷ c ∷ []) other = refl
+cell_other text_of (a ∷ b ∷ c ∷ d ∷ []) other = refl
+cell_other text_of (a ∷ b ∷ c ∷ d ∷ e ∷ []) other = absurd (other refl)
+cell_other text_of (a ∷ b ∷ c ∷ d ∷ e ∷ f ∷ rest) other = refl
 
 pub select_other : {A : Type 0} (text_of : A → List ℕ) (fields : List A) → length fields ≢ 4 → select_line_in (map text_of fields) ≡ None
 select_other text_of [] other = refl

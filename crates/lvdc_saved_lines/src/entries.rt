@@ -1,12 +1,13 @@
 //! What a line says.
 
-ghost use Rattle.std.specs.Prelude.{◌≡◌, ◌<◌, ◌≤◌, ◌+◌, ◌-◌, ◌^◌, ◌∷◌, ◌++◌, [], ℕ, List, length, map, codes, IfOk, IfSome, All};
+ghost use Rattle.std.specs.Prelude.{◌≡◌, ◌<◌, ◌≤◌, ◌+◌, ◌-◌, ◌^◌, ◌∷◌, ◌++◌, [], ℕ, List, length, map, codes, option_map, IfOk, IfSome, All};
 ghost use Rattle.std.specs.List.{list_any};
 ghost use Rattle.std.specs.Str.{bytes_eq};
+ghost use Rattle.lvdc_map.specs.Banks.{IsPlace};
 ghost use Rattle.lvdc_text.specs.Lines.{IsWithin, part_of};
 ghost use Rattle.lvdc_save.specs.Sound.{IsEntry};
 ghost use Rattle.lvdc_save.specs.Lines.{entry_line};
-ghost use Rattle.lvdc_save.specs.Entries.{title_in, steps_line_in, count_line_in, pair_bit, simplex_line_in, copy_line_in, select_of, select_line_in, cell_line_in, word_line_in, exchange_line_in, switch_in, repair_of, repair_line_in, state_line_in, unplug_line_in, script_of, end_in, list_line_in, head_line_in, entry_in, entry_of};
+ghost use Rattle.lvdc_save.specs.Entries.{title_in, steps_line_in, count_line_in, pair_bit, simplex_line_in, copy_of, copy_line_in, select_of, select_line_in, cell_of, cell_line_in, word_line_in, exchange_line_in, switch_in, repair_of, repair_line_in, state_line_in, unplug_line_in, script_of, end_in, list_line_in, head_line_in, entry_in, entry_of};
 ghost use Rattle.lvdc_script_lines.specs.Lines.{fault_in, order_in};
 
 use crate::fields::{cell_in, port_in, spot_in, steps_in, times_in, twin_in, words_in};
@@ -18,7 +19,7 @@ use lvdc_save::{CopyState, Entry, put_entry};
 use lvdc_script_lines::{decimal_in, event_of, order_of, place_in};
 use lvdc_text::{Line, octal_word, part, tokens};
 use lvdc_twin::Held;
-use lvdc_word::{NoMemory, Seq};
+use lvdc_word::{Cell, NoMemory, Seq, Word};
 use std::alloc::Global;
 
 fn title_in(fields: &[Line]) -> Option<Entry>
@@ -96,32 +97,48 @@ fn simplex_line_in(text: &[u8], fields: &[Line]) -> Option<Entry>
     Some(Entry::Simplex(Banks::new(pairs)?))
 }
 
+/// The copy of these fields.
+fn copy_of(
+    number: Option<u64>,
+    copy: Option<u64>,
+    count: Option<u64>,
+    latches: Option<Vec<Word>>,
+) -> Option<Entry>
+    requires number { IfSome number (λ n. n < 8) }
+    requires copy { IfSome copy (λ n. n < 4) }
+    ensures entry { result ≡ copy_of number copy count (option_map (λ words. words.items) latches) }
+    ensures ranges { IfSome result IsEntry }
+{
+    let number = number?;
+    let copy = copy?;
+    let count = count?;
+    let latches = latches?;
+    Some(Entry::Copy(CopyState {
+        number: number as u8,
+        copy: copy as u8,
+        count,
+        latches: Seq::from_vec(latches),
+    }))
+}
+
+#[tactic(auto, using(crate::proofs::Tokens::copy_short))]
 fn copy_line_in(alloc: Global, text: &[u8], fields: &[Line]) -> Result<Option<Entry>, NoMemory>
     requires { All (IsWithin text.now) fields.now }
     ensures entry { IfOk result (λ found. found ≡ copy_line_in (map (part_of text.now) fields.now)) }
     ensures ranges { IfOk result (λ found. IfSome found IsEntry) }
 {
-    let [number, copy, count, latches @ ..] = fields else {
-        return Ok(None);
-    };
-    let Some(number) = decimal_in(1, 8, part(text, number)) else {
-        return Ok(None);
-    };
-    let Some(copy) = decimal_in(1, 4, part(text, copy)) else {
-        return Ok(None);
-    };
-    let Some(count) = steps_in(part(text, count)) else {
-        return Ok(None);
-    };
-    let Some(latches) = words_in(alloc, text, latches)? else {
-        return Ok(None);
-    };
-    Ok(Some(Entry::Copy(CopyState {
-        number: number as u8,
-        copy: copy as u8,
-        count,
-        latches: Seq::from_vec(latches),
-    })))
+    match fields {
+        [number, copy, count, latches @ ..] => {
+            let latches = words_in(alloc, text, latches)?;
+            Ok(copy_of(
+                decimal_in(1, 8, part(text, number)),
+                decimal_in(1, 4, part(text, copy)),
+                steps_in(part(text, count)),
+                latches,
+            ))
+        }
+        _ => Ok(None),
+    }
 }
 
 /// The selection of these twins.
@@ -158,18 +175,34 @@ fn select_line_in(text: &[u8], fields: &[Line]) -> Option<Entry>
     }
 }
 
+/// The cell of these fields.
+fn cell_of(twin: Option<u8>, at: Option<Address>, cell: Option<Cell>) -> Option<Entry>
+    requires twin { IfSome twin (λ twin. twin < 2) }
+    requires at { IfSome at IsPlace }
+    ensures entry { result ≡ cell_of twin at cell }
+    ensures ranges { IfSome result IsEntry }
+{
+    Some(Entry::Cell(Held {
+        twin: twin?,
+        at: at?,
+        cell: cell?,
+    }))
+}
+
+#[tactic(auto, using(crate::proofs::Tokens::cell_other))]
 fn cell_line_in(text: &[u8], fields: &[Line]) -> Option<Entry>
     requires { All (IsWithin text.now) fields.now }
     ensures entry { result ≡ cell_line_in (map (part_of text.now) fields.now) }
     ensures ranges { IfSome result IsEntry }
 {
-    let [twin, pair, sector, loc, cell] = fields else {
-        return None;
-    };
-    let twin = twin_in(part(text, twin))?;
-    let at = place_in(part(text, pair), part(text, sector), part(text, loc))?;
-    let cell = cell_in(part(text, cell))?;
-    Some(Entry::Cell(Held { twin, at, cell }))
+    match fields {
+        [twin, pair, sector, loc, cell] => cell_of(
+            twin_in(part(text, twin)),
+            place_in(part(text, pair), part(text, sector), part(text, loc)),
+            cell_in(part(text, cell)),
+        ),
+        _ => None,
+    }
 }
 
 fn word_line_in(text: &[u8], fields: &[Line]) -> Option<Entry>
