@@ -1,5 +1,7 @@
 pub mod Tokens
 pub mod Left
+pub mod Places
+pub mod TapeLines
 pub mod Ends
 pub mod FirstLines
 pub mod Steps
