@@ -1,3 +1,4 @@
+pub mod Places
 pub mod Lengths
 pub mod Lines
 pub mod Going
