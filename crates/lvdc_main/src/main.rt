@@ -1,10 +1,8 @@
 //! The program: a deck from standard input, its text to standard output, sixteen devices at the ports, and the exit status.
 #![tactic(auto)]
 
-mod program;
-
+use lvdc_console::run;
 use lvdc_text::{StdSink, StdSource};
-use program::run;
 use std::process::ExitCode;
 use std::{env, io};
 

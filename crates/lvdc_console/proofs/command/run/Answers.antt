@@ -1,7 +1,7 @@
 use Rattle.lvdc_rack.specs.Rack.{rack}
 use Rattle.lvdc_cli.specs.Words.{texts}
-use Rattle.lvdc_main.proofs.Over.{end_over, headline_over, answer_over}
-use Rattle.lvdc_main.proofs.program.run.Goals as goal
+use Rattle.lvdc_console.proofs.Over.{end_over, headline_over, answer_over}
+use Rattle.lvdc_console.proofs.command.run.Goals as goal
 
 pub returns-clause-ends : goal.returns-clause-ends
 returns-clause-ends g c = end_over rack c.is_whole.ensures.rack c.lvdc.ensures.ends

@@ -8,7 +8,7 @@ ghost use Rattle.lvdc_cli.specs.Words.{texts, command_of};
 ghost use Rattle.lvdc_cli.specs.Commands.{answer, room_for};
 ghost use Rattle.lvdc_cli.specs.Outside.{source_state, sink_state};
 ghost use Rattle.lvdc_cli.specs.Top.{IsInput, IsUnhindered};
-ghost use Rattle.lvdc_main.specs.Over.{IsAnswerOver, CarriesHeadlineOver};
+ghost use Rattle.lvdc_console.specs.Over.{IsAnswerOver, CarriesHeadlineOver};
 
 use lvdc_cli::lvdc;
 use lvdc_rack::{is_whole, latch, plug_in, recorder, tape, ticker};

@@ -14,7 +14,7 @@ use Rattle.lvdc_cli.specs.declared.command.Command.{Command}
 use Rattle.lvdc_cli.specs.Commands.{IsReplyTo, answer}
 use Rattle.lvdc_cli.specs.Outside.{SourceState, SinkState, Outside, outside}
 use Rattle.lvdc_cli.specs.Top.{IsDue, usage, read_fault, too_long, replied, wants_memory, IsEnd, CarriesHeadline}
-use Rattle.lvdc_main.specs.Over.{IsReplyOver, answered as answered_over, failed as failed_over, IsDueOver, usage as usage_over, read_fault as read_fault_over, too_long as too_long_over, replied as replied_over, wants_memory as wants_memory_over, IsAnswerOver, CarriesHeadlineOver}
+use Rattle.lvdc_console.specs.Over.{IsReplyOver, answered as answered_over, failed as failed_over, IsDueOver, usage as usage_over, read_fault as read_fault_over, too_long as too_long_over, replied as replied_over, wants_memory as wants_memory_over, IsAnswerOver, CarriesHeadlineOver}
 
 module _ {B : Type 0} {device_of : B → Device} {faults : B → ℕ} where
   reply_over : {command : Command} {bytes : List ℕ} {old new : List B} {reply : Answer}

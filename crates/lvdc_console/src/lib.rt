@@ -1,0 +1,6 @@
+//! A command over the program's own devices: sixteen of them at the ports, any source and any sink.
+#![tactic(auto)]
+
+mod command;
+
+pub use command::run;
