@@ -1,4 +1,4 @@
-use Rattle.std.proofs.Common.{refl, sym, ◌∙◌}
+use Rattle.std.proofs.Common.{refl, sym}
 use Rattle.lvdc_machine.proofs.Begun.{released}
 use Rattle.lvdc_machine.proofs.machine.Machine.change.Goals as goal
 
@@ -26,26 +26,3 @@ returns-clause-new c = rw (← c.self.view_is) refl
 
 pub returns-clause-last : goal.returns-clause-last
 returns-clause-last c = rw (← c.self.view_is) c.active.ensures.last
-
-pub invariant_of-self : goal.invariant_of-self
-invariant_of-self c = record {
-  events = c.self.invariant.events;
-  fits = c.active.ensures.fits;
-  within = c.active.ensures.within;
-  force = rw c.active.ensures.last c.of_active-self-inside.ensures;
-  wrong = rw c.active.ensures.last c.wrong_now-self-inside.ensures.value;
-  differed = c.self.invariant.differed;
-  banks = c.begin.ensures.banks ∙ c.release.ensures.banks ∙ c.self.invariant.banks;
-  log = c.self.invariant.log;
-  log_room = c.self.invariant.log_room;
-  repairs = c.self.invariant.repairs;
-  repairs_room = c.self.invariant.repairs_room;
-  steps = c.self.invariant.steps;
-  limit = c.self.invariant.limit;
-  judges = c.self.invariant.judges;
-  timed = c.self.invariant.timed;
-  bus = c.self.invariant.bus;
-  going = c.self.invariant.going;
-  logged = c.self.invariant.logged;
-  noted = c.self.invariant.noted;
-}
