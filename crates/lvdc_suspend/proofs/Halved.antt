@@ -88,3 +88,8 @@ refused_run fault status st zero = by_status (refusal_is fault)
 pub if_ok_given : {A E : Type 0} (result : Result A E) (P : Type 0) (Q : A → Type 0) → ((a : A) → P → Q a) → OnOk result P → IfOk result Q
 if_ok_given (Ok a) P Q f fact = f a fact
 if_ok_given (Err e) P Q f fact = tt
+
+-- and from two facts of it
+pub if_ok_both : {A E : Type 0} (result : Result A E) (P Q R : A → Type 0) → ((a : A) → P a → Q a → R a) → IfOk result P → IfOk result Q → IfOk result R
+if_ok_both (Ok a) P Q R f first second = f a first second
+if_ok_both (Err e) P Q R f first second = tt

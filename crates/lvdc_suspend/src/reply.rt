@@ -9,16 +9,14 @@ ghost use Rattle.lvdc_suspend.specs.Halves.{IsSavedRun, IsSaveOf};
 ghost use Rattle.lvdc_suspend.specs.Replies.{IsStop, IsAnswered, IsSaveReply, IsUnwritten, IsUnanswered};
 
 use crate::kept::keep;
-use crate::runs::run_times;
-use crate::saving::save_machine;
+use crate::runs::{Stopped, run_times};
+use crate::saving::{reply_saved, report_end};
 use lvdc_deck::{Deck, DeckFault, read_deck, run_line};
-use lvdc_machine::Mode;
 use lvdc_port::PortDevice;
 use lvdc_reply::Reply;
-use lvdc_report::report_run;
-use lvdc_run::{end_status, refuse};
+use lvdc_run::refuse;
 use lvdc_save::LONGEST_SAVED;
-use lvdc_word::{NoMemory, Seq};
+use lvdc_word::NoMemory;
 use std::alloc::Global;
 
 /// Runs a deck for so many times. The text is what the run then is, or the report of the end that it has come to.
@@ -38,31 +36,14 @@ fn save_deck(
 {
     lvdc_laws::judges_alone();
     let kept = keep(alloc, &deck)?;
-    let stopped = run_times(alloc, times, deck, devices)?;
-    let machine = stopped.machine;
+    let Stopped {
+        machine,
+        orders,
+        count,
+    } = run_times(alloc, times, deck, devices)?;
     match machine.ended() {
-        None => {
-            let text = save_machine(
-                alloc,
-                &machine,
-                kept,
-                stopped.count,
-                stopped.orders,
-                devices,
-            )?;
-            Ok(Reply {
-                status: 0,
-                text: Seq::from_vec(text),
-            })
-        }
-        Some(end) => {
-            let status = end_status(&end);
-            let text = report_run(alloc, &machine, Mode::Guarded, end)?;
-            Ok(Reply {
-                status,
-                text: Seq::from_vec(text),
-            })
-        }
+        None => reply_saved(alloc, &machine, kept, count, orders, devices),
+        Some(end) => report_end(alloc, &machine, end),
     }
 }
 
