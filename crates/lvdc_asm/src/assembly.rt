@@ -25,7 +25,6 @@ use std::marker::Model;
 
 /// A source that was assembled: its items and where they stand, its names in the order of their definition, its pooled
 /// words in the order of their first use, and its image.
-#[derive(Drop)]
 pub struct Assembly {
     program: Program,
     places: Places,
@@ -45,6 +44,18 @@ impl Model for Assembly {
     ghost invariant = { λ a. (a.image.start ≡ None) × (a.image.banks ≡ 0) × (length a.places.layout.spots ≡ length a.program) };
 }
 
+/// Its parts go in one call, which whoever lets an assembly go doesn't look into.
+impl Drop for Assembly {
+    fn drop(self) {
+        let Assembly {
+            program: _,
+            places: _,
+            pool: _,
+            image: _,
+        } = self;
+    }
+}
+
 impl Assembly {
     /// The image of the source, of version 1.
     pub fn image(&self) -> &Image
@@ -57,7 +68,13 @@ impl Assembly {
     pub fn into_image(self) -> Image
         ensures { result ≡ record { words = self.words; start = None; banks = 0 } }
     {
-        self.image
+        let Assembly {
+            program: _,
+            places: _,
+            pool: _,
+            image,
+        } = self;
+        image
     }
 
     /// The HOP constant of a line of code by its name, with the data place that is assumed on the line that defines it; none

@@ -14,7 +14,6 @@ use std::marker::Model;
 
 /// The positions of the events that are active at a step. It is made for one script, and asked through `Script::active`. Steps
 /// asked in order cost the events in force where one begins or ends, and nothing else.
-#[derive(Drop)]
 pub struct Active {
     order: Vec<Start>,
     begun: usize,
@@ -32,6 +31,19 @@ impl Model for Active {
     ghost view = { λ a. record { order = a.order.items; begun = a.begun; held = a.held.items; room = a.held.capacity; last = a.last; until = a.until } };
 
     ghost invariant = { λ a. a.begun ≤ vec_len a.order };
+}
+
+/// Its parts go in one call, which whoever lets it go doesn't look into.
+impl Drop for Active {
+    fn drop(self) {
+        let Active {
+            order: _,
+            begun: _,
+            held: _,
+            last: _,
+            until: _,
+        } = self;
+    }
 }
 
 impl Active {

@@ -39,7 +39,6 @@ use std::marker::Model;
 /// The voted machine, without its devices. Steps are counted from 0, three in an instruction time. The bus of the votes is built
 /// once a step, when all copies have latched; what is in force on each copy, and which module has two wrong copies, is worked out
 /// where the active events change.
-#[derive(Drop)]
 pub struct Machine {
     pub(crate) banks: Banks,
     pub(crate) logic: Logic,
@@ -84,6 +83,30 @@ impl Model for Machine {
     } };
 
     ghost invariant = { IsSound };
+}
+
+/// Its parts go in one call, which whoever lets a machine go doesn't look into.
+impl Drop for Machine {
+    fn drop(self) {
+        let Machine {
+            banks: _,
+            logic: _,
+            bus: _,
+            memory: _,
+            script: _,
+            active: _,
+            force: _,
+            wrong: _,
+            unplugs: _,
+            log: _,
+            repairs: _,
+            steps: _,
+            limit: _,
+            mode: _,
+            pace: _,
+            end: _,
+        } = self;
+    }
 }
 
 impl Machine {

@@ -25,7 +25,6 @@ use std::marker::Model;
 
 /// The memory of the voted machine. What a fault script sticks and kills in a step is put in force as the step begins, and
 /// stays so until it is released.
-#[derive(Drop)]
 pub struct VotedMemory {
     pub(crate) twins: Twins,
     pub(crate) ledger: Ledger,
@@ -40,6 +39,16 @@ impl Model for VotedMemory {
     ghost view = { λ m. record { twins = m.twins; ledger = m.ledger } };
 
     ghost invariant = { λ m. m.ledger.banks ≡ m.twins.banks };
+}
+
+/// Its parts go in one call, which whoever lets a memory go doesn't look into.
+impl Drop for VotedMemory {
+    fn drop(self) {
+        let VotedMemory {
+            twins: _,
+            ledger: _,
+        } = self;
+    }
 }
 
 impl VotedMemory {

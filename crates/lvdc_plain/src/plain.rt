@@ -27,7 +27,6 @@ use std::marker::Model;
 
 /// The machine of one copy, without its devices. Steps are counted as the voted machine counts them: instruction time k
 /// has the steps 3k to 3k + 2, and an exchange or a stop falls into the last of them.
-#[derive(Drop)]
 pub struct Plain {
     processor: Processor,
     log: Vec<Exchange>,
@@ -129,6 +128,20 @@ fn end_of(time: u64, stop: Option<Stop>) -> Option<PlainEnd>
             step: 3 * time + 2,
             stop,
         }),
+    }
+}
+
+/// Its parts go in one call, which whoever lets a machine go doesn't look into.
+impl Drop for Plain {
+    fn drop(self) {
+        let Plain {
+            processor: _,
+            log: _,
+            times: _,
+            limit: _,
+            unplugs: _,
+            end: _,
+        } = self;
     }
 }
 

@@ -13,7 +13,7 @@ use std::alloc::Global;
 use std::marker::Model;
 
 /// An image that messages patch, with the load that is open and what was committed last (this project's profile).
-#[derive(Debug, Drop)]
+#[derive(Debug)]
 pub struct Uplink {
     alloc: Global,
     image: Image,
@@ -28,6 +28,19 @@ impl Model for Uplink {
     ghost Value = { Link };
 
     ghost view = { λ u. record { image = u.image; load = u.load; last = u.last; check = u.check } };
+}
+
+/// Its parts go in one call, which whoever lets an uplink go doesn't look into.
+impl Drop for Uplink {
+    fn drop(self) {
+        let Uplink {
+            alloc: _,
+            image: _,
+            load: _,
+            last: _,
+            check: _,
+        } = self;
+    }
 }
 
 impl Uplink {
