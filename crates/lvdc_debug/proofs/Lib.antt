@@ -1,4 +1,3 @@
-pub mod Places
 pub mod Lengths
 pub mod Lines
 pub mod Going

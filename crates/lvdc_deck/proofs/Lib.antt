@@ -1,6 +1,5 @@
 pub mod Tokens
 pub mod Left
-pub mod Places
 pub mod TapeLines
 pub mod Ends
 pub mod FirstLines

@@ -1,7 +1,11 @@
+ghost use Rattle.lvdc_fault.specs.Activity.{Fits};
+
 use crate::rows::{column, comes, holds, same, script_of, shown};
 use lvdc_fault::{Active, Event, Ledger, Script, wrong_module, wrong_now};
 use lvdc_map::{Address, Banks, Placed};
 use lvdc_word::{Cell, Word};
+use std::alloc::Global;
+use std::process::Abort;
 use std::test::Fail;
 
 const HERE: Address = Address {
@@ -34,6 +38,29 @@ const STEPS: &str = "\
     18446744073709551615|[]|None;\
 ";
 
+/// In the step of a row the positions and the module are those of the row.
+fn stands_so(
+    rt: &impl Abort,
+    alloc: Global,
+    script: &Script,
+    active: &mut Active,
+    row: &str,
+) -> Result<(), Fail>
+    requires { Fits script.now active.old }
+    ensures { Fits script.now active.new }
+{
+    let (step, row) = column(row)?;
+    let (positions, wrong) = column(row)?;
+    let step: u64 = step.parse().map_err(|_| "a step")?;
+    script.active(step, active);
+    comes(rt, shown(alloc, &active.positions())?.as_str(), positions);
+    let now = shown(alloc, &wrong_now(script, active, step))?;
+    comes(rt, now.as_str(), wrong);
+    let alone = shown(alloc, &wrong_module(script, step))?;
+    comes(rt, alone.as_str(), wrong);
+    Ok(())
+}
+
 #[test]
 fn positions_at_steps_in_any_order(rt: HostRuntime) -> Result<(), Fail> {
     let alloc = rt.alloc();
@@ -42,18 +69,7 @@ fn positions_at_steps_in_any_order(rt: HostRuntime) -> Result<(), Fail> {
     let mut active = Active::for_script(alloc, &script)?;
     holds(&rt, active.positions().is_empty());
     for row in STEPS.split_terminator(";") {
-        let (step, row) = column(row)?;
-        let (positions, wrong) = column(row)?;
-        let step: u64 = step.parse().map_err(|_| "a step")?;
-        script.active(step, &mut active);
-        comes(&rt, shown(alloc, &active.positions())?.as_str(), positions);
-        let now = shown(alloc, &wrong_now(&script, &active, step))?;
-        comes(&rt, now.as_str(), wrong);
-        comes(
-            &rt,
-            shown(alloc, &wrong_module(&script, step))?.as_str(),
-            wrong,
-        );
+        stands_so(&rt, alloc, &script, &mut active, row)?;
     }
     Ok(())
 }

@@ -6,6 +6,8 @@ use lvdc_port::{
     exchange, kind_at, prepare_all, supply_all, unplug,
 };
 use lvdc_word::Word;
+use std::alloc::Global;
+use std::process::Abort;
 use std::test::Fail;
 
 fn write(devices: &mut Vec<Box<dyn PortDevice>>, port: u8, word: u32) -> Result<Word, Fail>
@@ -29,28 +31,52 @@ const ANSWERS: [(u8, u32); 8] = [
     (0o20, 0),
 ];
 
-#[test]
-fn sixteen_devices_answer_by_their_kinds(rt: HostRuntime) -> Result<(), Fail> {
-    let alloc = rt.alloc();
+/// A tape at each port from 000 to 013, with one word that names the port.
+fn tapes(alloc: Global) -> Result<Vec<Box<dyn PortDevice>>, Fail> {
     let mut devices: Vec<Box<dyn PortDevice>> = Vec::new(alloc);
     for port in 0..0o14u8 {
         let mut tape = Tape::new(alloc, port);
         tape.supply(Word::within(u32::from(port) + 0o100))?;
         devices.push(Box::new(alloc, tape)?)?;
     }
+    Ok(devices)
+}
+
+/// Behind them two latches, a ticker and a recorder.
+fn put_others(alloc: Global, devices: &mut Vec<Box<dyn PortDevice>>) -> Result<(), Fail> {
     devices.push(Box::new(alloc, Latch::new(0o14))?)?;
     devices.push(Box::new(alloc, Latch::new(0o15))?)?;
     devices.push(Box::new(alloc, Ticker::new(0o16))?)?;
     devices.push(Box::new(alloc, Recorder::new(alloc, 0o17))?)?;
+    Ok(())
+}
+
+/// Each device is supplied with a word, and a latch and the recorder are written.
+fn fill(devices: &mut Vec<Box<dyn PortDevice>>) -> Result<(), Fail> {
     for device in devices.iter_mut() {
         device.supply(Word::within(0o6))?;
     }
-    write(&mut devices, 0o15, 0o7)?;
-    write(&mut devices, 0o17, 0o5)?;
+    write(devices, 0o15, 0o7)?;
+    write(devices, 0o17, 0o5)?;
+    Ok(())
+}
+
+/// The reads have their answers.
+fn answer_reads(rt: &impl Abort, devices: &mut Vec<Box<dyn PortDevice>>) -> Result<(), Fail> {
     for (port, answer) in ANSWERS {
-        let word = exchange(&mut devices, Word::within(9), PortRequest::Read { port })?;
-        same(&rt, word.value(), answer);
+        let word = exchange(devices, Word::within(9), PortRequest::Read { port })?;
+        same(rt, word.value(), answer);
     }
+    Ok(())
+}
+
+#[test]
+fn sixteen_devices_answer_by_their_kinds(rt: HostRuntime) -> Result<(), Fail> {
+    let alloc = rt.alloc();
+    let mut devices = tapes(alloc)?;
+    put_others(alloc, &mut devices)?;
+    fill(&mut devices)?;
+    answer_reads(&rt, &mut devices)?;
     holds(&rt, unplug(&mut devices, 0o16));
     holds(&rt, !unplug(&mut devices, 0o16));
     same(&rt, devices.len(), 15);

@@ -2,6 +2,7 @@ pub mod Transfers
 pub mod Digits
 pub mod FirstParts
 pub mod Bounds
+pub mod Places
 pub mod Texts
 pub mod ReadBack
 mod Rows

@@ -4,7 +4,7 @@ use Rattle.lvdc_text.specs.declared.cutting.Line.{Line}
 use Rattle.lvdc_script_lines.specs.Fields.{decimal_in}
 use Rattle.lvdc_debug.specs.declared.command.Command.TheVariants.{Step}
 use Rattle.lvdc_debug.specs.Commands.{step_in}
-use Rattle.lvdc_debug.proofs.Places.{is-there}
+use Rattle.lvdc_text.proofs.Places.{is-there}
 use Rattle.lvdc_debug.proofs.Spent.{no_line}
 use Rattle.lvdc_debug.proofs.fields.step_in.Goals as goal
 
@@ -19,7 +19,7 @@ at-most : (times : ℕ) → times < 1000001 → times ≤ 1000000
 at-most times below = omega arith
 
 pub part-requires : goal.part-requires
-part-requires c = c.requires 0 _ (is-there 0 1 (length c.args.fields.now) refl c.in-len1.len_at_least)
+part-requires c = c.requires _ _ (is-there _ 1 (length c.args.fields.now) refl c.in-len1.len_at_least)
 
 pub returns-in_err-times-clause-command : goal.returns-in_err-times-clause-command
 returns-in_err-times-clause-command c =

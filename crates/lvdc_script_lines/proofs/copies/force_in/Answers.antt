@@ -1,24 +1,24 @@
 use Rattle.std.proofs.Common.{length, refl}
-use Rattle.lvdc_script_lines.proofs.Places.{is-there}
+use Rattle.lvdc_text.proofs.Places.{is-there}
 use Rattle.lvdc_script_lines.proofs.copies.force_in.Goals as goal
 
 pub part-requires : goal.part-requires
-part-requires c = c.requires 0 _ (is-there 0 7 (length c.args.fields.now) refl c.in-len7.len_at_least)
+part-requires c = c.requires _ _ (is-there _ 7 (length c.args.fields.now) refl c.in-len7.len_at_least)
 
 pub part-requires-2 : goal.part-requires-2
-part-requires-2 c = c.requires 1 _ (is-there 1 7 (length c.args.fields.now) refl c.in-len7.len_at_least)
+part-requires-2 c = c.requires _ _ (is-there _ 7 (length c.args.fields.now) refl c.in-len7.len_at_least)
 
 pub part-requires-3 : goal.part-requires-3
-part-requires-3 c = c.requires 2 _ (is-there 2 7 (length c.args.fields.now) refl c.in-len7.len_at_least)
+part-requires-3 c = c.requires _ _ (is-there _ 7 (length c.args.fields.now) refl c.in-len7.len_at_least)
 
 pub part-requires-4 : goal.part-requires-4
-part-requires-4 c = c.requires 3 _ (is-there 3 7 (length c.args.fields.now) refl c.in-len7.len_at_least)
+part-requires-4 c = c.requires _ _ (is-there _ 7 (length c.args.fields.now) refl c.in-len7.len_at_least)
 
 pub part-requires-5 : goal.part-requires-5
-part-requires-5 c = c.requires 4 _ (is-there 4 7 (length c.args.fields.now) refl c.in-len7.len_at_least)
+part-requires-5 c = c.requires _ _ (is-there _ 7 (length c.args.fields.now) refl c.in-len7.len_at_least)
 
 pub part-requires-6 : goal.part-requires-6
-part-requires-6 c = c.requires 5 _ (is-there 5 7 (length c.args.fields.now) refl c.in-len7.len_at_least)
+part-requires-6 c = c.requires _ _ (is-there _ 7 (length c.args.fields.now) refl c.in-len7.len_at_least)
 
 pub part-requires-7 : goal.part-requires-7
-part-requires-7 c = c.requires 6 _ (is-there 6 7 (length c.args.fields.now) refl c.in-len7.len_at_least)
+part-requires-7 c = c.requires _ _ (is-there _ 7 (length c.args.fields.now) refl c.in-len7.len_at_least)

@@ -4,12 +4,12 @@ use Rattle.std.proofs.lemmas.List.Elements.{All-take, All-drop}
 use Rattle.lvdc_text.specs.Lines.{IsWithin, part_of}
 use Rattle.lvdc_deck.specs.Sections.{port_in}
 use Rattle.lvdc_deck.proofs.Tokens.{no_line}
-use Rattle.lvdc_deck.proofs.Places.{is-there}
+use Rattle.lvdc_text.proofs.Places.{is-there}
 use Rattle.lvdc_deck.proofs.TapeLines.{no-words, tape-no_port, tape-no_words}
 use Rattle.lvdc_deck.proofs.said.Said.tape_line.Goals as goal
 
 pub part-requires : goal.part-requires
-part-requires g c = c.requires 0 _ (is-there 0 1 (length c.args.tokens.now) refl c.in-len1-up.len_at_least)
+part-requires g c = c.requires _ _ (is-there _ 1 (length c.args.tokens.now) refl c.in-len1-up.len_at_least)
 
 pub supplies_in-requires : goal.supplies_in-requires
 supplies_in-requires g c =
