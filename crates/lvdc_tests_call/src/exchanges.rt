@@ -92,17 +92,28 @@ fn exchanges_of_runs_fail(rt: HostRuntime) -> Result<(), Fail> {
     exchanges_fail(&rt, alloc, "save 10", "run")
 }
 
+/// A session of the deck ends in the exchange of this time, and says so once more.
+fn session_ends_in(
+    rt: &impl Abort,
+    alloc: Global,
+    session: &str,
+    (port, call, time): (u64, u64, u32),
+) -> Result<(), Fail> {
+    let ended = tells(alloc, "debug", session, failing(port, call))?;
+    let before = tells(alloc, "run", deck(alloc, time, "")?.as_str(), NONE)?;
+    let step = u64::from(time) * 3 + 2;
+    let end = format!(in alloc; "END DEVICE {step} {port:03o}\n")?;
+    let text = format!(in alloc; "LVDC DEBUG\n> STEP 10\n{end}> STEP 1\n{end}")?;
+    is_told(rt, &ended, 10, text.as_str(), before.held.as_str());
+    Ok(())
+}
+
 #[test]
 fn exchanges_of_a_session_fail(rt: HostRuntime) -> Result<(), Fail> {
     let alloc = rt.alloc();
     let session = deck(alloc, 10, "DEBUG\nSTEP 10\nSTEP 1\n")?;
-    for (port, call, time) in EXCHANGES {
-        let ended = tells(alloc, "debug", session.as_str(), failing(port, call))?;
-        let before = tells(alloc, "run", deck(alloc, time, "")?.as_str(), NONE)?;
-        let step = u64::from(time) * 3 + 2;
-        let end = format!(in alloc; "END DEVICE {step} {port:03o}\n")?;
-        let text = format!(in alloc; "LVDC DEBUG\n> STEP 10\n{end}> STEP 1\n{end}")?;
-        is_told(&rt, &ended, 10, text.as_str(), before.held.as_str());
+    for exchange in EXCHANGES {
+        session_ends_in(&rt, alloc, session.as_str(), exchange)?;
     }
     for (port, call) in NO_MORE {
         is_whole(&rt, alloc, "debug", session.as_str(), failing(port, call))?;

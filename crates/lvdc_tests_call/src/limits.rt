@@ -2,6 +2,7 @@
 use crate::rows::{column, comes, inputs_come, same};
 use crate::told::{NONE, Rack, told};
 use std::alloc::Global;
+use std::process::Abort;
 use std::test::Fail;
 
 /// A text, so many lines behind it, and a text behind these.
@@ -85,19 +86,30 @@ TIMES 0
 ~;\
 ";
 
+/// The input of a row comes to what is due.
+fn repeated_comes(rt: &impl Abort, alloc: Global, row: &str) -> Result<(), Fail> {
+    let (line, row) = column(row)?;
+    let (front, row) = column(row)?;
+    let (part, row) = column(row)?;
+    let (count, row) = column(row)?;
+    let (back, due) = column(row)?;
+    let count: u32 = count.parse().map_err(|_| "a count")?;
+    let input = repeated(alloc, front, part, count, back)?;
+    comes(rt, alloc, Rack::Empty, (line, input.as_bytes()), due)
+}
+
 #[test]
 fn so_many_lines_are_taken_and_no_more(rt: HostRuntime) -> Result<(), Fail> {
     let alloc = rt.alloc();
     for row in REPEATED.split_terminator(";") {
-        let (line, row) = column(row)?;
-        let (front, row) = column(row)?;
-        let (part, row) = column(row)?;
-        let (count, row) = column(row)?;
-        let (back, due) = column(row)?;
-        let count: u32 = count.parse().map_err(|_| "a count")?;
-        let input = repeated(alloc, front, part, count, back)?;
-        comes(&rt, alloc, Rack::Empty, (line, input.as_bytes()), due)?;
+        repeated_comes(&rt, alloc, row)?;
     }
+    Ok(())
+}
+
+#[test]
+fn the_longest_expansion_is_written(rt: HostRuntime) -> Result<(), Fail> {
+    let alloc = rt.alloc();
     let longest = repeated(alloc, "", " ", 1_048_575, "")?;
     let ended = told(alloc, "macro", longest.as_bytes(), Rack::Empty, NONE)?;
     let length = format!(in alloc; "{}", ended.text.len())?;

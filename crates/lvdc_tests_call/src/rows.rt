@@ -74,17 +74,26 @@ pub fn inputs_come(rt: &impl Abort, alloc: Global, rack: Rack, rows: &str) -> Re
     Ok(())
 }
 
+/// Adds the words of a text at the start of a sector of bank 0, each behind these digits.
+fn put_words(
+    alloc: Global,
+    text: &mut String,
+    sector: u8,
+    digits: &str,
+    words: &str,
+) -> Result<(), Fail> {
+    for (loc, word) in words.split_whitespace().enumerate() {
+        let line = format!(in alloc; "0 {sector:02o} {loc:03o} {digits}{word}\n")?;
+        text.push_str(line.as_str())?;
+    }
+    Ok(())
+}
+
 /// A deck of code and words at the starts of sectors 00 and 01 of bank 0, and the lines after the image.
 pub fn deck(alloc: Global, code: &str, words: &str, rest: &str) -> Result<String, Fail> {
     let mut text = String::from_str(alloc, "IMAGE\nLVDC 1\n")?;
-    for (loc, syllable) in code.split_whitespace().enumerate() {
-        let line = format!(in alloc; "0 00 {loc:03o} 0000{syllable}\n")?;
-        text.push_str(line.as_str())?;
-    }
-    for (loc, word) in words.split_whitespace().enumerate() {
-        let line = format!(in alloc; "0 01 {loc:03o} {word}\n")?;
-        text.push_str(line.as_str())?;
-    }
+    put_words(alloc, &mut text, 0, "0000", code)?;
+    put_words(alloc, &mut text, 1, "", words)?;
     text.push_str("END\n")?;
     text.push_str(rest)?;
     Ok(text)
