@@ -10,8 +10,9 @@ ghost use Rattle.lvdc_cli.specs.Outside.{source_state, sink_state};
 ghost use Rattle.lvdc_cli.specs.Top.{IsInput, IsUnhindered};
 ghost use Rattle.lvdc_console.specs.Over.{IsAnswerOver, CarriesHeadlineOver};
 
+use crate::devices::{four_tapes, other_devices, plug_in_four};
 use lvdc_cli::lvdc;
-use lvdc_rack::{is_whole, latch, plug_in, recorder, tape, ticker};
+use lvdc_rack::is_whole;
 use lvdc_text::{Sink, Source};
 use lvdc_word::NoMemory;
 use std::alloc::Global;
@@ -48,22 +49,14 @@ pub fn run<S: Source, K: Sink>(
     ensures err { OnErr result ((source.new ≡ source.old) × (sink.new ≡ sink.old)) }
 {
     let mut devices = Vec::with_capacity(alloc, 16)?;
-    plug_in(&mut devices, 0o0, tape(alloc, 0o0)?);
-    plug_in(&mut devices, 0o1, tape(alloc, 0o1)?);
-    plug_in(&mut devices, 0o2, tape(alloc, 0o2)?);
-    plug_in(&mut devices, 0o3, tape(alloc, 0o3)?);
-    plug_in(&mut devices, 0o4, tape(alloc, 0o4)?);
-    plug_in(&mut devices, 0o5, tape(alloc, 0o5)?);
-    plug_in(&mut devices, 0o6, tape(alloc, 0o6)?);
-    plug_in(&mut devices, 0o7, tape(alloc, 0o7)?);
-    plug_in(&mut devices, 0o10, tape(alloc, 0o10)?);
-    plug_in(&mut devices, 0o11, tape(alloc, 0o11)?);
-    plug_in(&mut devices, 0o12, tape(alloc, 0o12)?);
-    plug_in(&mut devices, 0o13, tape(alloc, 0o13)?);
-    plug_in(&mut devices, 0o14, latch(alloc, 0o14)?);
-    plug_in(&mut devices, 0o15, latch(alloc, 0o15)?);
-    plug_in(&mut devices, 0o16, ticker(alloc, 0o16)?);
-    plug_in(&mut devices, 0o17, recorder(alloc, 0o17)?);
+    let low = four_tapes(alloc, 0o0)?;
+    plug_in_four(&mut devices, 0o0, low.0, low.1, low.2, low.3);
+    let middle = four_tapes(alloc, 0o4)?;
+    plug_in_four(&mut devices, 0o4, middle.0, middle.1, middle.2, middle.3);
+    let high = four_tapes(alloc, 0o10)?;
+    plug_in_four(&mut devices, 0o10, high.0, high.1, high.2, high.3);
+    let others = other_devices(alloc)?;
+    plug_in_four(&mut devices, 0o14, others.0, others.1, others.2, others.3);
     is_whole(&devices);
     Ok(lvdc(alloc, words, source, sink, &mut devices))
 }

@@ -2,5 +2,6 @@
 #![tactic(auto)]
 
 mod command;
+mod devices;
 
 pub use command::run;

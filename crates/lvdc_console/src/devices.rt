@@ -1,0 +1,67 @@
+ghost use Rattle.std.specs.Prelude.{◌≡◌, ◌+◌, ◌≤◌, vec_len, vec_capacity, IfOk};
+ghost use Rattle.lvdc_rack.specs.Rack.{tape_at, latch_at, ticker_at, recorder_at, device_at, IsFilled};
+
+use lvdc_port::{Latch, PortDevice, Recorder, Tape, Ticker};
+use lvdc_rack::{latch, plug_in, recorder, tape, ticker};
+use lvdc_word::NoMemory;
+use std::alloc::Global;
+
+/// Four tapes without words, one for this port and one for each of the next three.
+pub fn four_tapes(
+    alloc: Global,
+    port: u8,
+) -> Result<(Box<Tape>, Box<Tape>, Box<Tape>, Box<Tape>), NoMemory>
+    requires { port + 4 ≤ 16 }
+    ensures { IfOk result (λ made. (⟦<Tape as PortDevice>⟧.device_of made.0.value ≡ tape_at port)
+        × (⟦<Tape as PortDevice>⟧.device_of made.1.value ≡ tape_at (port + 1))
+        × (⟦<Tape as PortDevice>⟧.device_of made.2.value ≡ tape_at (port + 2))
+        × (⟦<Tape as PortDevice>⟧.device_of made.3.value ≡ tape_at (port + 3))) }
+{
+    Ok((
+        tape(alloc, port)?,
+        tape(alloc, port + 1)?,
+        tape(alloc, port + 2)?,
+        tape(alloc, port + 3)?,
+    ))
+}
+
+/// The devices that are no tapes: latches for ports 014 and 015, a ticker for 016 and a recorder for 017, each as it is
+/// before a run.
+pub fn other_devices(
+    alloc: Global,
+) -> Result<(Box<Latch>, Box<Latch>, Box<Ticker>, Box<Recorder>), NoMemory>
+    ensures { IfOk result (λ made. (⟦<Latch as PortDevice>⟧.device_of made.0.value ≡ latch_at 0o14)
+        × (⟦<Latch as PortDevice>⟧.device_of made.1.value ≡ latch_at 0o15)
+        × (⟦<Ticker as PortDevice>⟧.device_of made.2.value ≡ ticker_at 0o16)
+        × (⟦<Recorder as PortDevice>⟧.device_of made.3.value ≡ recorder_at 0o17)) }
+{
+    Ok((
+        latch(alloc, 0o14)?,
+        latch(alloc, 0o15)?,
+        ticker(alloc, 0o16)?,
+        recorder(alloc, 0o17)?,
+    ))
+}
+
+/// Puts four devices, the first at this port, behind those at the ports below it, in a list that has room for sixteen.
+pub fn plug_in_four(
+    devices: &mut Vec<Box<dyn PortDevice>>,
+    port: u8,
+    first: Box<dyn PortDevice>,
+    second: Box<dyn PortDevice>,
+    third: Box<dyn PortDevice>,
+    fourth: Box<dyn PortDevice>,
+)
+    requires before { IsFilled device_of port devices.old.items (vec_len devices.old) (vec_capacity devices.old) }
+    requires next { (port + 4 ≤ 16)
+        × (device_of first ≡ device_at port)
+        × (device_of second ≡ device_at (port + 1))
+        × (device_of third ≡ device_at (port + 2))
+        × (device_of fourth ≡ device_at (port + 3)) }
+    ensures { IsFilled device_of (port + 4) devices.new.items (vec_len devices.new) (vec_capacity devices.new) }
+{
+    plug_in(devices, port, first);
+    plug_in(devices, port + 1, second);
+    plug_in(devices, port + 2, third);
+    plug_in(devices, port + 3, fourth);
+}
