@@ -3,6 +3,9 @@ use Rattle.lvdc_cli.specs.Words.{texts}
 use Rattle.lvdc_console.proofs.Over.{end_over, headline_over, answer_over}
 use Rattle.lvdc_console.proofs.command.run.Goals as goal
 
+pub plug_in_four-requires-3-clause-before : goal.plug_in_four-requires-3-clause-before
+plug_in_four-requires-3-clause-before g c = c.plug_in_four-2.ensures
+
 pub returns-clause-ends : goal.returns-clause-ends
 returns-clause-ends g c = end_over rack c.is_whole.ensures.rack c.lvdc.ensures.ends
 
