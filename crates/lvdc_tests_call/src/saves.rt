@@ -32,14 +32,18 @@ REPAIR 1 0 01 000 0 SWITCH
 END STOPPED 5 ~;\
 ";
 
+/// All that is told of an input, as one text.
+fn whole_text(alloc: Global, line: &str, input: &[u8], rack: Rack) -> Result<String, Fail> {
+    let ended = told(alloc, line, input, rack, NONE)?;
+    Ok(format!(in alloc; "{}|{}{}", ended.status, ended.text, ended.held)?)
+}
+
 /// A run that is saved after so many times goes on to what the whole run comes to.
 fn goes_on(rt: &impl Abort, alloc: Global, rack: Rack, deck: &str, times: u32) -> Result<(), Fail> {
     let line = format!(in alloc; "save {times}")?;
     let saved = told(alloc, line.as_str(), deck.as_bytes(), rack, NONE)?;
-    let whole = told(alloc, "run", deck.as_bytes(), rack, NONE)?;
-    let due = format!(in alloc; "{}|{}{}", whole.status, whole.text, whole.held)?;
-    let ended = told(alloc, "resume", saved.text.as_bytes(), rack, NONE)?;
-    let found = format!(in alloc; "{}|{}{}", ended.status, ended.text, ended.held)?;
+    let due = whole_text(alloc, "run", deck.as_bytes(), rack)?;
+    let found = whole_text(alloc, "resume", saved.text.as_bytes(), rack)?;
     same(rt, found.as_str(), due.as_str());
     Ok(())
 }
