@@ -141,7 +141,7 @@ module _ (bytes : List ℕ) (devices : List Device) (all after lines : List Line
   campaign-by_deck rest within r deck is =
       by_found ∙ ap (by_lines bytes devices (length all + 1)) (drop_more lines 0 no_line within)
       ∙ ap (λ (ls : List Line). and_then (program_of (take (get_or lines 0 no_line).start bytes) devices)
-          (λ deck. and_then (scripts_from bytes nothing_said ls) (λ scripts. Ok (campaign_with deck scripts)))) (sym r)
+      (λ deck. and_then (scripts_from bytes nothing_said ls) (λ scripts. Ok (campaign_with deck scripts)))) (sym r)
       ∙ ap (λ (read : Result Deck CampaignFault). and_then read (λ deck. and_then (scripts_from bytes nothing_said rest) (λ scripts. Ok (campaign_with deck scripts)))) is
 
   pub campaign-by_scripts : (rest : List Line) → 0 < length lines → rest ≡ drop 1 lines

@@ -26,7 +26,7 @@ some-words port (Some ws) supplies list some is = (ws, refl, cc)
 -- a test of kinds tells a tape from what is none
 tape-test : (s : Sections) (number port : ℕ) (words : List ℕ) (kind : Option Kind)
     → tape_at kind s number port words
-        ≡ (if not (option_eq eq-value.it kind (Some Tape)) then Err (NoDevice number) else Ok (record s { supplies = s.supplies ++ supply_of port words }))
+    ≡ (if not (option_eq eq-value.it kind (Some Tape)) then Err (NoDevice number) else Ok (record s { supplies = s.supplies ++ supply_of port words }))
 tape-test s number port words None = refl
 tape-test s number port words (Some Tape) = refl
 tape-test s number port words (Some Latch) = refl
