@@ -1,7 +1,6 @@
 -- A line of TAPE, by its tokens.
-use Rattle.std.proofs.Common.{◌≡◌, ℕ, ◌≤◌, Bool, true, false, not, eqb, List, [], ◌∷◌, ◌++◌, map, length, get_or, drop, Option, None, Some, option_map, Ok, Err, refl, sym, ap, ◌∙◌, arith}
+use Rattle.std.proofs.Common.{◌≡◌, ℕ, ◌≤◌, true, false, not, eqb, List, [], ◌∷◌, map, length, get_or, drop, Option, None, Some, option_map, Err, refl, sym, ap, ◌∙◌, arith}
 use Rattle.std.proofs.lemmas.Bool.{eqb-false}
-use Rattle.std.specs.Bool.{if◌then◌else◌}
 use Rattle.std.specs.Option.{option_eq}
 use Rattle.lvdc_text.specs.declared.cutting.Line.{Line}
 use Rattle.lvdc_port.specs.Device.{Device}
@@ -23,15 +22,14 @@ some-words : (port : ℕ) (words : Option (List ℕ)) (supplies : Option (List S
 some-words port None supplies list some is = cc
 some-words port (Some ws) supplies list some is = (ws, refl, cc)
 
--- a test of kinds tells a tape from what is none
-tape-test : (s : Sections) (number port : ℕ) (words : List ℕ) (kind : Option Kind)
-    → tape_at kind s number port words
-    ≡ (if not (option_eq eq-value.it kind (Some Tape)) then Err (NoDevice number) else Ok (record s { supplies = s.supplies ++ supply_of port words }))
-tape-test s number port words None = refl
-tape-test s number port words (Some Tape) = refl
-tape-test s number port words (Some Latch) = refl
-tape-test s number port words (Some Ticker) = refl
-tape-test s number port words (Some Recorder) = refl
+-- no words are kept for what a test of kinds tells from a tape
+no_tape : (s : Sections) (number port : ℕ) (words : List ℕ) (kind : Option Kind) → not (option_eq eq-value.it kind (Some Tape)) ≡ true
+    → tape_at kind s number port words ≡ Err (NoDevice number)
+no_tape s number port words None other = refl
+no_tape s number port words (Some Tape) other = cc
+no_tape s number port words (Some Latch) other = refl
+no_tape s number port words (Some Ticker) other = refl
+no_tape s number port words (Some Recorder) other = refl
 
 module _ (devices : List Device) (s : Sections) (number : ℕ) (text_of : Line → List ℕ) (tokens words : List Line) (d : Line)
     (long : 1 ≤ length tokens) (rest : words ≡ drop 1 tokens) where
@@ -59,27 +57,13 @@ module _ (devices : List Device) (s : Sections) (number : ℕ) (text_of : Line �
       tape-words some ∙ ap (λ (p : Option ℕ). with_tape devices s number p (words_in (map text_of words))) is
       ∙ ap (with_tape devices s number (Some port)) none
 
-  module _ (some : eqb (length words) 0 ≡ false) (port : ℕ) (is : port_in (text_of (get_or tokens 0 d)) ≡ Some port)
-      (supplies : Option (List Supply)) (list : List Supply) (l : supplies ≡ Some list) (w : supplies ≡ option_map (supply_of port) (words_in (map text_of words)))
-      (kind : Option Kind) (k : kind ≡ kind_left devices s port) where
-    by_kind : (other : Bool) → not (option_eq eq-value.it kind (Some Tape)) ≡ other
-        → tape_line devices s number (map text_of tokens) ≡ (if other then Err (NoDevice number) else Ok (record s { supplies = s.supplies ++ list }))
-    by_kind other o =
-        let told = some-words port (words_in (map text_of words)) supplies list l w in
-        tape-words some ∙ ap (λ (p : Option ℕ). with_tape devices s number p (words_in (map text_of words))) is
-        ∙ ap (with_tape devices s number (Some port)) told.1
-        ∙ ap (λ (left : Option Kind). tape_at left s number port told.0) (sym k) ∙ tape-test s number port told.0 kind
-        ∙ ap (λ (b : Bool). if b then Err (NoDevice number) else Ok (record s { supplies = s.supplies ++ supply_of port told.0 })) o
-        ∙ ap (λ (more : List Supply). if other then Err (NoDevice number) else Ok (record s { supplies = s.supplies ++ more })) (sym told.2)
-
-    -- what is no tape gets no words
-    pub tape-no_tape : not (option_eq eq-value.it kind (Some Tape)) ≡ true → tape_line devices s number (map text_of tokens) ≡ Err (NoDevice number)
-    tape-no_tape o = by_kind true o
-
-    -- a tape gets them behind all others
-    pub tape-supplied : not (option_eq eq-value.it kind (Some Tape)) ≡ false
-        → (said : Sections) → said ≡ s → (all : List Supply) → all ≡ said.supplies ++ list
-        → tape_line devices s number (map text_of tokens) ≡ Ok (record said { supplies = all })
-    tape-supplied o said same all a =
-        by_kind false o ∙ ap (λ (t : Sections). Ok (record t { supplies = t.supplies ++ list })) (sym same)
-        ∙ ap (λ (ls : List Supply). Ok (record said { supplies = ls })) (sym a)
+  -- what is no tape gets no words
+  pub tape-no_tape : eqb (length words) 0 ≡ false → (port : ℕ) → port_in (text_of (get_or tokens 0 d)) ≡ Some port
+      → (supplies : Option (List Supply)) (list : List Supply) → supplies ≡ Some list → supplies ≡ option_map (supply_of port) (words_in (map text_of words))
+      → (kind : Option Kind) → kind ≡ kind_left devices s port → not (option_eq eq-value.it kind (Some Tape)) ≡ true
+      → tape_line devices s number (map text_of tokens) ≡ Err (NoDevice number)
+  tape-no_tape some port is supplies list l w kind k other =
+      let told = some-words port (words_in (map text_of words)) supplies list l w in
+      tape-words some ∙ ap (λ (p : Option ℕ). with_tape devices s number p (words_in (map text_of words))) is
+      ∙ ap (with_tape devices s number (Some port)) told.1
+      ∙ ap (λ (left : Option Kind). tape_at left s number port told.0) (sym k) ∙ no_tape s number port told.0 kind other

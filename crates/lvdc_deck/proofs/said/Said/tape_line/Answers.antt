@@ -1,12 +1,11 @@
-use Rattle.std.proofs.Common.{◌-◌, List, ◌++◌, length, map, drop, option_map, refl, sym, ap, ◌∙◌}
+use Rattle.std.proofs.Common.{◌-◌, length, map, drop, option_map, refl, sym, ap, ◌∙◌}
 use Rattle.std.proofs.lemmas.List.{take_rest}
 use Rattle.std.proofs.lemmas.List.Elements.{All-take, All-drop}
 use Rattle.lvdc_text.specs.Lines.{IsWithin, part_of}
-use Rattle.lvdc_port.specs.declared.requests.Supply.{Supply}
 use Rattle.lvdc_deck.specs.Sections.{port_in}
 use Rattle.lvdc_deck.proofs.Tokens.{no_line}
 use Rattle.lvdc_text.proofs.Places.{is-there}
-use Rattle.lvdc_deck.proofs.TapeLines.{no-words, tape-no_port, tape-no_words, tape-no_tape, tape-supplied}
+use Rattle.lvdc_deck.proofs.TapeLines.{no-words, tape-no_port, tape-no_words, tape-no_tape}
 use Rattle.lvdc_deck.proofs.said.Said.tape_line.Goals as goal
 
 pub part-requires : goal.part-requires
@@ -37,13 +36,3 @@ returns-then-ne g c = λ known.
     c.in-Some.port (ap port_in (sym c.part.ensures) ∙ sym c.port_in.ensures ∙ c.in-Some.is)
     _ c.in-Some-2.supplies.items (ap (option_map (λ supplies. supplies.items)) c.in-Some-2.is) c.in_ok-supplies.ensures c.kind_left.result c.kind_left.ensures
     (sym c.ne.ensures ∙ c.if-ne.true)
-
-pub returns : goal.returns
-returns g c =
-    tape-supplied (map (λ b. (goal.PortDevice-dyn g (b.vtable, b.value)).device_of b.value) c.args.devices.now.items) c.args.self.now c.args.number (part_of c.args.text.now) c.args.tokens.now _ no_line
-    c.in-len1-up.len_at_least (take_rest c.args.tokens.now 1) (sym c.is_empty.ensures ∙ c.if-is_empty.false)
-    c.in-Some.port (ap port_in (sym c.part.ensures) ∙ sym c.port_in.ensures ∙ c.in-Some.is)
-    _ c.in-Some-2.supplies.items (ap (option_map (λ supplies. supplies.items)) c.in-Some-2.is) c.in_ok-supplies.ensures c.kind_left.result c.kind_left.ensures
-    (sym c.ne.ensures ∙ c.if-ne.false)
-    _ c.self.view_is c.extend_from_slice.new.self.items
-    (c.in_ok-extend_from_slice.ensures.items ∙ ap (λ (list : List Supply). c.self.inside.supplies.items ++ list) c.as_slice.ensures.value)
