@@ -1,5 +1,5 @@
 -- Statuses of replies by their kind, and what the crates of commands need of a reply.
-use Rattle.std.proofs.Common.{◌≡◌, ℕ, List, Result, Ok, Err, OnErr, refl, sym, subst, inl, inr, ◌⊎◌, arith}
+use Rattle.std.proofs.Common.{◌≡◌, ℕ, List, Result, Ok, Err, IfOk, OnErr, refl, sym, subst, inl, inr, ◌⊎◌, arith}
 use Rattle.lvdc_port.specs.Device.{Device}
 use Rattle.lvdc_reply.specs.Replies.{Quiet, IsRefused, IsUnfailed}
 
@@ -33,3 +33,8 @@ kept_quiet {B} device_of faults old new e = subst (λ (devices : List B). Quiet 
 pub on_err : {A E P : Type 0} (result : Result A E) → P → OnErr result P
 on_err (Ok a) fact = tt
 on_err (Err e) fact = fact
+
+-- what follows of a success from two facts of it
+pub if_ok_both : {A E : Type 0} (result : Result A E) (P Q R : A → Type 0) → ((a : A) → P a → Q a → R a) → IfOk result P → IfOk result Q → IfOk result R
+if_ok_both (Ok a) P Q R f first second = f a first second
+if_ok_both (Err e) P Q R f first second = tt

@@ -1,5 +1,5 @@
 -- A machine that has gone on from a saved state.
-use Rattle.std.proofs.Common.{◌≡◌, ℕ, ◌+◌, ◌-◌, ◌*◌, ◌/◌, List, true, length, map, IfOk, Result, Ok, Err, sym, ap, ◌∙◌, subst, arith}
+use Rattle.std.proofs.Common.{◌≡◌, ℕ, ◌+◌, ◌-◌, ◌*◌, ◌/◌, List, true, length, map, sym, ap, ◌∙◌, subst, arith}
 use Rattle.std.proofs.lemmas.List.{take_all}
 use Rattle.lvdc_port.specs.Causes.{Rose}
 use Rattle.lvdc_port.specs.Device as device
@@ -77,10 +77,3 @@ has-run device_of faults s old mid new made m end runnable mode restored unplugs
       (goes o v 0 (begins o v means.script (means.unplugs ∙ sym is) means.banks means.state (means.left ∙ sym restored)));
   cause = subst (λ (e : Outcome). HasCause device_of faults e old new) answer (since-caused since new end left cause);
 }
-
--- ---- results
-
--- what follows of a success from two facts of it
-pub if_ok_both : {A E : Type 0} (result : Result A E) (P Q R : A → Type 0) → ((a : A) → P a → Q a → R a) → IfOk result P → IfOk result Q → IfOk result R
-if_ok_both (Ok a) P Q R f p q = f a p q
-if_ok_both (Err e) P Q R f p q = tt

@@ -28,8 +28,7 @@ use lvdc_laws::judges_alone;
 use lvdc_machine::{Mode, resumed_goes_on};
 use lvdc_port::PortDevice;
 use lvdc_reply::{Reply, refusal};
-use lvdc_report::report_run;
-use lvdc_run::{end_status, guarded_is_answered};
+use lvdc_run::{guarded_is_answered, report_end};
 use lvdc_save::{SaveFault, Saved};
 use lvdc_saved_lines::read_saved;
 use lvdc_text::put_octal;
@@ -53,11 +52,7 @@ fn report(alloc: Global, finished: &Finished) -> Result<Reply, NoMemory>
         → All (λ repair. repair.step < first.steps) first.repairs → length reply.text < LONGEST_REPORT + noted_size first.log first.repairs) }
 {
     report_is_short(&finished.machine, finished.end);
-    let text = report_run(alloc, &finished.machine, Mode::Guarded, finished.end)?;
-    Ok(Reply {
-        status: end_status(&finished.end),
-        text: Seq::from_vec(text),
-    })
+    report_end(alloc, &finished.machine, Mode::Guarded, finished.end)
 }
 
 /// The reply where the device at this port fails at a word of its state.

@@ -12,4 +12,4 @@ pub use job::{Engine, Job};
 pub use laws::{guarded_is_answered, headline_told, source_is_loaded, statuses_caused};
 pub use perform::{refuse, run_job};
 pub use ready::{Ready, make_ready};
-pub use runs::end_status;
+pub use runs::{end_status, report_end};

@@ -1,10 +1,16 @@
 //! Runs of a deck by each of the machines.
 
 ghost use Rattle.std.specs.Prelude.{◌≡◌, ◌≤◌, List, ℕ, length, map, OnErr, IfOk};
+ghost use Rattle.lvdc_port.specs.Device.{Device};
 ghost use Rattle.lvdc_port.specs.Devices.{AreDistinct};
 ghost use Rattle.lvdc_plain.specs.View.{answer_of_end as plain_answer_of_end};
+ghost use Rattle.lvdc_model.specs.Trial.{Trial};
+ghost use Rattle.lvdc_model.specs.Voted.{Voted};
+ghost use Rattle.lvdc_machine.specs.Resumed.{state_from, StandsFrom};
+ghost use Rattle.lvdc_machine.specs.Stands.{Stands, state_by};
 ghost use Rattle.lvdc_machine.specs.View.{answer_of_end};
 ghost use Rattle.lvdc_report.specs.Report.{outcome_of};
+ghost use Rattle.lvdc_report.specs.Voted.{title_of, voted_text};
 ghost use Rattle.lvdc_reply.specs.Answer.{answer_with};
 ghost use Rattle.lvdc_run.specs.Trials.{trial_of, IsRunnable};
 ghost use Rattle.lvdc_run.specs.Accounts.{end_status};
@@ -60,6 +66,33 @@ fn plain_status(end: &PlainEnd) -> u8
         PlainEnd::Stopped { .. } => 6,
         PlainEnd::Device { .. } => 10,
     }
+}
+
+/// The reply of a voted machine after its run: the status of its end, and the report of its mode. The end is the one that the
+/// machine keeps, or `Done` where it keeps none.
+pub fn report_end(
+    alloc: Global,
+    machine: &Machine,
+    mode: Mode,
+    end: Outcome,
+) -> Result<Reply, NoMemory>
+    requires mode { mode ≡ machine.now.mode }
+    requires end { end ≡ answer_of_end machine.now.end }
+    ensures status { IfOk result (λ reply. reply.status ≡ end_status end) }
+    ensures text { IfOk result (λ reply. (o : Trial) (t : ℕ) (ds : List Device) → Stands o t machine.now ds
+        → reply.text ≡ voted_text (title_of mode) o (state_by machine.now.end machine.now.mode o t)) }
+
+    // The same of a run from a given state.
+    ensures resumed { IfOk result (λ reply. (o : Trial) (first : Voted) (n : ℕ) (ds : List Device) → StandsFrom o first n machine.now ds
+        → reply.text ≡ voted_text (title_of mode) o (state_from machine.now.end machine.now.mode o first n)) }
+    ensures room { IfOk result (λ reply. (o : Trial) (t : ℕ) (ds : List Device) → Stands o t machine.now ds
+        → length reply.text ≤ LONGEST_REPORT) }
+{
+    let text = report_run(alloc, machine, mode, end)?;
+    Ok(Reply {
+        status: end_status(&end),
+        text: Seq::from_vec(text),
+    })
 }
 
 /// Makes the voted machine of a deck, and runs it.
@@ -124,12 +157,7 @@ pub(crate) fn run_guarded(
     ensures room { IfOk result (λ reply. length reply.text ≤ LONGEST_REPORT) }
 {
     let finished = run_judged(alloc, deck, devices)?;
-    let status = end_status(&finished.end);
-    let text = report_run(alloc, &finished.machine, Mode::Guarded, finished.end)?;
-    Ok(Reply {
-        status,
-        text: Seq::from_vec(text),
-    })
+    report_end(alloc, &finished.machine, Mode::Guarded, finished.end)
 }
 
 /// Runs a deck by the voted machine through every fault, and reports the run.
@@ -146,12 +174,7 @@ pub(crate) fn run_through(
     ensures room { IfOk result (λ reply. length reply.text ≤ LONGEST_REPORT) }
 {
     let finished = run_machine(alloc, Mode::Through, deck, devices)?;
-    let status = end_status(&finished.end);
-    let text = report_run(alloc, &finished.machine, Mode::Through, finished.end)?;
-    Ok(Reply {
-        status,
-        text: Seq::from_vec(text),
-    })
+    report_end(alloc, &finished.machine, Mode::Through, finished.end)
 }
 
 /// Makes the plain machine of a deck, and runs it.

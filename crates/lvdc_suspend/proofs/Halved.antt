@@ -22,10 +22,8 @@ use Rattle.lvdc_run.specs.Finished.{HasJudged}
 use Rattle.lvdc_run.specs.Refusals.{refusal_status}
 use Rattle.lvdc_run.specs.Trials.{trial_of}
 use Rattle.lvdc_run.proofs.Statuses.{refusal_is}
-use Rattle.lvdc_suspend.specs.Answers.{saved_in}
+use Rattle.lvdc_suspend.specs.Answers.{saved_by, saved_in}
 use Rattle.lvdc_suspend.specs.Halves.{IsTaken, IsSavedRun}
-use Rattle.lvdc_suspend.specs.Snapshots.{snapshot_of}
-use Rattle.lvdc_suspend.specs.States.{states_of}
 use Rattle.lvdc_suspend.proofs.Stops.{saved_same, shows_as}
 
 module _ {B : Type 0} (device_of : B → device.Device) (faults : B → ℕ) (n : ℕ) (deck : Deck) (old new : List B) (m : View)
@@ -37,22 +35,8 @@ module _ {B : Type 0} (device_of : B → device.Device) (faults : B → ℕ) (n 
   -- without an end
   pub saved_run : (read : List B) (count : ℕ) (unplugs : List Unplug) (script : List Event) (orders : List (List ℕ)) (text written : List ℕ) → read ≡ new
       → m.end ≡ None → count ≡ deck.count → unplugs ≡ deck.unplugs → script ≡ deck.script → orders ≡ deck.orders → written ≡ text
-      → ((p : Trial) (v : Voted) → Shows p m (map device_of read) v → text ≡ saved_text (record {
-        snapshot = snapshot_of p.opening.banks v;
-        count = count;
-        states = states_of v.devices;
-        unplugs = unplugs;
-        script = script;
-        orders = orders;
-      }))
-      → ((p : Trial) (v : Voted) → Shows p m (map device_of read) v → IsTaken (record {
-        snapshot = snapshot_of p.opening.banks v;
-        count = count;
-        states = states_of v.devices;
-        unplugs = unplugs;
-        script = script;
-        orders = orders;
-      }) v)
+      → ((p : Trial) (v : Voted) → Shows p m (map device_of read) v → text ≡ saved_text (saved_by p.opening.banks v count unplugs script orders))
+      → ((p : Trial) (v : Voted) → Shows p m (map device_of read) v → IsTaken (saved_by p.opening.banks v count unplugs script orders) v)
       → IsSavedRun n deck (map device_of old) written
   saved_run read count unplugs script orders text written r none c u s x w is taken =
       let v = alone o (3 * n) in
@@ -88,8 +72,3 @@ refused_run fault status st zero = by_status (refusal_is fault)
 pub if_ok_given : {A E : Type 0} (result : Result A E) (P : Type 0) (Q : A → Type 0) → ((a : A) → P → Q a) → OnOk result P → IfOk result Q
 if_ok_given (Ok a) P Q f fact = f a fact
 if_ok_given (Err e) P Q f fact = tt
-
--- and from two facts of it
-pub if_ok_both : {A E : Type 0} (result : Result A E) (P Q R : A → Type 0) → ((a : A) → P a → Q a → R a) → IfOk result P → IfOk result Q → IfOk result R
-if_ok_both (Ok a) P Q R f first second = f a first second
-if_ok_both (Err e) P Q R f first second = tt

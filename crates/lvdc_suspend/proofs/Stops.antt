@@ -27,24 +27,15 @@ use Rattle.lvdc_run.specs.Trials.{trial_of}
 use Rattle.lvdc_run.specs.declared.job.Engine.TheVariants as engine
 use Rattle.lvdc_run.specs.declared.job.Job.TheVariants as job
 use Rattle.lvdc_run.proofs.Told.{told}
-use Rattle.lvdc_suspend.specs.Answers.{saved_in, answer_by_end, stop_answer}
+use Rattle.lvdc_suspend.specs.Answers.{saved_by, saved_in, answer_by_end, stop_answer}
 use Rattle.lvdc_suspend.specs.Replies.{IsStop, made, failed, IsUnwritten, writing}
-use Rattle.lvdc_suspend.specs.Snapshots.{snapshot_of}
-use Rattle.lvdc_suspend.specs.States.{states_of}
 
 -- what is saved of a state, from the parts of the deck
 pub saved_same : (deck : Deck) (v : Voted) (count : ℕ) (unplugs : List Unplug) (script : List Event) (orders : List (List ℕ))
     → count ≡ deck.count → unplugs ≡ deck.unplugs → script ≡ deck.script → orders ≡ deck.orders
-    → record {
-      snapshot = snapshot_of deck.banks v;
-      count = count;
-      states = states_of v.devices;
-      unplugs = unplugs;
-      script = script;
-      orders = orders;
-    } ≡ saved_in deck v
+    → saved_by deck.banks v count unplugs script orders ≡ saved_in deck v
 saved_same deck v count unplugs script orders c u s r =
-    λ i. record { snapshot = snapshot_of deck.banks v; count = c i; states = states_of v.devices; unplugs = u i; script = s i; orders = r i }
+    λ i. saved_by deck.banks v (c i) (u i) (s i) (r i)
 
 -- a report is an account's answer, where its state tells the account
 told_answer : (o : Trial) (a : Account) (v w : Voted) (end : Outcome) (status : ℕ) (text : List ℕ) (left : List device.Device) → Tells o a v w
@@ -116,14 +107,7 @@ module _ {B : Type 0} (device_of : B → device.Device) (faults : B → ℕ) (n 
     -- the text is that of what a machine with these devices shows
     pub saved_from : (read : List B) (count : ℕ) (unplugs : List Unplug) (script : List Event) (orders : List (List ℕ)) (text written : List ℕ) → read ≡ new
         → m.end ≡ None → count ≡ deck.count → unplugs ≡ deck.unplugs → script ≡ deck.script → orders ≡ deck.orders → written ≡ text
-        → ((p : Trial) (v : Voted) → Shows p m (map device_of read) v → text ≡ saved_text (record {
-          snapshot = snapshot_of p.opening.banks v;
-          count = count;
-          states = states_of v.devices;
-          unplugs = unplugs;
-          script = script;
-          orders = orders;
-        }))
+        → ((p : Trial) (v : Voted) → Shows p m (map device_of read) v → text ≡ saved_text (saved_by p.opening.banks v count unplugs script orders))
         → IsStop device_of faults n deck old new (answer_with 0 written (map device_of new))
     saved_from read count unplugs script orders text written r none c u s x w is =
         let v = alone o (3 * n) in

@@ -1,6 +1,8 @@
 -- The answer to a deck that is to be saved after so many times: a status, the text that is written, and what the devices are then.
 use Rattle.std.specs.Prelude.{ℕ, ◌*◌, nat_lt, false, List, if◌then◌else◌, Result, Ok, Err}
 use Rattle.lvdc_port.specs.Device as device
+use Rattle.lvdc_fault.specs.declared.event.Event.{Event}
+use Rattle.lvdc_plain.specs.declared.records.Unplug.{Unplug}
 use Rattle.lvdc_model.specs.declared.outcome.Outcome.{Outcome}
 use Rattle.lvdc_model.specs.declared.outcome.Outcome.TheVariants.{Done}
 use Rattle.lvdc_model.specs.Runs.{guarded}
@@ -24,17 +26,21 @@ use Rattle.lvdc_suspend.specs.States.{states_of}
 
 -- ---- what is saved
 
--- a deck's run that is stopped in this state: the state, and what the deck asks of the run that goes on from it
-abbrev pub saved_in : Deck → Voted → Saved
-saved_in deck v =
+-- a run that is stopped in this state: the state, with these simplex pairs, and what is asked of the run that goes on from it
+abbrev pub saved_by : ℕ → Voted → ℕ → List Unplug → List Event → List (List ℕ) → Saved
+saved_by banks v count unplugs script orders =
     record {
-      snapshot = snapshot_of deck.banks v;
-      count = deck.count;
+      snapshot = snapshot_of banks v;
+      count = count;
       states = states_of v.devices;
-      unplugs = deck.unplugs;
-      script = deck.script;
-      orders = deck.orders;
+      unplugs = unplugs;
+      script = script;
+      orders = orders;
     }
+
+-- the same of a deck's run
+abbrev pub saved_in : Deck → Voted → Saved
+saved_in deck v = saved_by deck.banks v deck.count deck.unplugs deck.script deck.orders
 
 -- the state to which a deck's run over these devices comes in so many times, or where it ends
 abbrev pub state_after : List device.Device → Deck → ℕ → Voted

@@ -10,11 +10,12 @@ ghost use Rattle.lvdc_suspend.specs.Replies.{IsStop, IsAnswered, IsSaveReply, Is
 
 use crate::kept::keep;
 use crate::runs::{Stopped, run_times};
-use crate::saving::{reply_saved, report_end};
+use crate::saving::reply_saved;
 use lvdc_deck::{Deck, DeckFault, read_deck, run_line};
+use lvdc_machine::Mode;
 use lvdc_port::PortDevice;
 use lvdc_reply::Reply;
-use lvdc_run::refuse;
+use lvdc_run::{refuse, report_end};
 use lvdc_save::LONGEST_SAVED;
 use lvdc_word::NoMemory;
 use std::alloc::Global;
@@ -43,7 +44,7 @@ fn save_deck(
     } = run_times(alloc, times, deck, devices)?;
     match machine.ended() {
         None => reply_saved(alloc, &machine, kept, count, orders, devices),
-        Some(end) => report_end(alloc, &machine, end),
+        Some(end) => report_end(alloc, &machine, Mode::Guarded, end),
     }
 }
 

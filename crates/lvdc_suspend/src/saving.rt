@@ -1,31 +1,24 @@
-//! The replies of a machine that has stopped: its saved text between two instruction times, and its report after its end.
+//! The reply of a machine that has stopped between two instruction times: its saved text.
 
-ghost use Rattle.std.specs.Prelude.{◌≡◌, ◌%◌, ℕ, List, map, None, IfOk};
+ghost use Rattle.std.specs.Prelude.{◌≡◌, ◌%◌, List, map, None, IfOk};
 ghost use Rattle.lvdc_port.specs.Device.{Device};
 ghost use Rattle.lvdc_model.specs.Trial.{Trial};
 ghost use Rattle.lvdc_model.specs.Voted.{Voted};
 ghost use Rattle.lvdc_machine.specs.Shows.{Shows};
 ghost use Rattle.lvdc_machine.specs.Snapshot.{IsWhole, Means};
-ghost use Rattle.lvdc_machine.specs.Stands.{Stands, state_by};
-ghost use Rattle.lvdc_machine.specs.View.{answer_of_end};
 ghost use Rattle.lvdc_machine.specs.declared.mode.Mode.TheVariants as modes;
-ghost use Rattle.lvdc_report.specs.Voted.{voted_text};
-ghost use Rattle.lvdc_report.specs.declared.title.Title.TheVariants as titles;
-ghost use Rattle.lvdc_run.specs.Accounts.{end_status};
 ghost use Rattle.lvdc_save.specs.Saved.{saved_text};
+ghost use Rattle.lvdc_suspend.specs.Answers.{saved_by};
 ghost use Rattle.lvdc_suspend.specs.Halves.{IsTaken};
 ghost use Rattle.lvdc_suspend.specs.Snapshots.{snapshot_of};
-ghost use Rattle.lvdc_suspend.specs.States.{states_of};
 
 use crate::kept::Kept;
 use crate::places::stand_at_addresses;
 use crate::states::states_of;
-use lvdc_machine::{Machine, Mode, Outcome, Snapshot};
+use lvdc_machine::{Machine, Snapshot};
 use lvdc_orders::Orders;
 use lvdc_port::PortDevice;
 use lvdc_reply::Reply;
-use lvdc_report::report_run;
-use lvdc_run::end_status;
 use lvdc_save::{Saved, print_saved};
 use lvdc_word::{NoMemory, Seq};
 use std::alloc::Global;
@@ -57,23 +50,9 @@ fn save_machine(
     requires going { machine.now.end ≡ None }
     requires times { machine.now.steps % 3 ≡ 0 }
     ensures text { IfOk result (λ text. (o : Trial) (v : Voted) → Shows o machine.now (map device_of devices.now) v
-        → text.items ≡ saved_text (record {
-          snapshot = snapshot_of o.opening.banks v;
-          count = count;
-          states = states_of v.devices;
-          unplugs = kept.unplugs;
-          script = kept.script;
-          orders = orders;
-        })) }
+        → text.items ≡ saved_text (saved_by o.opening.banks v count kept.unplugs kept.script orders)) }
     ensures taken { IfOk result (λ _. (o : Trial) (v : Voted) → Shows o machine.now (map device_of devices.now) v
-        → IsTaken (record {
-          snapshot = snapshot_of o.opening.banks v;
-          count = count;
-          states = states_of v.devices;
-          unplugs = kept.unplugs;
-          script = kept.script;
-          orders = orders;
-        }) v) }
+        → IsTaken (saved_by o.opening.banks v count kept.unplugs kept.script orders) v) }
 {
     let states = states_of(alloc, devices)?;
     let saved = Saved {
@@ -101,43 +80,13 @@ pub(crate) fn reply_saved(
     requires times { machine.now.steps % 3 ≡ 0 }
     ensures status { IfOk result (λ reply. reply.status ≡ 0) }
     ensures text { IfOk result (λ reply. (o : Trial) (v : Voted) → Shows o machine.now (map device_of devices.now) v
-        → reply.text ≡ saved_text (record {
-          snapshot = snapshot_of o.opening.banks v;
-          count = count;
-          states = states_of v.devices;
-          unplugs = kept.unplugs;
-          script = kept.script;
-          orders = orders;
-        })) }
+        → reply.text ≡ saved_text (saved_by o.opening.banks v count kept.unplugs kept.script orders)) }
     ensures taken { IfOk result (λ _. (o : Trial) (v : Voted) → Shows o machine.now (map device_of devices.now) v
-        → IsTaken (record {
-          snapshot = snapshot_of o.opening.banks v;
-          count = count;
-          states = states_of v.devices;
-          unplugs = kept.unplugs;
-          script = kept.script;
-          orders = orders;
-        }) v) }
+        → IsTaken (saved_by o.opening.banks v count kept.unplugs kept.script orders) v) }
 {
     let text = save_machine(alloc, machine, kept, count, orders, devices)?;
     Ok(Reply {
         status: 0,
-        text: Seq::from_vec(text),
-    })
-}
-
-/// The reply of a machine that has ended: its status and its report.
-pub(crate) fn report_end(alloc: Global, machine: &Machine, end: Outcome) -> Result<Reply, NoMemory>
-    requires guarded { machine.now.mode ≡ modes.Guarded }
-    requires end { end ≡ answer_of_end machine.now.end }
-    ensures status { IfOk result (λ reply. reply.status ≡ end_status end) }
-    ensures text { IfOk result (λ reply. (o : Trial) (t : ℕ) (ds : List Device) → Stands o t machine.now ds
-        → reply.text ≡ voted_text titles.Run o (state_by machine.now.end machine.now.mode o t)) }
-{
-    let status = end_status(&end);
-    let text = report_run(alloc, machine, Mode::Guarded, end)?;
-    Ok(Reply {
-        status,
         text: Seq::from_vec(text),
     })
 }

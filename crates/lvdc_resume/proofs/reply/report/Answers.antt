@@ -1,4 +1,5 @@
 use Rattle.std.proofs.Common.{◌+◌, ◌<◌, List, ℕ, length, sym, ap, subst, ◌∙◌}
+use Rattle.std.proofs.lemmas.Result.{IfOk-weaker}
 use Rattle.lvdc_machine.specs.Resumed.{state_from}
 use Rattle.lvdc_machine.specs.declared.mode.Mode.{Mode}
 use Rattle.lvdc_report.specs.Voted.{voted_text}
@@ -8,11 +9,16 @@ use Rattle.lvdc_resume.specs.Room.{noted_size}
 use Rattle.lvdc_resume.proofs.reply.report.Goals as goal
 
 pub returns-clause-text : goal.returns-clause-text
-returns-clause-text c = λ o first n ds stands.
-    c.from_vec.ensures ∙ c.in_ok-text.ensures.resumed o first n ds stands
-    ∙ ap (λ (k : Mode). voted_text Run o (state_from c.args.finished.now.machine.end k o first n)) c.requires.mode
+returns-clause-text c =
+    IfOk-weaker c.report_end.result _ _
+    (λ reply text o first n ds stands.
+    text o first n ds stands ∙ ap (λ (k : Mode). voted_text Run o (state_from c.args.finished.now.machine.end k o first n)) c.requires.mode)
+    c.report_end.ensures.resumed
 
 pub returns-clause-short : goal.returns-clause-short
-returns-clause-short c = λ o first n ds stands below.
-    subst (λ (text : List ℕ). length text < LONGEST_REPORT + noted_size first.log first.repairs) (sym (returns-clause-text c o first n ds stands))
-    (c.report_is_short.ensures o first n ds stands below)
+returns-clause-short c =
+    IfOk-weaker c.report_end.result _ _
+    (λ reply text o first n ds stands below.
+    subst (λ (text : List ℕ). length text < LONGEST_REPORT + noted_size first.log first.repairs) (sym (text o first n ds stands))
+    (c.report_is_short.ensures o first n ds stands below))
+    (returns-clause-text c)

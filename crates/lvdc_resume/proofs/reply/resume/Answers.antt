@@ -3,10 +3,9 @@ use Rattle.std.proofs.lemmas.Result.{IfOk-weaker}
 use Rattle.lvdc_model.specs.Runs.{guarded}
 use Rattle.lvdc_run.specs.Accounts.{end_status}
 use Rattle.lvdc_resume.specs.Runs.{steps_left}
-use Rattle.lvdc_reply.proofs.Statuses.{on_err}
+use Rattle.lvdc_reply.proofs.Statuses.{on_err, if_ok_both}
 use Rattle.lvdc_resume.proofs.Resumed.{run-resumed, run-stands, run-unreported, failed-resumed, refused-unreported}
 use Rattle.lvdc_resume.proofs.Onward.{onward}
-use Rattle.lvdc_resume.proofs.Went.{if_ok_both}
 use Rattle.lvdc_resume.proofs.reply.resume.Goals as goal
 
 pub returns-in-Ok-clause-run : goal.returns-in-Ok-clause-run

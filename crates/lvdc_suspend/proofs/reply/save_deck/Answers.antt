@@ -1,9 +1,9 @@
 use Rattle.std.proofs.Common.{ℕ, map, refl, sym, subst, ◌∙◌}
 use Rattle.std.proofs.lemmas.Result.{IfOk-weaker}
 use Rattle.lvdc_reply.specs.Answer.{answer_with}
-use Rattle.lvdc_reply.proofs.Statuses.{on_err}
+use Rattle.lvdc_reply.proofs.Statuses.{on_err, if_ok_both}
 use Rattle.lvdc_suspend.specs.Replies.{IsStop}
-use Rattle.lvdc_suspend.proofs.Halved.{saved_run, ended_run, if_ok_both}
+use Rattle.lvdc_suspend.proofs.Halved.{saved_run, ended_run}
 use Rattle.lvdc_suspend.proofs.Stops.{saved_from, reported_due, unwritten}
 use Rattle.lvdc_suspend.proofs.reply.save_deck.Goals as goal
 
