@@ -12,7 +12,7 @@ use Rattle.lvdc_plain.specs.declared.records.Exchange.{Exchange}
 use Rattle.lvdc_plain.specs.declared.records.Stop.{Stop}
 use Rattle.lvdc_plain.specs.declared.records.Stop.TheVariants.{Shift, Exm, Memory}
 use Rattle.lvdc_plain.specs.declared.records.Visible.{Visible}
-use Rattle.lvdc_laws.specs.Ends.{stop_end}
+use Rattle.lvdc_laws_voted.specs.Ends.{stop_end}
 use Rattle.lvdc_campaign.specs.Same.{is_same_bit, is_same_constant, are_same_registers, is_same_exchange, is_same_log, is_same_stop, end_by, is_same_end, is_same_word, are_same_below}
 
 number-self : (n : ℕ) → (n == n) ≡ true

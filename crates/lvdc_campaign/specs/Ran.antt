@@ -10,7 +10,7 @@ use Rattle.lvdc_fault.specs.declared.verdict.Verdict.TheVariants.{Admissible}
 use Rattle.lvdc_model.specs.Trial.{Trial}
 use Rattle.lvdc_model.specs.declared.outcome.Outcome.{Outcome}
 use Rattle.lvdc_model.specs.declared.outcome.Outcome.TheVariants.{Done, Stopped, Inadmissible, Device}
-use Rattle.lvdc_laws.specs.Ends.{IsOpening}
+use Rattle.lvdc_laws_voted.specs.Ends.{IsOpening}
 use Rattle.lvdc_machine.specs.declared.mode.Mode.{Mode}
 use Rattle.lvdc_machine.specs.Stands.{Stands}
 use Rattle.lvdc_machine.specs.View.{View}

@@ -1,6 +1,6 @@
 ghost use Rattle.std.specs.Prelude.{◌≡◌, ℕ, true};
 ghost use Rattle.lvdc_fault.specs.declared.verdict.Verdict.TheVariants.{Admissible};
-ghost use Rattle.lvdc_laws.specs.Ends.{IsOpening};
+ghost use Rattle.lvdc_laws_voted.specs.Ends.{IsOpening};
 ghost use Rattle.lvdc_model.specs.Judging.{first_bad};
 ghost use Rattle.lvdc_model.specs.Trial.{Trial};
 ghost use Rattle.lvdc_campaign.specs.Campaign.{is_same};
@@ -10,7 +10,7 @@ ghost use Rattle.lvdc_campaign.specs.Campaign.{is_same};
 pub fn admissible_is_same()
     ensures { (o : Trial) (times : ℕ) → IsOpening o.opening → first_bad o times ≡ Admissible → is_same o times ≡ true }
 {
-    lvdc_laws::guarded_run();
-    lvdc_laws::guarded_times();
-    lvdc_laws::guarded_ends();
+    lvdc_laws_voted::guarded_run();
+    lvdc_laws_voted::guarded_times();
+    lvdc_laws_voted::guarded_ends();
 }

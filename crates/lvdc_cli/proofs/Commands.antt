@@ -11,38 +11,38 @@ use Rattle.lvdc_reply.specs.declared.reply.Reply.{Reply}
 use Rattle.lvdc_reply.specs.Replies.{IsUnfailed, IsReply, answered}
 use Rattle.lvdc_asm.specs.Assembly.{Assembled}
 use Rattle.lvdc_asm.specs.declared.fault.AsmFault.{AsmFault}
-use Rattle.lvdc_assemble.specs.Answers as source
+use Rattle.lvdc_command_asm.specs.Answers as source
 use Rattle.lvdc_campaign_deck.specs.Campaign.{campaign_of}
 use Rattle.lvdc_campaign_deck.specs.declared.deck.CampaignDeck.{CampaignDeck}
 use Rattle.lvdc_campaign_deck.specs.declared.fault.CampaignFault.{CampaignFault}
 use Rattle.lvdc_campaign_deck.specs.declared.fault.CampaignFault.TheVariants as campaign
 use Rattle.lvdc_deck.specs.declared.fault.DeckFault.{DeckFault}
-use Rattle.lvdc_run.specs.Refusals as refusals
-use Rattle.lvdc_study.specs.Answers as study
+use Rattle.lvdc_command_run.specs.Refusals as refusals
+use Rattle.lvdc_command_campaign.specs.Answers as study
 use Rattle.lvdc_macro.specs.Expansion.{Written, bytes_of}
 use Rattle.lvdc_macro.specs.declared.fault.MacroFault.{MacroFault}
-use Rattle.lvdc_expand.specs.Answers as expand
-use Rattle.lvdc_expand.specs.declared.reply.Form.{Form}
-use Rattle.lvdc_expand.specs.declared.reply.Form.TheVariants as form
-use Rattle.lvdc_patch.specs.Answers as patch
-use Rattle.lvdc_patch.specs.Faults.{refusal_status}
-use Rattle.lvdc_patch.specs.Input.{Request, request_of}
-use Rattle.lvdc_patch.specs.declared.fault.PatchFault.{PatchFault}
-use Rattle.lvdc_patch.specs.declared.fault.PatchFault.TheVariants.{NoProgram, BadSection, BadLine, Image as OfImage}
+use Rattle.lvdc_command_macro.specs.Answers as expand
+use Rattle.lvdc_command_macro.specs.declared.reply.Form.{Form}
+use Rattle.lvdc_command_macro.specs.declared.reply.Form.TheVariants as form
+use Rattle.lvdc_command_uplink.specs.Answers as patch
+use Rattle.lvdc_command_uplink.specs.Faults.{refusal_status}
+use Rattle.lvdc_command_uplink.specs.Input.{Request, request_of}
+use Rattle.lvdc_command_uplink.specs.declared.fault.PatchFault.{PatchFault}
+use Rattle.lvdc_command_uplink.specs.declared.fault.PatchFault.TheVariants.{NoProgram, BadSection, BadLine, Image as OfImage}
 use Rattle.lvdc_reply.proofs.Statuses.{refused-unfailed}
-use Rattle.lvdc_run.specs.declared.job.Engine.TheVariants.{Guarded}
-use Rattle.lvdc_run.specs.declared.job.Job.{Job}
-use Rattle.lvdc_run.specs.declared.job.Job.TheVariants as job
-use Rattle.lvdc_run.specs.Trials.{trial_of}
-use Rattle.lvdc_run.specs.Headline.{Headline}
-use Rattle.lvdc_run.proofs.Statuses.{refusal_is}
-use Rattle.lvdc_run.specs.Answers.{job_answer}
-use Rattle.lvdc_run.specs.Runs.{HasRunThat}
-use Rattle.lvdc_session.specs.Answers.{session_answer, HasSessionThat}
-use Rattle.lvdc_suspend.specs.Answers.{save_answer}
-use Rattle.lvdc_suspend.specs.Statuses.{HasSaveThat}
-use Rattle.lvdc_resume.specs.Answers.{resume_answer}
-use Rattle.lvdc_resume.specs.Statuses.{HasResumeThat}
+use Rattle.lvdc_command_run.specs.declared.job.Engine.TheVariants.{Guarded}
+use Rattle.lvdc_command_run.specs.declared.job.Job.{Job}
+use Rattle.lvdc_command_run.specs.declared.job.Job.TheVariants as job
+use Rattle.lvdc_command_run.specs.Trials.{trial_of}
+use Rattle.lvdc_command_run.specs.Headline.{Headline}
+use Rattle.lvdc_command_run.proofs.Statuses.{refusal_is}
+use Rattle.lvdc_command_run.specs.Answers.{job_answer}
+use Rattle.lvdc_command_run.specs.Runs.{HasRunThat}
+use Rattle.lvdc_command_debug.specs.Answers.{session_answer, HasSessionThat}
+use Rattle.lvdc_command_save.specs.Answers.{save_answer}
+use Rattle.lvdc_command_save.specs.Statuses.{HasSaveThat}
+use Rattle.lvdc_command_resume.specs.Answers.{resume_answer}
+use Rattle.lvdc_command_resume.specs.Statuses.{HasResumeThat}
 use Rattle.lvdc_cli.specs.declared.command.Command.{Command}
 use Rattle.lvdc_cli.specs.declared.command.Command.TheVariants.{Run, Soak, Assemble, Debug, Save, Resume, Campaign, Uplink, Expand}
 use Rattle.lvdc_cli.specs.Commands.{command_answer, FailsInCommand, RunsThat, IsReplyTo}

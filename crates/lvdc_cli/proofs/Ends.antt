@@ -9,8 +9,8 @@ use Rattle.lvdc_model.specs.Trial.{Trial}
 use Rattle.lvdc_model.specs.declared.outcome.Outcome.{Outcome}
 use Rattle.lvdc_reply.specs.Answer.{Answer, answer_with}
 use Rattle.lvdc_reply.specs.Replies.{Quiet}
-use Rattle.lvdc_run.specs.declared.job.Engine.TheVariants.{Guarded}
-use Rattle.lvdc_run.specs.declared.job.Job.{Job}
+use Rattle.lvdc_command_run.specs.declared.job.Engine.TheVariants.{Guarded}
+use Rattle.lvdc_command_run.specs.declared.job.Job.{Job}
 use Rattle.lvdc_cli.specs.declared.command.Command.{Command}
 use Rattle.lvdc_cli.specs.declared.command.Command.TheVariants.{Run}
 use Rattle.lvdc_cli.specs.Words.{command_of, reads, limit_for}

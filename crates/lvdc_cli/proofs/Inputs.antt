@@ -9,7 +9,7 @@ use Rattle.lvdc_port.specs.Device.{Device}
 use Rattle.lvdc_model.specs.Trial.{Trial}
 use Rattle.lvdc_model.specs.declared.outcome.Outcome.{Outcome}
 use Rattle.lvdc_reply.specs.Answer.{Answer}
-use Rattle.lvdc_run.specs.declared.job.Job.{Job}
+use Rattle.lvdc_command_run.specs.declared.job.Job.{Job}
 use Rattle.lvdc_cli.specs.declared.command.Command.{Command}
 use Rattle.lvdc_cli.specs.Words.{reads, reads_for, limit_of, limit_for}
 use Rattle.lvdc_cli.specs.Commands.{command_answer, input_of, too_long_answer, answer_by, Has}

@@ -7,26 +7,26 @@ use Rattle.lvdc_model.specs.Trial.{Trial}
 use Rattle.lvdc_model.specs.declared.outcome.Outcome.{Outcome}
 use Rattle.lvdc_reply.specs.Answer.{Answer, answer_with}
 use Rattle.lvdc_reply.specs.Replies.{IsReply}
-use Rattle.lvdc_run.specs.declared.job.Engine.TheVariants.{Guarded}
-use Rattle.lvdc_run.specs.declared.job.Job.{Job}
-use Rattle.lvdc_run.specs.declared.job.Job.TheVariants as job
-use Rattle.lvdc_run.specs.Answers.{job_answer}
-use Rattle.lvdc_run.specs.Runs.{HasRunThat}
-use Rattle.lvdc_run.specs.Replies.{FailsInRun, IsUnanswered}
-use Rattle.lvdc_assemble.specs.Answers.{source_answer}
-use Rattle.lvdc_study.specs.Answers.{study_answer, AdmissibleAreSame}
-use Rattle.lvdc_patch.specs.Answers.{uplink_answer}
-use Rattle.lvdc_expand.specs.Answers.{macro_answer}
-use Rattle.lvdc_session.specs.Answers.{session_answer, HasSessionThat}
-use Rattle.lvdc_session.specs.Replies.{FailsInSession, IsUnanswered as IsSessionUnanswered}
-use Rattle.lvdc_suspend.specs.Answers.{save_answer}
-use Rattle.lvdc_suspend.specs.Replies.{FailsInSave, IsUnanswered as IsUnsaved}
-use Rattle.lvdc_suspend.specs.Statuses.{HasSaveThat}
-use Rattle.lvdc_suspend.specs.Halves.{IsSaveOf}
-use Rattle.lvdc_resume.specs.Answers.{resume_answer}
-use Rattle.lvdc_resume.specs.Replies.{FailsInResume, IsUnresumed}
-use Rattle.lvdc_resume.specs.Statuses.{HasResumeThat}
-use Rattle.lvdc_halves.specs.Alike.{AreAlike}
+use Rattle.lvdc_command_run.specs.declared.job.Engine.TheVariants.{Guarded}
+use Rattle.lvdc_command_run.specs.declared.job.Job.{Job}
+use Rattle.lvdc_command_run.specs.declared.job.Job.TheVariants as job
+use Rattle.lvdc_command_run.specs.Answers.{job_answer}
+use Rattle.lvdc_command_run.specs.Runs.{HasRunThat}
+use Rattle.lvdc_command_run.specs.Replies.{FailsInRun, IsUnanswered}
+use Rattle.lvdc_command_asm.specs.Answers.{source_answer}
+use Rattle.lvdc_command_campaign.specs.Answers.{study_answer, AdmissibleAreSame}
+use Rattle.lvdc_command_uplink.specs.Answers.{uplink_answer}
+use Rattle.lvdc_command_macro.specs.Answers.{macro_answer}
+use Rattle.lvdc_command_debug.specs.Answers.{session_answer, HasSessionThat}
+use Rattle.lvdc_command_debug.specs.Replies.{FailsInSession, IsUnanswered as IsSessionUnanswered}
+use Rattle.lvdc_command_save.specs.Answers.{save_answer}
+use Rattle.lvdc_command_save.specs.Replies.{FailsInSave, IsUnanswered as IsUnsaved}
+use Rattle.lvdc_command_save.specs.Statuses.{HasSaveThat}
+use Rattle.lvdc_command_save.specs.Halves.{IsSaveOf}
+use Rattle.lvdc_command_resume.specs.Answers.{resume_answer}
+use Rattle.lvdc_command_resume.specs.Replies.{FailsInResume, IsUnresumed}
+use Rattle.lvdc_command_resume.specs.Statuses.{HasResumeThat}
+use Rattle.lvdc_laws_halves.specs.Alike.{AreAlike}
 use Rattle.lvdc_cli.specs.declared.TheConstants.{ROOM, SESSION_ROOM, SAVED_ROOM, RESUMED_ROOM}
 use Rattle.lvdc_cli.specs.declared.command.Command.{Command}
 use Rattle.lvdc_cli.specs.declared.command.Command.TheVariants.{Run, Soak, Assemble, Debug, Save, Resume, Campaign, Uplink, Expand}

@@ -11,9 +11,9 @@ use Rattle.lvdc_deck.specs.Deck.{deck_of}
 use Rattle.lvdc_deck.specs.declared.deck.Deck.{Deck}
 use Rattle.lvdc_reply.specs.Answer.{Answer, answer_with}
 use Rattle.lvdc_reply.specs.Replies.{RoseAt, OthersQuiet}
-use Rattle.lvdc_run.specs.Trials.{trial_of}
-use Rattle.lvdc_run.specs.Headline.{Headline}
-use Rattle.lvdc_run.specs.declared.job.Engine.TheVariants.{Guarded}
+use Rattle.lvdc_command_run.specs.Trials.{trial_of}
+use Rattle.lvdc_command_run.specs.Headline.{Headline}
+use Rattle.lvdc_command_run.specs.declared.job.Engine.TheVariants.{Guarded}
 use Rattle.lvdc_cli.specs.declared.command.Command.{Command}
 use Rattle.lvdc_cli.specs.declared.command.Command.TheVariants.{Run}
 use Rattle.lvdc_cli.specs.Words.{command_of, reads, reads_for, limit_of, limit_for}

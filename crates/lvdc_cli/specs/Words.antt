@@ -5,9 +5,9 @@ use Rattle.std.specs.Str.{bytes_eq}
 use Rattle.std.specs.declared.option.Option.{Option}
 use Rattle.std.specs.declared.option.Option.TheVariants.{None, Some}
 use Rattle.lvdc_text.specs.Numbers.{number_of, below}
-use Rattle.lvdc_run.specs.declared.job.Engine.TheVariants.{Guarded, Through, Plain}
-use Rattle.lvdc_assemble.specs.declared.reply.Product.TheVariants.{Image, Listing}
-use Rattle.lvdc_expand.specs.declared.reply.Form.TheVariants as form
+use Rattle.lvdc_command_run.specs.declared.job.Engine.TheVariants.{Guarded, Through, Plain}
+use Rattle.lvdc_command_asm.specs.declared.reply.Product.TheVariants.{Image, Listing}
+use Rattle.lvdc_command_macro.specs.declared.reply.Form.TheVariants as form
 use Rattle.lvdc_cli.specs.declared.TheConstants.{LIMIT, SAVED_LIMIT}
 use Rattle.lvdc_cli.specs.declared.command.Command.{Command}
 use Rattle.lvdc_cli.specs.declared.command.Command.TheVariants.{Run, Soak, Assemble, Debug, Save, Resume, Campaign, Uplink, Expand}

@@ -5,9 +5,9 @@ ghost use Rattle.lvdc_text.specs.Room.{HasRoom};
 ghost use Rattle.lvdc_text.specs.Transfer.{TookCount, TookAtMost};
 ghost use Rattle.lvdc_port.specs.Devices.{AreDistinct};
 ghost use Rattle.lvdc_reply.specs.Replies.{Quiet};
-ghost use Rattle.lvdc_run.specs.declared.job.Engine.TheVariants.{Guarded};
-ghost use Rattle.lvdc_run.specs.Runs.{Judges, Stops, IsStop};
-ghost use Rattle.lvdc_resume.specs.Statuses.{IsInadmissible};
+ghost use Rattle.lvdc_command_run.specs.declared.job.Engine.TheVariants.{Guarded};
+ghost use Rattle.lvdc_command_run.specs.Runs.{Judges, Stops, IsStop};
+ghost use Rattle.lvdc_command_resume.specs.Statuses.{IsInadmissible};
 ghost use Rattle.lvdc_cli.specs.declared.command.Command.TheVariants.{Run};
 ghost use Rattle.lvdc_cli.specs.Words.{texts, command_of, reads, limit_for};
 ghost use Rattle.lvdc_cli.specs.Texts.{usage_text, read_fault_text, too_long_text};
@@ -16,11 +16,11 @@ ghost use Rattle.lvdc_cli.specs.Outside.{sink_state, outside_of};
 ghost use Rattle.lvdc_cli.specs.Top.{IsInput, IsAbandoned, IsEnd, IsTold, IsReplied, CarriesHeadline, IsCut, HasFailed, IsUnhindered, IsOfReply, IsRefusal};
 
 use crate::due::due_of;
+use lvdc_command_debug::session_statuses;
+use lvdc_command_resume::resume_statuses;
+use lvdc_command_run::{headline_told, statuses_caused};
+use lvdc_command_save::save_statuses;
 use lvdc_port::PortDevice;
-use lvdc_resume::resume_statuses;
-use lvdc_run::{headline_told, statuses_caused};
-use lvdc_session::session_statuses;
-use lvdc_suspend::save_statuses;
 use lvdc_text::{Sink, Source, write_all};
 use std::alloc::Global;
 

@@ -2,9 +2,9 @@ ghost use Rattle.std.specs.Prelude.{◌≡◌, string_bytes};
 ghost use Rattle.lvdc_cli.specs.Words.{texts, flagged, product_of, form_of, soak_number, times_of, of_one, of_two, command_of, reads_for, limit_of};
 
 use crate::{LIMIT, SAVED_LIMIT};
-use lvdc_assemble::Product;
-use lvdc_expand::Form;
-use lvdc_run::Engine;
+use lvdc_command_asm::Product;
+use lvdc_command_macro::Form;
+use lvdc_command_run::Engine;
 use lvdc_text::decimal;
 
 /// What is asked for.

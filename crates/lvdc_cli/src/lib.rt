@@ -19,7 +19,7 @@ use lvdc_save::LONGEST_SAVED;
 pub const LIMIT: usize = 1_048_576;
 
 /// A saved text that is resumed has at most so many.
-pub const SAVED_LIMIT: usize = lvdc_resume::LIMIT;
+pub const SAVED_LIMIT: usize = lvdc_command_resume::LIMIT;
 
 /// A sink that tells its room has room for so many bytes, but for three commands: no other text is longer than the longest report.
 pub const ROOM: usize = LONGEST_REPORT;
@@ -31,4 +31,4 @@ pub const SESSION_ROOM: usize = LONGEST_SESSION;
 pub const SAVED_ROOM: usize = LONGEST_SAVED;
 
 /// The same where a saved run goes on: its report has the log and the repairs of both halves.
-pub const RESUMED_ROOM: usize = lvdc_resume::ROOM;
+pub const RESUMED_ROOM: usize = lvdc_command_resume::ROOM;

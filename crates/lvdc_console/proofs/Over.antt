@@ -8,8 +8,8 @@ use Rattle.lvdc_deck.specs.Deck.{deck_of}
 use Rattle.lvdc_deck.specs.declared.deck.Deck.{Deck}
 use Rattle.lvdc_reply.specs.Answer.{Answer, answer_with}
 use Rattle.lvdc_reply.specs.Replies.{answered, failed}
-use Rattle.lvdc_run.specs.Headline.{Headline}
-use Rattle.lvdc_run.specs.Trials.{trial_of}
+use Rattle.lvdc_command_run.specs.Headline.{Headline}
+use Rattle.lvdc_command_run.specs.Trials.{trial_of}
 use Rattle.lvdc_cli.specs.declared.command.Command.{Command}
 use Rattle.lvdc_cli.specs.Commands.{IsReplyTo, answer}
 use Rattle.lvdc_cli.specs.Outside.{SourceState, SinkState, Outside, outside}

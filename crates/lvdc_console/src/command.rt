@@ -1,8 +1,8 @@
 ghost use Rattle.std.specs.Prelude.{◌≡◌, ◌≢◌, List, ℕ, Some, IfOk, OnErr};
 ghost use Rattle.std.specs.Io.KnownBytes.{Appends};
 ghost use Rattle.lvdc_text.specs.Room.{HasRoom};
-ghost use Rattle.lvdc_rack.specs.Rack.{rack};
-ghost use Rattle.lvdc_run.specs.declared.job.Engine.TheVariants.{Guarded};
+ghost use Rattle.lvdc_console.specs.Rack.{rack};
+ghost use Rattle.lvdc_command_run.specs.declared.job.Engine.TheVariants.{Guarded};
 ghost use Rattle.lvdc_cli.specs.declared.command.Command.TheVariants.{Run};
 ghost use Rattle.lvdc_cli.specs.Words.{texts, command_of};
 ghost use Rattle.lvdc_cli.specs.Commands.{answer, room_for};
@@ -11,8 +11,8 @@ ghost use Rattle.lvdc_cli.specs.Top.{IsInput, IsUnhindered};
 ghost use Rattle.lvdc_console.specs.Over.{IsAnswerOver, CarriesHeadlineOver};
 
 use crate::devices::{four_tapes, other_devices, plug_in_four};
+use crate::rack::is_whole;
 use lvdc_cli::lvdc;
-use lvdc_rack::is_whole;
 use lvdc_text::{Sink, Source};
 use lvdc_word::NoMemory;
 use std::alloc::Global;

@@ -1,13 +1,13 @@
 ghost use Rattle.std.specs.Prelude.{◌≡◌, ◌+◌, ◌≤◌, vec_len, vec_capacity, IfOk};
-ghost use Rattle.lvdc_rack.specs.Rack.{tape_at, latch_at, ticker_at, recorder_at, device_at, IsFilled};
+ghost use Rattle.lvdc_console.specs.Rack.{tape_at, latch_at, ticker_at, recorder_at, device_at, IsFilled};
 
+use crate::rack::{latch, plug_in, recorder, tape, ticker};
 use lvdc_port::{Latch, PortDevice, Recorder, Tape, Ticker};
-use lvdc_rack::{latch, plug_in, recorder, tape, ticker};
 use lvdc_word::NoMemory;
 use std::alloc::Global;
 
 /// Four tapes without words, one for this port and one for each of the next three.
-pub fn four_tapes(
+pub(crate) fn four_tapes(
     alloc: Global,
     port: u8,
 ) -> Result<(Box<Tape>, Box<Tape>, Box<Tape>, Box<Tape>), NoMemory>
@@ -27,7 +27,7 @@ pub fn four_tapes(
 
 /// The devices that are no tapes: latches for ports 014 and 015, a ticker for 016 and a recorder for 017, each as it is
 /// before a run.
-pub fn other_devices(
+pub(crate) fn other_devices(
     alloc: Global,
 ) -> Result<(Box<Latch>, Box<Latch>, Box<Ticker>, Box<Recorder>), NoMemory>
     ensures { IfOk result (λ made. (⟦<Latch as PortDevice>⟧.device_of made.0.value ≡ latch_at 0o14)
@@ -44,7 +44,7 @@ pub fn other_devices(
 }
 
 /// Puts four devices, the first at this port, behind those at the ports below it, in a list that has room for sixteen.
-pub fn plug_in_four(
+pub(crate) fn plug_in_four(
     devices: &mut Vec<Box<dyn PortDevice>>,
     port: u8,
     first: Box<dyn PortDevice>,

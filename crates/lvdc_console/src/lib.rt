@@ -3,5 +3,6 @@
 
 mod command;
 mod devices;
+mod rack;
 
 pub use command::run;

@@ -3,13 +3,13 @@
 ghost use Rattle.std.specs.Prelude.{◌≡◌, ℕ, ◌+◌, ◌-◌, ◌*◌, ◌≤◌, min, nat_le, List, map};
 ghost use Rattle.lvdc_port.specs.Device as device;
 ghost use Rattle.lvdc_model.specs.Trial.{Trial};
-ghost use Rattle.lvdc_laws.specs.Ends.{IsOpening};
+ghost use Rattle.lvdc_laws_voted.specs.Ends.{IsOpening};
 ghost use Rattle.lvdc_machine.specs.Stands.{Stands, state_by};
 ghost use Rattle.lvdc_debug.specs.Session.{Subject, at_start, place_of, rests, left, after_command, does_all};
 ghost use Rattle.lvdc_debug.specs.Standing.{IsReady, Moves, IsSubject};
 
 use crate::{Breaks, Command, Spot2};
-use lvdc_laws::judges_alone;
+use lvdc_laws_voted::judges_alone;
 use lvdc_machine::{Machine, Orders};
 use lvdc_port::PortDevice;
 

@@ -4,7 +4,7 @@ ghost use Rattle.std.specs.Prelude.{◌≡◌, ◌+◌, ◌*◌, ◌-◌, ◌^�
 ghost use Rattle.lvdc_port.specs.Devices.{HasSpare, AreDistinct, count_at};
 ghost use Rattle.lvdc_text.specs.Lines.{IsWithin};
 ghost use Rattle.lvdc_model.specs.Trial.{Trial};
-ghost use Rattle.lvdc_laws.specs.Ends.{IsOpening};
+ghost use Rattle.lvdc_laws_voted.specs.Ends.{IsOpening};
 ghost use Rattle.lvdc_machine.specs.Room.{exchanges_left};
 ghost use Rattle.lvdc_machine.specs.Stands.{Stands};
 ghost use Rattle.lvdc_machine.specs.declared.mode.Mode.TheVariants.{Guarded};
@@ -15,7 +15,7 @@ use crate::course::Course;
 use crate::echo::put_echo;
 use crate::parse::parse_command;
 use crate::texts::put_answer;
-use lvdc_laws::judges_alone;
+use lvdc_laws_voted::judges_alone;
 use lvdc_machine::{Machine, Orders};
 use lvdc_port::PortDevice;
 use lvdc_text::{Line, part};

@@ -7,7 +7,7 @@ use Rattle.lvdc_plain.specs.View.{ByInstruction}
 use Rattle.lvdc_plain.specs.declared.records.Stop.{Stop}
 use Rattle.lvdc_fault.specs.declared.verdict.Verdict.{Verdict}
 use Rattle.lvdc_fault.specs.declared.verdict.Verdict.TheVariants.{Admissible}
-use Rattle.lvdc_phases.specs.Standing.{Standing}
+use Rattle.lvdc_laws_phases.specs.Standing.{Standing}
 use Rattle.lvdc_model.specs.declared.outcome.Outcome.{Outcome}
 use Rattle.lvdc_model.specs.declared.outcome.Outcome.TheVariants.{Done, Stopped, Inadmissible, Device}
 use Rattle.lvdc_model.specs.Exchanges.{begin_step, with_end}
@@ -15,8 +15,8 @@ use Rattle.lvdc_model.specs.Judging.{first_bad, first_bad_below}
 use Rattle.lvdc_model.specs.Runs.{guarded, alone, own_verdict}
 use Rattle.lvdc_model.specs.Trial.{Trial}
 use Rattle.lvdc_model.specs.Voted.{Voted}
-use Rattle.lvdc_laws.specs.Ends.{ShowsTimes, IsBegun, EndsAt, Comes, Good, Bad}
-use Rattle.lvdc_laws.specs.Relation.{Kept, Goes, Halts}
+use Rattle.lvdc_laws_voted.specs.Ends.{ShowsTimes, IsBegun, EndsAt, Comes, Good, Bad}
+use Rattle.lvdc_laws_voted.specs.Relation.{Kept, Goes, Halts}
 use Rattle.lvdc_machine.specs.declared.mode.Mode.{Mode}
 use Rattle.lvdc_machine.specs.declared.mode.Mode.TheVariants.{Guarded}
 use Rattle.lvdc_machine.specs.Guarded.{IsPlain, IsRefused, GuardedBy}

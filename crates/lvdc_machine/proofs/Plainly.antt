@@ -5,7 +5,7 @@ use Rattle.std.specs.declared.option.Option.TheVariants.{None, Some}
 use Rattle.lvdc_map.specs.Address.{Spot}
 use Rattle.lvdc_map.specs.Memory.{word_at}
 use Rattle.lvdc_fault.specs.declared.verdict.Verdict.TheVariants.{Admissible}
-use Rattle.lvdc_phases.specs.Standing.{Standing}
+use Rattle.lvdc_laws_phases.specs.Standing.{Standing}
 use Rattle.lvdc_model.specs.declared.outcome.Outcome.{Outcome}
 use Rattle.lvdc_model.specs.declared.outcome.Outcome.TheVariants.{Done, Stopped, Inadmissible, Device}
 use Rattle.lvdc_model.specs.Exchanges.{begin_step, with_end}
@@ -14,8 +14,8 @@ use Rattle.lvdc_model.specs.Known.{last_begun, is_known}
 use Rattle.lvdc_model.specs.Runs.{guarded, alone}
 use Rattle.lvdc_model.specs.Trial.{Trial, plain_at, plain_in}
 use Rattle.lvdc_model.specs.Voted.{Voted}
-use Rattle.lvdc_laws.specs.Ends.{stop_end, IsBegun, Comes, Good, Bad}
-use Rattle.lvdc_laws.specs.Relation.{Goes, Halts}
+use Rattle.lvdc_laws_voted.specs.Ends.{stop_end, IsBegun, Comes, Good, Bad}
+use Rattle.lvdc_laws_voted.specs.Relation.{Goes, Halts}
 use Rattle.lvdc_machine.specs.declared.mode.Mode.{Mode}
 use Rattle.lvdc_machine.specs.declared.mode.Mode.TheVariants.{Guarded}
 use Rattle.lvdc_machine.specs.Guarded.{IsPlain, GuardedBy, IsUnhurt, UnhurtBy, is_recoverable_by}

@@ -14,7 +14,7 @@ use Rattle.lvdc_model.specs.Judging.{is_recoverable, is_recoverable_after, first
 use Rattle.lvdc_model.specs.Runs.{guarded}
 use Rattle.lvdc_model.specs.Trial.{Trial, plain_at, plain_in}
 use Rattle.lvdc_model.specs.Voted.{Voted}
-use Rattle.lvdc_laws.specs.Ends.{ShowsTimes, stop_end, IsBegun}
+use Rattle.lvdc_laws_voted.specs.Ends.{ShowsTimes, stop_end, IsBegun}
 
 -- no step was inadmissible, and after whole times the state shows the registers, the words, the log and the devices of the
 -- plain run, a stop's own time included

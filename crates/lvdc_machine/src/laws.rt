@@ -7,9 +7,9 @@ ghost use Rattle.lvdc_port.specs.Device as device;
 ghost use Rattle.lvdc_model.specs.Exchanges.{begin_step, wished};
 ghost use Rattle.lvdc_model.specs.Runs.{guarded};
 ghost use Rattle.lvdc_model.specs.Trial.{Trial, plain_in};
-ghost use Rattle.lvdc_phases.specs.Standing.{Standing};
-ghost use Rattle.lvdc_laws.specs.Ends.{IsOpening};
-ghost use Rattle.lvdc_laws.specs.Relation.{Kept};
+ghost use Rattle.lvdc_laws_phases.specs.Standing.{Standing};
+ghost use Rattle.lvdc_laws_voted.specs.Ends.{IsOpening};
+ghost use Rattle.lvdc_laws_voted.specs.Relation.{Kept};
 ghost use Rattle.lvdc_machine.specs.Guarded.{IsExchanged, GuardedBy, UnhurtBy, is_recoverable_by};
 ghost use Rattle.lvdc_machine.specs.Stands.{Stands, state_by, shown_by, shown_of};
 ghost use Rattle.lvdc_machine.specs.Steps.{NamesPort};
@@ -24,10 +24,10 @@ pub fn guarded_follows()
     ensures { (o : Trial) (n : ℕ) (m : View) (ds : List device.Device) → IsOpening o.opening → m.mode ≡ Guarded → Stands o n m ds
         → GuardedBy m.end o n (state_by m.end m.mode o n) }
 {
-    lvdc_laws::guarded_run();
-    lvdc_laws::judges_alone();
-    lvdc_laws::guarded_times();
-    lvdc_laws::step_begun();
+    lvdc_laws_voted::guarded_run();
+    lvdc_laws_voted::judges_alone();
+    lvdc_laws_voted::guarded_times();
+    lvdc_laws_voted::step_begun();
 }
 
 /// A law, which does nothing when it runs: as long as no end has come, a guarded machine that stands where its run is keeps the
@@ -37,8 +37,8 @@ pub fn guarded_keeps()
     ensures { (o : Trial) (n : ℕ) (m : View) (ds : List device.Device) → IsOpening o.opening → m.mode ≡ Guarded → m.end ≡ None
         → Stands o n m ds → Kept Standing o n (state_by m.end m.mode o n) }
 {
-    lvdc_laws::guarded_run();
-    lvdc_laws::judges_alone();
+    lvdc_laws_voted::guarded_run();
+    lvdc_laws_voted::judges_alone();
 }
 
 /// A law, which does nothing when it runs: where a guarded run goes on and wishes an exchange with a port, the plain run makes
@@ -47,8 +47,8 @@ pub fn failed_exchange()
     ensures { (o : Trial) → IsOpening o.opening → (n port : ℕ) → (guarded o n).end ≡ None
         → NamesPort (wished o (begin_step o (guarded o n))) port → IsExchanged o n port }
 {
-    lvdc_laws::guarded_run();
-    lvdc_laws::step_begun();
+    lvdc_laws_voted::guarded_run();
+    lvdc_laws_voted::step_begun();
 }
 
 /// A law, which does nothing when it runs: under a script without events a guarded machine that stands after whole times shows
@@ -58,9 +58,9 @@ pub fn unhurt_follows()
         → Stands o (3 * times) m ds → UnhurtBy m.end o times (state_by m.end m.mode o (3 * times)) }
 {
     guarded_follows();
-    lvdc_laws::judges_alone();
-    lvdc_laws::guarded_ends();
-    lvdc_laws::no_faults_no_verdict();
+    lvdc_laws_voted::judges_alone();
+    lvdc_laws_voted::guarded_ends();
+    lvdc_laws_voted::no_faults_no_verdict();
 }
 
 /// A law, which does nothing when it runs: what a guarded machine tells of a word is the plain run's word, exactly where that
@@ -72,9 +72,9 @@ pub fn guarded_words()
         ≡ shown_by (is_recoverable_by m.end o m.steps at) (word_at (plain_in o m.steps).memory at) }
 {
     guarded_follows();
-    lvdc_laws::guarded_run();
-    lvdc_laws::judges_alone();
-    lvdc_laws::words_known();
+    lvdc_laws_voted::guarded_run();
+    lvdc_laws_voted::judges_alone();
+    lvdc_laws_voted::words_known();
 }
 
 /// What is placed is a word, by its type. The call has no effect.

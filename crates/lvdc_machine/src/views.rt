@@ -9,7 +9,7 @@ ghost use Rattle.lvdc_modules.specs.States.{latches_of};
 ghost use Rattle.lvdc_model.specs.Trial.{Trial, plain_in};
 ghost use Rattle.lvdc_model.specs.Voted.{Voted};
 ghost use Rattle.lvdc_logic.specs.Logic.{latch_of, count_of};
-ghost use Rattle.lvdc_laws.specs.Ends.{IsOpening};
+ghost use Rattle.lvdc_laws_voted.specs.Ends.{IsOpening};
 ghost use Rattle.lvdc_machine.specs.declared.mode.Mode.TheVariants.{Guarded};
 ghost use Rattle.lvdc_machine.specs.Guarded.{is_recoverable_by};
 ghost use Rattle.lvdc_machine.specs.Resumed.{state_from, StandsFrom};

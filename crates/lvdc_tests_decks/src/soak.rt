@@ -1,7 +1,7 @@
 use crate::rows::same;
 use lvdc_fault::Event;
 use lvdc_map::{Address, Hop, Placed};
-use lvdc_soak::soak_deck;
+use lvdc_soak_deck::soak_deck;
 use lvdc_word::{Cell, Word};
 use std::test::Fail;
 

@@ -1,7 +1,7 @@
 use Rattle.std.proofs.lemmas.Result.{IfOk-weaker}
 use Rattle.std.proofs.Common.{inl, inr, refl}
-use Rattle.lvdc_run.specs.Runs.{Judges, Stops, IsStop}
-use Rattle.lvdc_resume.specs.Statuses.{IsInadmissible}
+use Rattle.lvdc_command_run.specs.Runs.{Judges, Stops, IsStop}
+use Rattle.lvdc_command_resume.specs.Statuses.{IsInadmissible}
 use Rattle.lvdc_cli.proofs.Answered.{reply_answer, reply_quiet, reply_kept}
 use Rattle.lvdc_cli.proofs.Commands.{reply_headline, reply_runs, reply_is}
 use Rattle.lvdc_cli.proofs.join.reply.Goals as goal

@@ -1,6 +1,6 @@
 use Rattle.lvdc_text.specs.Lines.{lines_of, numbered}
 use Rattle.lvdc_asm.specs.Assembly.{assembly_of}
-use Rattle.lvdc_run.specs.Trials.{trial_of}
+use Rattle.lvdc_command_run.specs.Trials.{trial_of}
 use Rattle.lvdc_cli.proofs.Printed.{prints-image}
 use Rattle.lvdc_cli.proofs.laws.source_is_printed.Goals as goal
 

@@ -1,4 +1,4 @@
-use Rattle.lvdc_rack.specs.Rack.{rack}
+use Rattle.lvdc_console.specs.Rack.{rack}
 use Rattle.lvdc_cli.specs.Words.{texts}
 use Rattle.lvdc_console.proofs.Over.{end_over, headline_over, answer_over}
 use Rattle.lvdc_console.proofs.command.run.Goals as goal

@@ -1,0 +1,33 @@
+-- The headline. For every deck that `run` accepts, in whatever order the copies latch, as long as the fault script stays
+-- admissible the ports, registers and recoverable memory words of the report and the states of the devices are those of the
+-- fault-free instruction table on the deck's image; the first inadmissible step ends the run, and the report names that step and
+-- its cause after that same run so far.
+use Rattle.std.specs.Prelude.{◌≡◌, ℕ, List, ◌++◌}
+use Rattle.lvdc_model.specs.Trial.{Trial}
+use Rattle.lvdc_model.specs.declared.repair.Repair.{Repair}
+use Rattle.lvdc_report.specs.Report.{title_line, end_text, registers_text, visible_in, log_text, memory_text}
+use Rattle.lvdc_report.specs.Voted.{wrong_text, repairs_text}
+use Rattle.lvdc_report.specs.declared.title.Title.TheVariants.{Run}
+use Rattle.lvdc_reply.specs.Answer.{Answer}
+use Rattle.lvdc_command_run.specs.Accounts.{Account, account, end_status}
+
+-- the report of an account, up to what the redundancy did: its end, its registers, its port exchanges, and of each address the
+-- word where it can be recovered
+abbrev pub account_front : Trial → Account → List ℕ
+account_front o told =
+    title_line Run ++ end_text told.end ++ registers_text (visible_in told.plain) ++ log_text told.plain.log
+    ++ memory_text o.opening.banks told.plain.memory told.recoverable
+
+-- the text reports an account, and behind it stand the lines of some counts and of some repairs and no others: how often each copy
+-- differed and which cells were repaired is left open here
+pub record Reports (o : Trial) (told : Account) (text : List ℕ) : Type 0 where
+  pub counts : List (List ℕ)
+  pub repairs : List Repair
+  pub is : text ≡ account_front o told ++ wrong_text counts ++ repairs_text repairs
+
+-- the headline of a trial of so many times: the status is that of the end of the account of the plain run and the script, the text
+-- reports this account, and the devices that are left are those of it
+pub record Headline (o : Trial) (n : ℕ) (answer : Answer) : Type 0 where
+  pub status : answer.status ≡ end_status (account o n).end
+  pub report : Reports o (account o n) answer.text
+  pub left : answer.devices ≡ (account o n).devices

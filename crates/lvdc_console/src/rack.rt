@@ -1,0 +1,57 @@
+ghost use Rattle.std.specs.Prelude.{◌≡◌, ◌+◌, ◌<◌, map, vec_len, vec_capacity, IfOk};
+ghost use Rattle.lvdc_port.specs.Devices.{AreDistinct};
+ghost use Rattle.lvdc_console.specs.Rack.{rack, tape_at, latch_at, ticker_at, recorder_at, device_at, IsFilled};
+
+use lvdc_port::{Latch, PortDevice, Recorder, Tape, Ticker};
+use lvdc_word::NoMemory;
+use std::alloc::Global;
+
+/// A tape without words, in a box.
+pub(crate) fn tape(alloc: Global, port: u8) -> Result<Box<Tape>, NoMemory>
+    ensures { IfOk result (λ made. ⟦<Tape as PortDevice>⟧.device_of made.value ≡ tape_at port) }
+{
+    Ok(Box::new(alloc, Tape::new(alloc, port))?)
+}
+
+/// A latch that holds 0, in a box.
+pub(crate) fn latch(alloc: Global, port: u8) -> Result<Box<Latch>, NoMemory>
+    ensures { IfOk result (λ made. ⟦<Latch as PortDevice>⟧.device_of made.value ≡ latch_at port) }
+{
+    Ok(Box::new(alloc, Latch::new(port))?)
+}
+
+/// A ticker, in a box.
+pub(crate) fn ticker(alloc: Global, port: u8) -> Result<Box<Ticker>, NoMemory>
+    ensures { IfOk result (λ made. ⟦<Ticker as PortDevice>⟧.device_of made.value ≡ ticker_at port) }
+{
+    Ok(Box::new(alloc, Ticker::new(port))?)
+}
+
+/// A recorder without words, in a box.
+pub(crate) fn recorder(alloc: Global, port: u8) -> Result<Box<Recorder>, NoMemory>
+    ensures { IfOk result (λ made. ⟦<Recorder as PortDevice>⟧.device_of made.value ≡ recorder_at port) }
+{
+    Ok(Box::new(alloc, Recorder::new(alloc, port))?)
+}
+
+/// Puts the device at this port behind those at the ports below it, in a list that has room for sixteen.
+pub(crate) fn plug_in(
+    devices: &mut Vec<Box<dyn PortDevice>>,
+    _port: u8,
+    device: Box<dyn PortDevice>,
+)
+    requires port { _port < 16 }
+    requires before { IsFilled device_of _port devices.old.items (vec_len devices.old) (vec_capacity devices.old) }
+    requires next { device_of device ≡ device_at _port }
+    ensures { IsFilled device_of (_port + 1) devices.new.items (vec_len devices.new) (vec_capacity devices.new) }
+{
+    let pushed = devices.push(device);
+    prove!(pushed.is_ok());
+}
+
+/// A law: sixteen devices that were plugged in so are the rack, and no two have one port.
+pub(crate) fn is_whole(devices: &Vec<Box<dyn PortDevice>>)
+    requires { IsFilled device_of 16 devices.now.items (vec_len devices.now) (vec_capacity devices.now) }
+    ensures rack { map device_of devices.now.items ≡ rack }
+    ensures distinct { AreDistinct (map device_of devices.now.items) }
+{}

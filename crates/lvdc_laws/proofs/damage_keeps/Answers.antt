@@ -1,5 +1,0 @@
-use Rattle.lvdc_laws.proofs.Cells.{damages-stored}
-use Rattle.lvdc_laws.proofs.damage_keeps.Goals as goal
-
-pub returns : goal.returns
-returns c = damages-stored c.same_address.ensures

@@ -1,6 +1,0 @@
-use Rattle.lvdc_phases.specs.Standing.{Standing}
-use Rattle.lvdc_laws.proofs.Run.{comes}
-use Rattle.lvdc_laws.proofs.guarded_run.Goals as goal
-
-pub returns : goal.returns
-returns c o ok = comes Standing o c.laws_of_a_step.ensures.steps (c.laws_of_a_step.ensures.opens o ok)

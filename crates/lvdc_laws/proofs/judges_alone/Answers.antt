@@ -1,6 +1,0 @@
-use Rattle.lvdc_phases.specs.Standing.{Standing}
-use Rattle.lvdc_laws.proofs.Whole.{alone-guarded}
-use Rattle.lvdc_laws.proofs.judges_alone.Goals as goal
-
-pub returns : goal.returns
-returns c o ok = alone-guarded Standing c.laws_of_a_step.ensures.steps o (c.laws_of_a_step.ensures.opens o ok)

@@ -1,6 +1,0 @@
-use Rattle.lvdc_phases.specs.Standing.{Standing}
-use Rattle.lvdc_laws.proofs.Whole.{guarded-begun}
-use Rattle.lvdc_laws.proofs.step_begun.Goals as goal
-
-pub returns : goal.returns
-returns c o ok = guarded-begun Standing c.laws_of_a_step.ensures.steps o (c.laws_of_a_step.ensures.opens o ok)

@@ -1,0 +1,17 @@
+use Rattle.lvdc_reply.proofs.Statuses.{on_err}
+use Rattle.lvdc_laws_halves.proofs.Wholes.{whole-run}
+use Rattle.lvdc_laws_halves.proofs.reply.resume_saved.Goals as goal
+
+pub returns-clause-reply : goal.returns-clause-reply
+returns-clause-reply g c = c.in_ok-reply.ensures.reply
+
+pub returns-clause-room : goal.returns-clause-room
+returns-clause-room g c = c.in_ok-reply.ensures.room
+
+pub returns-clause-halves : goal.returns-clause-halves
+returns-clause-halves g c = λ number deck_bytes before h alike unfailed.
+    whole-run deck_bytes before _ c.args.bytes.now _ (c.saved_tells_run.ensures number deck_bytes before _ c.args.bytes.now h alike)
+    c.in_ok-reply.ensures.goes_on unfailed
+
+pub returns-in_err-reply-clause-unanswered : goal.returns-in_err-reply-clause-unanswered
+returns-in_err-reply-clause-unanswered g c = on_err _ c.in_err-reply.ensures.unanswered

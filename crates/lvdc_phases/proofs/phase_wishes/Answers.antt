@@ -1,5 +1,0 @@
-use Rattle.lvdc_phases.proofs.Wishes.{wishes}
-use Rattle.lvdc_phases.proofs.phase_wishes.Goals as goal
-
-pub returns : goal.returns
-returns c = wishes

@@ -1,5 +1,0 @@
-use Rattle.lvdc_run.proofs.Jobs.{job-headline}
-use Rattle.lvdc_run.proofs.laws.headline_told.Goals as goal
-
-pub returns : goal.returns
-returns c = job-headline
