@@ -4,7 +4,7 @@ ghost use Rattle.std.specs.Prelude.{◌≡◌, ◌≤◌, length, true, IfOk, On
 ghost use Rattle.lvdc_map.specs.Memory.{are_rising, AllThere};
 ghost use Rattle.lvdc_fault.specs.declared.verdict.Verdict.TheVariants as verdicts;
 ghost use Rattle.lvdc_model.specs.Judging.{first_bad};
-ghost use Rattle.lvdc_orders.specs.Events.{IsEvent};
+ghost use Rattle.lvdc_fault.specs.Events.{IsEvent};
 ghost use Rattle.lvdc_laws_voted.specs.Ends.{IsOpening};
 ghost use Rattle.lvdc_campaign.specs.declared.TheConstants.{MOST_TIMES, MOST_SCRIPTS, MOST_EVENTS};
 ghost use Rattle.lvdc_campaign.specs.Campaign.{program_of, trial_under, is_same, row_of, rows_of, IsScript};

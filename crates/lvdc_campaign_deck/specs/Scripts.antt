@@ -8,7 +8,7 @@ use Rattle.lvdc_text.specs.Lines.{part_of, word_texts_of, is_long, is_comment}
 use Rattle.lvdc_text.specs.declared.cutting.Line.{Line}
 use Rattle.lvdc_fault.specs.declared.event.Event.{Event}
 use Rattle.lvdc_fault.specs.declared.named.Named.{Named}
-use Rattle.lvdc_orders.specs.Events.{IsEvent}
+use Rattle.lvdc_fault.specs.Events.{IsEvent}
 use Rattle.lvdc_script_lines.specs.Lines.{fault_in}
 use Rattle.lvdc_source.specs.Names.{is_name}
 use Rattle.lvdc_campaign_deck.specs.declared.TheConstants.{MOST_SCRIPTS, MOST_EVENTS}

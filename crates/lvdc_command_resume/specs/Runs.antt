@@ -3,7 +3,7 @@ use Rattle.std.specs.Prelude.{ℕ, ◌-◌, ◌*◌, ◌≤◌, All, List, lengt
 use Rattle.std.specs.declared.option.Option.TheVariants.{Some}
 use Rattle.lvdc_port.specs.Device as device
 use Rattle.lvdc_modules.specs.Seen.{here}
-use Rattle.lvdc_orders.specs.Events.{IsEvent}
+use Rattle.lvdc_fault.specs.Events.{IsEvent}
 use Rattle.lvdc_model.specs.Trial.{Trial}
 use Rattle.lvdc_model.specs.Voted.{Voted}
 use Rattle.lvdc_model.specs.declared.outcome.Outcome.TheVariants.{Device}

@@ -3,7 +3,7 @@ use Rattle.std.specs.Prelude.{◌≡◌, ◌≤◌, true, All, List, length}
 use Rattle.lvdc_map.specs.Memory.{are_rising, AllThere}
 use Rattle.lvdc_port.specs.Device.{Device}
 use Rattle.lvdc_port.specs.Supplies.{supplied}
-use Rattle.lvdc_orders.specs.Events.{IsEvent}
+use Rattle.lvdc_fault.specs.Events.{IsEvent}
 use Rattle.lvdc_model.specs.Trial.{Trial}
 use Rattle.lvdc_deck.specs.declared.TheConstants.{MOST_TIMES, MOST_EVENTS}
 use Rattle.lvdc_deck.specs.declared.deck.Deck.{Deck}

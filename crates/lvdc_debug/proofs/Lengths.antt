@@ -2,7 +2,7 @@
 use Rattle.std.proofs.Common.{◌≡◌, ℕ, zero, suc, ◌<◌, ◌≤◌, ◌^◌, ◌/◌, length, decimal, refl, arith, length-append}
 use Rattle.std.proofs.lemmas.Fmt.{length-decimal-le}
 use Rattle.lvdc_text.specs.Numbers.{octal_text}
-use Rattle.lvdc_modules.specs.States.{latches_of}
+use Rattle.lvdc_vote.specs.Numbers.{latches_of}
 
 pub octal_text-length : (width n : ℕ) → length (octal_text width n) ≡ width
 unfolding octal_text

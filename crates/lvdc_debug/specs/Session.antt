@@ -10,7 +10,7 @@ use Rattle.lvdc_text.specs.Lines.{word_texts_of}
 use Rattle.lvdc_text.specs.Numbers.{octal_text}
 use Rattle.lvdc_vote.specs.Copies as vote
 use Rattle.lvdc_modules.specs.Seen.{hold}
-use Rattle.lvdc_modules.specs.States.{latches_of}
+use Rattle.lvdc_vote.specs.Numbers.{latches_of}
 use Rattle.lvdc_plain.specs.declared.records.Visible.{Visible}
 use Rattle.lvdc_model.specs.declared.outcome.Outcome.{Outcome}
 use Rattle.lvdc_model.specs.declared.outcome.Outcome.TheVariants.{Device}

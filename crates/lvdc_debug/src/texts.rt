@@ -2,8 +2,8 @@
 
 ghost use Rattle.std.specs.Prelude.{◌≡◌, ℕ, ◌+◌, ◌*◌, ◌≤◌, ◌<◌, ◌++◌, List, length, OnOk};
 ghost use Rattle.lvdc_port.specs.Device.{Device};
-ghost use Rattle.lvdc_modules.specs.States.{latches_of};
-ghost use Rattle.lvdc_orders.specs.Events.{IsCopy};
+ghost use Rattle.lvdc_vote.specs.Numbers.{latches_of};
+ghost use Rattle.lvdc_fault.specs.Events.{IsCopy};
 ghost use Rattle.lvdc_model.specs.Trial.{Trial};
 ghost use Rattle.lvdc_machine.specs.Stands.{Stands, state_by, shown_of};
 ghost use Rattle.lvdc_debug.specs.Commands.{IsStretch, IsCommand};

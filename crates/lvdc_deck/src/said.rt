@@ -1,7 +1,7 @@
 ghost use Rattle.std.specs.Prelude.{◌≡◌, ◌≢◌, ℕ, List, ◌-◌, ◌^◌, ◌<◌, ◌≤◌, ◌∷◌, length, map, true, IfOk, IfErr, All, Ok, Err};
 ghost use Rattle.lvdc_map.specs.Memory.{are_rising, AllThere};
 ghost use Rattle.lvdc_text.specs.Lines.{IsWithin, part_of};
-ghost use Rattle.lvdc_orders.specs.Events.{IsEvent};
+ghost use Rattle.lvdc_fault.specs.Events.{IsEvent};
 ghost use Rattle.lvdc_script_lines.specs.Lines.{fault_in, order_in};
 ghost use Rattle.lvdc_deck.specs.Sections.{nothing_said, entry_in, start_line, simplex_line, ports_line, faults_line, order_line, run_line, debug_line, in_order, with_event, with_order, belongs, by_tokens, after_line, Makes};
 ghost use Rattle.lvdc_deck.specs.Deck.{told_from, count_in, made_of};
@@ -44,7 +44,7 @@ pub(crate) struct Said {
 
 impl Model for Said {
     ghost use Rattle.std.specs.Prelude.{◌≤◌, length, IfSome, All};
-    ghost use Rattle.lvdc_orders.specs.Events.{IsEvent};
+    ghost use Rattle.lvdc_fault.specs.Events.{IsEvent};
     ghost use Rattle.lvdc_deck.specs.Sections.{Sections};
     ghost use Rattle.lvdc_deck.specs.declared.TheConstants.{MOST_TIMES, MOST_EVENTS};
 

@@ -1,5 +1,6 @@
 pub mod Activity
 pub mod Damage
+pub mod Events
 pub mod Ledger
 pub mod Recoverable
 pub mod Script

@@ -12,7 +12,7 @@ use Rattle.lvdc_fault.specs.Script.{acts_on, is_within, is_active, active_events
 use Rattle.lvdc_fault.specs.declared.event.Event.{Event}
 use Rattle.lvdc_fault.specs.declared.event.Event.TheVariants.{Flip, Force, Lag, Deaf, Damage, Stick, Dead}
 use Rattle.lvdc_model.specs.Voted.{hurts_by}
-use Rattle.lvdc_orders.specs.Events.{IsCopy, IsEvent}
+use Rattle.lvdc_fault.specs.Events.{IsCopy, IsEvent}
 use Rattle.lvdc_logic.specs.InForce.{no_faults, faults_and, faults_at, copy_named, copies_and, nothing_in_force, in_force_and, in_force_after, faults_on}
 use Rattle.lvdc_logic.specs.HitModules.{names}
 use Rattle.lvdc_logic.specs.declared.hit_modules.HitModules.{HitModules}

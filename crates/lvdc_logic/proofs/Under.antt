@@ -5,12 +5,12 @@ use Rattle.lvdc_vote.specs.Harms.{harmed, harm_of}
 use Rattle.lvdc_vote.specs.Latches.{latched_by, FitsLatches}
 use Rattle.lvdc_vote.specs.Copies.{Copies, copy_of, IsSized}
 use Rattle.lvdc_vote.specs.declared.hurt.Hurt.{Hurt}
-use Rattle.lvdc_modules.specs.States.{latches_of}
+use Rattle.lvdc_vote.specs.Numbers.{latches_of}
 use Rattle.lvdc_modules.specs.declared.bus.Bus.{Bus}
 use Rattle.lvdc_fault.specs.Script.{is_deaf}
 use Rattle.lvdc_fault.specs.declared.event.Event.{Event}
 use Rattle.lvdc_model.specs.Voted.{inputs, hurts_on}
-use Rattle.lvdc_orders.specs.Events.{IsEvent}
+use Rattle.lvdc_fault.specs.Events.{IsEvent}
 use Rattle.lvdc_logic.specs.InForce.{faults_at, latched_under, IsInForce}
 use Rattle.lvdc_logic.specs.Latching.{copies_in, latches_in, row_of, new_latches, AllSized}
 use Rattle.lvdc_logic.specs.Seven.{of_seven}

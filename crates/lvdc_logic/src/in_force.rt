@@ -6,7 +6,7 @@ ghost use Rattle.lvdc_vote.specs.Latches.{FitsLatches};
 ghost use Rattle.lvdc_fault.specs.Script.{active_at};
 ghost use Rattle.lvdc_logic.specs.InForce.{copy_named, faults_and, faults_at, in_force_and, no_faults, nothing_in_force, IsInForce};
 ghost use Rattle.lvdc_logic.specs.declared.in_force.InForce.{InForce};
-ghost use Rattle.lvdc_orders.specs.Events.{IsEvent};
+ghost use Rattle.lvdc_fault.specs.Events.{IsEvent};
 
 use crate::hit_modules::HitModules;
 use lvdc_fault::{Active, Event, Script, active_suffice, same_actives};

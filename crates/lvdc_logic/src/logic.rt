@@ -1,11 +1,11 @@
 ghost use Rattle.std.specs.Prelude.{◌≡◌, ℕ, ◌+◌, ◌≤◌, ◌<◌, ◌^◌, [], ◌∷◌, All, List, map, replicate};
 ghost use Rattle.lvdc_vote.specs.Copies.{vote_of};
 ghost use Rattle.lvdc_modules.specs.Rows.{rows, bus_of, start_latches};
-ghost use Rattle.lvdc_modules.specs.States.{latches_of};
+ghost use Rattle.lvdc_vote.specs.Numbers.{latches_of};
 ghost use Rattle.lvdc_fault.specs.Script.{active_at};
 ghost use Rattle.lvdc_fault.specs.declared.event.Event.{Event};
 ghost use Rattle.lvdc_model.specs.Voted.{next_copies, counted, thrice};
-ghost use Rattle.lvdc_orders.specs.Events.{IsEvent};
+ghost use Rattle.lvdc_fault.specs.Events.{IsEvent};
 ghost use Rattle.lvdc_logic.specs.InForce.{IsInForce};
 ghost use Rattle.lvdc_logic.specs.Logic.{latch_of, count_of, DifferedAtMost};
 

@@ -5,7 +5,7 @@ use Rattle.std.specs.declared.option.Option.TheVariants.{None}
 use Rattle.lvdc_fault.specs.Activity.{Fits}
 use Rattle.lvdc_fault.specs.Script.{wrong_module}
 use Rattle.lvdc_fault.specs.declared.event.Event.{Event}
-use Rattle.lvdc_orders.specs.Events.{IsEvent}
+use Rattle.lvdc_fault.specs.Events.{IsEvent}
 use Rattle.lvdc_logic.specs.InForce.{IsInForce}
 use Rattle.lvdc_logic.specs.Logic.{DifferedAtMost}
 use Rattle.lvdc_logic.specs.declared.in_force.InForce.{InForce}

@@ -8,7 +8,7 @@ ghost use Rattle.lvdc_fault.specs.declared.verdict.Verdict.{Verdict};
 ghost use Rattle.lvdc_model.specs.Trial.{Trial};
 ghost use Rattle.lvdc_model.specs.Voted.{Voted};
 ghost use Rattle.lvdc_model.specs.declared.outcome.Outcome.TheVariants.{Inadmissible};
-ghost use Rattle.lvdc_orders.specs.Events.{IsEvent};
+ghost use Rattle.lvdc_fault.specs.Events.{IsEvent};
 ghost use Rattle.lvdc_laws_phases.specs.Standing.{Standing};
 ghost use Rattle.lvdc_laws_voted.specs.Ends.{IsOpening};
 ghost use Rattle.lvdc_laws_voted.specs.Relation.{Kept};

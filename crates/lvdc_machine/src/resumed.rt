@@ -9,7 +9,7 @@ ghost use Rattle.lvdc_model.specs.Known.{last_made};
 ghost use Rattle.lvdc_model.specs.Trial.{Trial};
 ghost use Rattle.lvdc_model.specs.Twins.{Twins};
 ghost use Rattle.lvdc_model.specs.Voted.{Voted, voted_start};
-ghost use Rattle.lvdc_orders.specs.Events.{IsEvent};
+ghost use Rattle.lvdc_fault.specs.Events.{IsEvent};
 ghost use Rattle.lvdc_memory.specs.Holds.{Holds};
 ghost use Rattle.lvdc_machine.specs.declared.mode.Mode.TheVariants.{Guarded};
 ghost use Rattle.lvdc_machine.specs.declared.mode.Pace.TheVariants.{ByStep};

@@ -5,7 +5,7 @@ ghost use Rattle.lvdc_map.specs.Banks.{is_there};
 ghost use Rattle.lvdc_map.specs.Memory.{word_at};
 ghost use Rattle.lvdc_port.specs.Device as device;
 ghost use Rattle.lvdc_modules.specs.Seen.{hold};
-ghost use Rattle.lvdc_modules.specs.States.{latches_of};
+ghost use Rattle.lvdc_vote.specs.Numbers.{latches_of};
 ghost use Rattle.lvdc_model.specs.Trial.{Trial, plain_in};
 ghost use Rattle.lvdc_model.specs.Voted.{Voted};
 ghost use Rattle.lvdc_logic.specs.Logic.{latch_of, count_of};

@@ -1,5 +1,5 @@
 -- The latches of the seven modules by their indices, and the state that has given latches.
-use Rattle.std.specs.Prelude.{ℕ, List, [], ◌∷◌, slice_index, slice_index_or, ◌-◌}
+use Rattle.std.specs.Prelude.{ℕ, List, [], ◌∷◌, slice_index}
 use Rattle.lvdc_modules.specs.declared.timer.TimerState.{TimerState}
 use Rattle.lvdc_modules.specs.declared.locator.LocatorState.{LocatorState}
 use Rattle.lvdc_modules.specs.declared.decoder.DecoderState.{DecoderState}
@@ -70,7 +70,3 @@ exchange_latches s = s.stop ∷ s.request ∷ []
 -- the state of EXCHANGE with these latches
 abbrev pub exchange_of : List ℕ → ExchangeState
 exchange_of words = record { stop = slice_index words 0; request = slice_index words 1 }
-
--- how many latches the modules have, in the order of their numbers from 1
-abbrev pub latches_of : ℕ → ℕ
-latches_of number = slice_index_or (2 ∷ 2 ∷ 1 ∷ 1 ∷ 2 ∷ 5 ∷ 2 ∷ []) (number - 1) 0

@@ -1,5 +1,5 @@
 ghost use Rattle.std.specs.Prelude.{◌≡◌, ◌<◌, ◌≤◌};
-ghost use Rattle.lvdc_modules.specs.States.{latches_of};
+ghost use Rattle.lvdc_vote.specs.Numbers.{latches_of};
 
 use crate::{
     Accumulator, AccumulatorState, Decoder, DecoderState, ExchangeState, Exchanger, Locator,

@@ -1,5 +1,4 @@
-//! What the voted machine asks of its orders and of its script: the orders in which the 21 copies latch, and the ranges of
-//! the numbers of events (this project's profile).
+//! The orders in which the 21 copies latch, and lists of them that take turns step by step (this project's profile).
 #![tactic(auto)]
 
 mod full;

@@ -2,10 +2,10 @@
 use Rattle.std.proofs.Common.{◌≡◌, ℕ, ◌^◌, ◌<◌, ◌≤◌, List, [], ◌∷◌, ◌++◌, codes, decimal, Some, refl, arith}
 use Rattle.lvdc_map.specs.Address.{Spot}
 use Rattle.lvdc_text.specs.Numbers.{octal_text}
-use Rattle.lvdc_modules.specs.States.{latches_of}
+use Rattle.lvdc_vote.specs.Numbers.{latches_of}
 use Rattle.lvdc_fault.specs.declared.event.Event.{Event}
 use Rattle.lvdc_fault.specs.declared.event.Event.TheVariants.{Flip, Force, Lag, Deaf, Damage, Stick, Dead}
-use Rattle.lvdc_orders.specs.Events.{IsCopy, IsSpan, IsEvent, STEPS}
+use Rattle.lvdc_fault.specs.Events.{IsCopy, IsSpan, IsEvent, STEPS}
 use Rattle.lvdc_script_lines.specs.Fields.{index_in}
 use Rattle.lvdc_script_lines.specs.Lines.{fault_in}
 use Rattle.lvdc_save.proofs.Sizes.{few_latches}

@@ -15,10 +15,10 @@ use Rattle.lvdc_twin.specs.Cells.{NamesPlace, are_rising}
 use Rattle.lvdc_twin.specs.Store.{slot_of}
 use Rattle.lvdc_twin.specs.declared.held.Held.{Held}
 use Rattle.lvdc_text.proofs.ReadBack.{length-octal_text}
-use Rattle.lvdc_modules.specs.States.{latches_of}
+use Rattle.lvdc_vote.specs.Numbers.{latches_of}
 use Rattle.lvdc_fault.specs.declared.event.Event.{Event}
 use Rattle.lvdc_fault.specs.declared.event.Event.TheVariants.{Flip, Force, Lag, Deaf, Damage, Stick, Dead}
-use Rattle.lvdc_orders.specs.Events.{IsEvent}
+use Rattle.lvdc_fault.specs.Events.{IsEvent}
 use Rattle.lvdc_port.specs.declared.requests.Supply.{Supply}
 use Rattle.lvdc_plain.specs.declared.records.Exchange.{Exchange}
 use Rattle.lvdc_plain.specs.declared.records.Unplug.{Unplug}

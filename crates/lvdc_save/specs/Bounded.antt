@@ -1,6 +1,6 @@
 -- How long a saved text may be.
 use Rattle.std.specs.Prelude.{ℕ, ◌+◌, ◌*◌, ◌≤◌, All, length}
-use Rattle.lvdc_orders.specs.Events.{IsEvent}
+use Rattle.lvdc_fault.specs.Events.{IsEvent}
 use Rattle.lvdc_save.specs.declared.TheConstants.{MOST_TIMES, MOST_EVENTS}
 use Rattle.lvdc_save.specs.declared.saved.Saved.{Saved}
 

@@ -4,7 +4,7 @@ use Rattle.lvdc_map.specs.Address.{IsAddress}
 use Rattle.lvdc_image.specs.Image.{IsPlaced}
 use Rattle.lvdc_twin.specs.Cells.{NamesPlace}
 use Rattle.lvdc_twin.specs.declared.held.Held.{Held}
-use Rattle.lvdc_orders.specs.Events.{IsCopy, IsEvent}
+use Rattle.lvdc_fault.specs.Events.{IsCopy, IsEvent}
 use Rattle.lvdc_orders.specs.Orders.{is_order}
 use Rattle.lvdc_port.specs.declared.requests.Supply.{Supply}
 use Rattle.lvdc_plain.specs.declared.records.Exchange.{Exchange}

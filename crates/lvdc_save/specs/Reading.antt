@@ -11,7 +11,7 @@ use Rattle.lvdc_text.specs.Lines.{NumberedLine, lines_of, numbered}
 use Rattle.lvdc_twin.specs.Store.{slot_of}
 use Rattle.lvdc_twin.specs.declared.held.Held.{Held}
 use Rattle.lvdc_vote.specs.Bits.{majority}
-use Rattle.lvdc_modules.specs.States.{latches_of}
+use Rattle.lvdc_vote.specs.Numbers.{latches_of}
 use Rattle.lvdc_fault.specs.declared.event.Event.{Event}
 use Rattle.lvdc_port.specs.Device.{Device}
 use Rattle.lvdc_port.specs.Supplies.{kind_at}

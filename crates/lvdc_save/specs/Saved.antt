@@ -1,7 +1,7 @@
 -- The saved text of a state: its entries in their order, each on its line.
 use Rattle.std.specs.Prelude.{ℕ, zero, suc, ◌+◌, ◌/◌, ◌%◌, ◌==◌, List, [], ◌∷◌, ◌++◌, map, take, drop, slice_index, if◌then◌else◌}
 use Rattle.std.specs.List.{range_with_len}
-use Rattle.lvdc_modules.specs.States.{latches_of}
+use Rattle.lvdc_vote.specs.Numbers.{latches_of}
 use Rattle.lvdc_orders.specs.Orders.{orders_of}
 use Rattle.lvdc_machine.specs.declared.snapshot.Snapshot.{Snapshot}
 use Rattle.lvdc_report.specs.Report.{lines_of}

@@ -5,7 +5,7 @@ ghost use Rattle.lvdc_save.specs.declared.TheConstants.{MOST_TIMES, MOST_WORDS, 
 ghost use Rattle.lvdc_image.specs.Image.{IsPlaced};
 ghost use Rattle.lvdc_vote.specs.Copies.{IsFullOrder};
 ghost use Rattle.lvdc_save.specs.Printed.{IsExchange, IsSupply, IsUnplug, IsOfADeck, IsPrinted};
-ghost use Rattle.lvdc_modules.specs.States.{latches_of};
+ghost use Rattle.lvdc_vote.specs.Numbers.{latches_of};
 ghost use Rattle.lvdc_orders.specs.Orders.{orders_of};
 ghost use Rattle.lvdc_machine.specs.Snapshot.{IsWhole};
 ghost use Rattle.lvdc_report.specs.Report.{lines_of};

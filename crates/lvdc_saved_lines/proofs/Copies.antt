@@ -6,7 +6,7 @@ use Rattle.std.proofs.Math.Seq.{take-add}
 use Rattle.std.proofs.lemmas.Bool.{lt-ltb, le-leb, eq-eqb}
 use Rattle.std.proofs.lemmas.List.{get_or_at, length-take, length-drop, length_push, take_more}
 use Rattle.std.proofs.lemmas.List.FromFn.{get_or-range_with_len, length-range_with_len}
-use Rattle.lvdc_modules.specs.States.{latches_of}
+use Rattle.lvdc_vote.specs.Numbers.{latches_of}
 use Rattle.lvdc_port.specs.Device.{Device}
 use Rattle.lvdc_machine.specs.declared.snapshot.Snapshot.{Snapshot}
 use Rattle.lvdc_machine.specs.Snapshot.{IsWhole}

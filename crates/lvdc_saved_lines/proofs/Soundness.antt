@@ -13,9 +13,9 @@ use Rattle.lvdc_twin.specs.Store.{slot_of}
 use Rattle.lvdc_twin.specs.Cells.{NamesPlace, are_rising}
 use Rattle.lvdc_twin.specs.declared.held.Held.{Held}
 use Rattle.lvdc_vote.specs.Bits.{majority}
-use Rattle.lvdc_modules.specs.States.{latches_of}
+use Rattle.lvdc_vote.specs.Numbers.{latches_of}
 use Rattle.lvdc_fault.specs.declared.event.Event.{Event}
-use Rattle.lvdc_orders.specs.Events.{IsEvent}
+use Rattle.lvdc_fault.specs.Events.{IsEvent}
 use Rattle.lvdc_port.specs.Device.{Device}
 use Rattle.lvdc_plain.specs.declared.records.Exchange.{Exchange}
 use Rattle.lvdc_model.specs.declared.repair.Repair.{Repair}

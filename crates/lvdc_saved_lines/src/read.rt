@@ -1,5 +1,5 @@
 ghost use Rattle.std.specs.Prelude.{◌≡◌, ◌≢◌, ◌-◌, ◌^◌, ◌*◌, ◌<◌, ◌≤◌, All, length, map, IfOk, IfErr, Ok, Err};
-ghost use Rattle.lvdc_orders.specs.Events.{IsEvent};
+ghost use Rattle.lvdc_fault.specs.Events.{IsEvent};
 ghost use Rattle.lvdc_machine.specs.Snapshot.{IsWhole};
 ghost use Rattle.lvdc_save.specs.declared.TheConstants.{MOST_TIMES, MOST_EVENTS};
 ghost use Rattle.lvdc_save.specs.Reading.{saved_of};

@@ -3,7 +3,7 @@ ghost use Rattle.lvdc_twin.specs.Store.{slot_of};
 ghost use Rattle.lvdc_port.specs.Supplies.{kind_at};
 ghost use Rattle.std.specs.List.{list_any};
 ghost use Rattle.lvdc_vote.specs.Bits.{majority};
-ghost use Rattle.lvdc_orders.specs.Events.{IsEvent};
+ghost use Rattle.lvdc_fault.specs.Events.{IsEvent};
 ghost use Rattle.lvdc_machine.specs.Snapshot.{IsWhole};
 ghost use Rattle.lvdc_save.specs.declared.TheConstants.{MOST_TIMES, MOST_EVENTS, MOST_ORDERS};
 ghost use Rattle.lvdc_save.specs.Sound.{IsSound};

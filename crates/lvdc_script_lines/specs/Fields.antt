@@ -2,8 +2,8 @@
 use Rattle.std.specs.Prelude.{ℕ, ◌^◌, nat_le, List, if◌then◌else◌, Option, None, Some}
 use Rattle.lvdc_map.specs.Address.{Spot}
 use Rattle.lvdc_text.specs.Numbers.{number_of, plain_number_of, below}
-use Rattle.lvdc_modules.specs.States.{latches_of}
-use Rattle.lvdc_orders.specs.Events.{STEPS}
+use Rattle.lvdc_vote.specs.Numbers.{latches_of}
+use Rattle.lvdc_fault.specs.Events.{STEPS}
 use Rattle.lvdc_script_lines.specs.declared.fields.ModuleCopy.{ModuleCopy}
 use Rattle.lvdc_script_lines.specs.declared.fields.Span.{Span}
 

@@ -2,7 +2,7 @@
 
 ghost use Rattle.std.specs.Prelude.{◌≡◌, map, IfSome, All};
 ghost use Rattle.lvdc_text.specs.Lines.{IsWithin, part_of};
-ghost use Rattle.lvdc_orders.specs.Events.{IsEvent};
+ghost use Rattle.lvdc_fault.specs.Events.{IsEvent};
 ghost use Rattle.lvdc_script_lines.specs.Lines.{damage_in, stick_in, dead_in};
 
 use crate::fields::{cell_in, pair_in, place_in, span_in, step_in, twin_in};

@@ -2,7 +2,7 @@
 
 ghost use Rattle.std.specs.Prelude.{◌≡◌, map, IfSome, All};
 ghost use Rattle.lvdc_text.specs.Lines.{IsWithin, part_of};
-ghost use Rattle.lvdc_orders.specs.Events.{IsEvent};
+ghost use Rattle.lvdc_fault.specs.Events.{IsEvent};
 ghost use Rattle.lvdc_script_lines.specs.Lines.{flip_in, force_in, lag_in, deaf_in};
 
 use crate::fields::{index_in, module_copy_in, span_in};

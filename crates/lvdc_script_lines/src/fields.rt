@@ -1,7 +1,7 @@
 ghost use Rattle.std.specs.Prelude.{◌≡◌, ◌<◌, ◌≤◌, ◌^◌, Some, IfSome};
-ghost use Rattle.lvdc_modules.specs.States.{latches_of};
+ghost use Rattle.lvdc_vote.specs.Numbers.{latches_of};
 ghost use Rattle.lvdc_map.specs.Banks.{IsPlace};
-ghost use Rattle.lvdc_orders.specs.Events.{STEPS, IsCopy, IsSpan};
+ghost use Rattle.lvdc_fault.specs.Events.{STEPS, IsCopy, IsSpan};
 ghost use Rattle.lvdc_script_lines.specs.Fields.{decimal_in, octal_in, step_in, twin_in, pair_in, cell_in, module_copy_in, index_in, span_in, place_in};
 
 use lvdc_map::Address;

@@ -1,6 +1,6 @@
 ghost use Rattle.std.specs.Prelude.{◌≡◌, ◌<◌, ◌-◌, ◌^◌, [], ◌∷◌, length, map, None, IfSome, IfNone, All};
 ghost use Rattle.lvdc_text.specs.Lines.{IsWithin, part_of, word_texts_of};
-ghost use Rattle.lvdc_orders.specs.Events.{IsEvent};
+ghost use Rattle.lvdc_fault.specs.Events.{IsEvent};
 ghost use Rattle.lvdc_script_lines.specs.Lines.{fault_in, order_in};
 ghost use Rattle.lvdc_orders.specs.Orders.{order_of};
 

@@ -1,7 +1,7 @@
 //! Small programs in a simplex pair. Words stand in sector 1 and code in sector 0 of bank 0.
 ghost use Rattle.std.specs.Prelude.{◌≡◌, ◌<◌, ◌≤◌, ◌^◌, All, length, true};
 ghost use Rattle.lvdc_map.specs.Memory.{are_rising, AllThere};
-ghost use Rattle.lvdc_orders.specs.Events.{IsEvent};
+ghost use Rattle.lvdc_fault.specs.Events.{IsEvent};
 
 use crate::same::same;
 use lvdc_fault::{Event, Script, Verdict};

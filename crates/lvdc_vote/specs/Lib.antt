@@ -1,6 +1,7 @@
 pub mod Bits
 pub mod Latches
 pub mod Copies
+pub mod Numbers
 pub mod Differences
 pub mod Calls
 pub mod Harms

@@ -1,6 +1,6 @@
 use Rattle.std.proofs.Common.{◌≡◌, rules, arith}
 use Rattle.lvdc_save.specs.Saved.{module_at}
-use Rattle.lvdc_modules.specs.States.{latches_of}
+use Rattle.lvdc_vote.specs.Numbers.{latches_of}
 use Rattle.lvdc_save.proofs.Printing.{copies_fit}
 use Rattle.lvdc_save.proofs.print.latches_at.Goals as goal
 

@@ -1,5 +1,5 @@
 use Rattle.std.proofs.Common.{◌≡◌, ◌-◌, ◌*◌, ◌++◌, length, All}
-use Rattle.lvdc_orders.specs.Events.{IsEvent}
+use Rattle.lvdc_fault.specs.Events.{IsEvent}
 use Rattle.lvdc_soak_deck.specs.Soak.{events_from}
 use Rattle.lvdc_soak_deck.proofs.soak.script_from.Given as goal
 

@@ -4,7 +4,7 @@ use Rattle.std.proofs.lemmas.List.{take_all}
 use Rattle.std.proofs.lemmas.List.Elements.{All-filter}
 use Rattle.std.proofs.lemmas.Option.{slice_get_within, get_or_from_slice_get}
 use Rattle.lvdc_fault.specs.Script.{active_at, active_events, is_active}
-use Rattle.lvdc_orders.specs.Events.{IsEvent}
+use Rattle.lvdc_fault.specs.Events.{IsEvent}
 use Rattle.lvdc_logic.specs.HitModules.{hit_by, is_hit, IsUntouched}
 use Rattle.lvdc_logic.specs.InForce.{in_force_after, in_force_and, nothing_in_force}
 use Rattle.lvdc_logic.specs.declared.hit_modules.HitModules.{HitModules}
