@@ -6,14 +6,15 @@ It is slow and proves nothing. The wanted texts of the cases come from it where 
 text comes from the program that the cases try. usage: simulator.py WORDS.. <INPUT"""
 import re
 import sys
+from collections.abc import Callable, Sequence
 
 sys.dont_write_bytecode = True
 
 from simulation.account import Account
 from simulation.assembler import assemble, listing
 from simulation.campaign import campaign
-from simulation.decks import read_deck, soak_deck
-from simulation.devices import at_port, of_the_program
+from simulation.decks import Deck, read_deck, soak_deck
+from simulation.devices import Device, at_port, of_the_program
 from simulation.lines import Refused, lines_of, print_image
 from simulation.macros import expansion, image_of_expansion
 from simulation.plain import Plain
@@ -34,35 +35,43 @@ USAGE = """usage: lvdc run [--plain | --through]
 """
 MOST_BYTES, MOST_SAVED_BYTES = 1_048_576, 134_217_728
 
+# a status and a text
+Answer = tuple[int, str]
 
-def opened(lines, debugging=False):
+
+def opened(lines: list[str], debugging: bool = False) -> tuple[Deck, list[Device]]:
     """A deck, and the program's devices with the words of its TAPE lines."""
     devices = of_the_program()
     deck = read_deck(lines, devices, debugging)
     for port, word in deck.supplies:
-        at_port(devices, port).supply(word)
+        device = at_port(devices, port)
+        assert device is not None, "a TAPE line names a port without a device"
+        device.supply(word)
     return deck, devices
 
 
-def run_plain(lines):
+def run_plain(lines: list[str]) -> Answer:
+    """run --plain"""
     deck, devices = opened(lines)
     plain = Plain(deck.opening, devices)
     plain.run(deck.count)
     return status_of(plain), front("LVDC PLAIN", plain)
 
 
-def run_through(lines):
+def run_through(lines: list[str]) -> Answer:
+    """run --through"""
     deck, devices = opened(lines)
     machine = Voted(deck.opening, deck.script, devices, False)
     machine.run(deck.count)
     return status_of(machine), report("LVDC THROUGH", machine)
 
 
-def held(devices):
+def held(devices: Sequence[Device]) -> list[tuple[int, list[int]]]:
+    """The words that the devices hold, by their ports."""
     return [(device.port, device.words) for device in devices]
 
 
-def run_guarded(lines):
+def run_guarded(lines: list[str]) -> Answer:
     """The report of a guarded run. All but its last two parts is found twice: by the votes, and by the plain run and the script."""
     deck, devices = opened(lines)
     machine = Voted(deck.opening, deck.script, devices, True)
@@ -75,24 +84,27 @@ def run_guarded(lines):
     return status_of(machine), text
 
 
-def debugged(lines):
+def debugged(lines: list[str]) -> Answer:
+    """debug"""
     deck, devices = opened(lines, True)
     machine = Voted(deck.opening, deck.script, devices, True)
     text = Session(machine, deck.count).text(deck.commands)
     return status_of(machine), text
 
 
-def soaked(number):
+def soaked(number: int) -> Answer:
+    """soak"""
     deck = soak_deck(number)
     machine = Voted(deck.opening, deck.script, of_the_program(), True)
     machine.run(deck.count)
     return status_of(machine), soak_text(number, machine)
 
 
-def saved(lines, times):
+def saved(lines: list[str], times: int) -> Answer:
+    """save"""
     deck, devices = opened(lines)
     if times > deck.count:
-        raise Refused("CountTooLarge", deck.count_line)
+        raise Refused("CountTooLarge", deck.headings["RUN"])
     machine = Voted(deck.opening, deck.script, devices, True)
     machine.run(times)
     if machine.end:
@@ -100,15 +112,16 @@ def saved(lines, times):
     return 0, print_saved(machine, deck)
 
 
-def resumed(lines):
+def resumed(lines: list[str]) -> Answer:
+    """resume"""
     machine, count = read_saved(lines, of_the_program())
     machine.run(count)
     return status_of(machine), report("LVDC RUN", machine)
 
 
-def reader_of(words):
+def reader_of(words: list[str]) -> Callable[[list[str]], Answer] | None:
     """What answers these words over the lines of an input: a status and a text. None for words that are no command line."""
-    commands = {
+    commands: dict[tuple[str, ...], Callable[[list[str]], Answer]] = {
         ("run",): run_guarded,
         ("run", "--through"): run_through,
         ("run", "--plain"): run_plain,
@@ -126,7 +139,7 @@ def reader_of(words):
     return commands.get(tuple(words))
 
 
-def answer(words, text):
+def answer(words: list[str], text: str) -> Answer:
     """The status and the text that are due for these words and this input; of both texts each character is a byte."""
     if len(words) == 2 and words[0] == "soak" and re.fullmatch("[0-9]{1,10}", words[1]) and int(words[1]) < 2**32:
         return soaked(int(words[1]))

@@ -2,26 +2,32 @@
 import base64
 import json
 import os
+import pathlib
 import select
 import shutil
 import subprocess
 import tempfile
 import time
+import types
+from typing import Any
 
 NAMES = ["chromium", "chromium-browser", "google-chrome"]
 FLAGS = ["--headless=new", "--no-sandbox", "--disable-gpu", "--disable-dev-shm-usage", "--no-first-run", "--hide-scrollbars",
          "--disable-background-networking", "--disable-component-update", "--disable-sync", "--remote-debugging-pipe"]
 PATIENCE = 120
 
+# a message of the protocol, or a part of one
+Message = dict[str, Any]
 
-def program():
+
+def program() -> str | None:
     """The path of a Chromium, or None."""
-    return next((path for path in map(shutil.which, NAMES) if path), None)
+    return next((path for name in NAMES if (path := shutil.which(name))), None)
 
 
-def described(details):
+def described(details: Message) -> str:
     """What was thrown in the page."""
-    return details.get("exception", {}).get("description", details["text"])
+    return str(details.get("exception", {}).get("description", details["text"]))
 
 
 class Failure(Exception):
@@ -31,7 +37,7 @@ class Failure(Exception):
 class Browser:
     """One page in one browser. Used by `with`, which ends the browser and takes its folder away."""
 
-    def __init__(self):
+    def __init__(self) -> None:
         self.folder = tempfile.mkdtemp()
         to_browser, self.write_end = os.pipe()
         self.read_end, from_browser = os.pipe()
@@ -40,26 +46,27 @@ class Browser:
         os.close(from_browser)
         self.waiting = b""
         self.count = 0
-        self.events = []
-        self.session = None
+        self.events: list[Message] = []
+        self.session: str | None = None
         self.attach()
 
-    def start(self, reads, writes):
+    def start(self, reads: int, writes: int) -> "subprocess.Popen[bytes]":
         """Starts the browser, which reads messages at descriptor 3 and writes them at 4."""
         command = f'exec 3<&{reads} 4>&{writes}; exec "$@"'
-        words = ["bash", "-c", command, "browser", "nice", program(), *FLAGS, f"--user-data-dir={self.folder}", "about:blank"]
+        words = ["bash", "-c", command, "browser", "nice", program() or NAMES[0], *FLAGS, f"--user-data-dir={self.folder}", "about:blank"]
         return subprocess.Popen(words, pass_fds=(reads, writes), stdout=subprocess.DEVNULL, stderr=subprocess.DEVNULL)
 
-    def attach(self):
+    def attach(self) -> None:
+        """Talks to the first page from now on."""
         target = next(it for it in self.call("Target.getTargets")["targetInfos"] if it["type"] == "page")
         self.session = self.call("Target.attachToTarget", targetId=target["targetId"], flatten=True)["sessionId"]
         for part in ("Page", "Runtime", "Network"):
             self.call(f"{part}.enable")
 
-    def __enter__(self):
+    def __enter__(self) -> "Browser":
         return self
 
-    def __exit__(self, *_):
+    def __exit__(self, kind: type[BaseException] | None, fault: BaseException | None, at: types.TracebackType | None) -> None:
         try:
             self.session = None
             self.call("Browser.close")
@@ -68,7 +75,7 @@ class Browser:
         self.process.wait()
         shutil.rmtree(self.folder, ignore_errors=True)
 
-    def message(self, until):
+    def message(self, until: float) -> Message:
         """The next message of the browser."""
         while b"\0" not in self.waiting:
             ready, _, _ = select.select([self.read_end], [], [], max(0, until - time.monotonic()))
@@ -77,12 +84,13 @@ class Browser:
                 raise Failure("the browser doesn't answer")
             self.waiting += got
         text, self.waiting = self.waiting.split(b"\0", 1)
-        return json.loads(text)
+        message: Message = json.loads(text)
+        return message
 
-    def call(self, method, **params):
+    def call(self, method: str, **params: Any) -> Message:
         """Calls a method of the protocol and waits for its answer; what else comes is kept."""
         self.count += 1
-        request = {"id": self.count, "method": method, "params": params}
+        request: Message = {"id": self.count, "method": method, "params": params}
         if self.session:
             request["sessionId"] = self.session
         view = memoryview(json.dumps(request).encode() + b"\0")
@@ -94,15 +102,17 @@ class Browser:
             if message.get("id") == self.count:
                 if "error" in message:
                     raise Failure(f"{method}: {message['error']['message']}")
-                return message["result"]
+                result: Message = message["result"]
+                return result
             self.events.append(message)
 
-    def size(self, width, height, dark=False, ratio=1):
+    def size(self, width: int, height: int, dark: bool = False, ratio: int = 1) -> None:
+        """Makes the window so large."""
         self.call("Emulation.setDeviceMetricsOverride", width=width, height=height, deviceScaleFactor=ratio, mobile=False)
         scheme = {"name": "prefers-color-scheme", "value": "dark" if dark else "light"}
         self.call("Emulation.setEmulatedMedia", features=[scheme])
 
-    def open(self, path, fragment=""):
+    def open(self, path: pathlib.Path, fragment: str = "") -> None:
         """Opens a file and waits until it is loaded; another fragment of the same file is a new load too."""
         self.events.clear()
         self.call("Page.navigate", url="about:blank")
@@ -113,33 +123,34 @@ class Browser:
                 raise Failure(f"{path} isn't loaded")
             time.sleep(0.02)
 
-    def run(self, script):
+    def run(self, script: str) -> Any:
         """The value of an expression in the page."""
         answer = self.call("Runtime.evaluate", expression=script, returnByValue=True, awaitPromise=True)
         if "exceptionDetails" in answer:
             raise Failure(described(answer["exceptionDetails"]))
         return answer["result"].get("value")
 
-    def key(self, name, code=0):
+    def key(self, name: str, code: int = 0) -> None:
+        """Presses a key."""
         for kind in ("rawKeyDown", "keyUp"):
             self.call("Input.dispatchKeyEvent", type=kind, key=name, code=name, windowsVirtualKeyCode=code)
 
-    def faults(self):
+    def faults(self) -> list[str]:
         """What the page has thrown since it was opened."""
         self.run("0")
         return [described(it["params"]["exceptionDetails"]) for it in self.events if it.get("method") == "Runtime.exceptionThrown"]
 
-    def strangers(self):
+    def strangers(self) -> list[str]:
         """The addresses outside the file system that the page has asked for since it was opened."""
         self.run("0")
         asked = [it["params"]["request"]["url"] for it in self.events if it.get("method") == "Network.requestWillBeSent"]
         return [it for it in asked if not it.startswith(("file:", "about:", "data:"))]
 
-    def picture(self, whole=True):
+    def picture(self, whole: bool = True) -> bytes:
         """A PNG of the whole page, or of what is in the window."""
         data = self.call("Page.captureScreenshot", format="png", captureBeyondViewport=whole)["data"]
         return base64.b64decode(data)
 
-    def paper(self):
+    def paper(self) -> bytes:
         """The page as PDF."""
         return base64.b64decode(self.call("Page.printToPDF", printBackground=True, preferCSSPageSize=True)["data"])

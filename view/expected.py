@@ -1,4 +1,5 @@
 """What texts of lvdc say, read anew for the tests of the page, in the words and forms that the page has to show."""
+from typing import Any
 
 MANY = {1: "timers", 2: "locators", 3: "decoders", 4: "selectors", 5: "accumulators", 6: "multipliers", 7: "copies of the exchange"}
 LANES = [f"copy-{module}-{copy}" for module in range(1, 8) for copy in range(1, 4)] + ["memory-0", "memory-1", "ports", "end"]
@@ -9,11 +10,12 @@ WORDS = ["A", "PQ", "SAVER"]
 VERDICTS = ["ADMISSIBLE", "LOGIC", "MEMORY"]
 
 
-def counted(count, one):
+def counted(count: str, one: str) -> str:
+    """A number with the name of what is counted."""
     return f"{count} {one}" if count == "1" else f"{count} {one}s"
 
 
-def end_sentence(line, times):
+def end_sentence(line: str, times: str) -> str:
     """The sentence for an END line."""
     match line.split():
         case ["END", "DONE"]:
@@ -35,16 +37,17 @@ def end_sentence(line, times):
     raise ValueError(line)
 
 
-def decimal(word):
+def decimal(word: str) -> str:
     """A word as a signed number, as the page writes it."""
     value = int(word, 8)
     return f"{value - 2 ** 26 if value >= 2 ** 25 else value:,}".replace("-", "−")
 
 
-def sections(deck):
+def sections(deck: str) -> dict[str, list[list[str]]]:
     """The words of the lines of a deck after its program, by the section that they stand in."""
     lines = [it.split() for it in deck.split("\n") if not it.startswith("*")]
-    found, section = {}, ""
+    found: dict[str, list[list[str]]] = {}
+    section = ""
     for words in lines[lines.index(["END"]) + 1:]:
         if words and words[0] in SECTIONS and section != "DEBUG":
             section = words[0]
@@ -53,16 +56,17 @@ def sections(deck):
     return found
 
 
-def faults(deck):
+def faults(deck: str) -> list[list[str]]:
+    """The words of the fault lines."""
     return sections(deck).get("FAULTS", [])
 
 
-def copy_faults(deck):
+def copy_faults(deck: str) -> int:
     """How many fault lines name a copy."""
     return sum(words[0] in COPY_FAULTS for words in faults(deck))
 
 
-def lanes(deck, report):
+def lanes(deck: str, report: list[str]) -> dict[str, int]:
     """How many marks each lane has: fault lines, unplug lines, repairs, exchanges, the end."""
     found = dict.fromkeys(LANES, 0)
     for words in faults(deck):
@@ -78,35 +82,37 @@ def lanes(deck, report):
     return found
 
 
-def place_of(words):
+def place_of(words: list[str]) -> str:
     """The place that a fault line of a memory names."""
     if words[0] == "DEAD":
         return f"all of pair {words[2]}"
     return f"{words[2]} {words[3].zfill(2)} {words[4].zfill(3)}"
 
 
-def places(deck, report):
+def places(deck: str, report: list[str]) -> list[str]:
     """The places of the memories at which anything happened, where every pair is duplex."""
     told = told_of(report)
     named = {place_of(words) for words in faults(deck) if words[0] not in COPY_FAULTS}
     return sorted(named | {it[1] for it in told["repairs"]} | set(told["lost"]))
 
 
-def exchange(words):
+def exchange(words: list[str]) -> list[str]:
+    """A line IN or OUT."""
     return [words[1], "read" if words[0] == "IN" else "written", words[2], words[3], decimal(words[3])]
 
 
-def repair(words):
+def repair(words: list[str]) -> list[str]:
+    """A line REPAIR."""
     return [words[1], " ".join(words[2:5]), words[5], "the other from then on" if words[6:] else "as before"]
 
 
-def told_of(report):
+def told_of(report: list[str]) -> dict[str, Any]:
     """What the lines of a report say."""
     rows = [it.split() for it in report]
     registers = [it.split(" ", 1) for it in report if it.split()[0] in REGISTERS]
     words = [(" ".join(it[1:4]), it[4]) for it in rows if it[0] == "MEM"]
     return {
-        "end": end_sentence(report[1], dict(registers)["TIMES"]),
+        "end": end_sentence(report[1], next(value for name, value in registers if name == "TIMES")),
         "asWritten": report[1],
         "registers": [[name, value, decimal(value) if name in WORDS else ""] for name, value in registers],
         "log": [exchange(it) for it in rows if it[0] in ("IN", "OUT")],
@@ -118,12 +124,12 @@ def told_of(report):
     }
 
 
-def answers(session):
+def answers(session: str) -> list[list[str]]:
     """The commands of a session, each with its answer."""
     return [it.rstrip("\n").split("\n", 1) for it in session.split("\n> ")[1:]]
 
 
-def cells(rows):
+def cells(rows: list[str]) -> list[list[str]]:
     """The marks of a campaign by verdict: the verdict, whether the program comes to the same, and the name."""
     words = [it.split() for it in rows]
     return sorted(([it[2], str(it[-1] == "SAME").lower(), it[1]] for it in words), key=lambda it: VERDICTS.index(it[0]))

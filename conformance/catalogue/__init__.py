@@ -7,19 +7,23 @@
 Where a case has neither text nor has, its text is the simulator's alone. `worked` marks the worked examples of the project's rules,
 which were there before the program."""
 import textwrap
+from collections.abc import Sequence
 
 from simulation.words import written
 
 
 class Case:
-    def __init__(self, name, shows, words, given, status=0, text=None, has=(), lacks=(), worked=False):
+    """What is given, and what is known of the answer without the simulator."""
+
+    def __init__(self, name: str, shows: str, words: str | list[str], given: str, status: int = 0, text: str | None = None,
+                 has: str | Sequence[str] = (), lacks: Sequence[str] = (), worked: bool = False) -> None:
         self.name, self.shows, self.given, self.status, self.worked = name, shows, given, status, worked
         self.words = words.split() if isinstance(words, str) else words
         self.text = None if text is None else block(text)
         self.has = block(has).splitlines() if isinstance(has, str) else list(has)
         self.lacks = list(lacks)
 
-    def source(self):
+    def source(self) -> str:
         """Where the wanted text comes from, for the table of cases."""
         who = "a worked example" if self.worked else "by hand"
         if self.text is not None:
@@ -28,17 +32,18 @@ class Case:
         return "%s: %d line%s; simulator" % (who, lines, "" if lines == 1 else "s") if lines else "simulator"
 
 
-def block(text):
+def block(text: str) -> str:
     """A text that is written indented in the catalogue, with one LF at the end of each line."""
     text = textwrap.dedent(text).strip("\n")
     return text + "\n" if text else ""
 
 
-def comment(text):
+def comment(text: str) -> str:
+    """A text as comment lines."""
     return "".join("* %s\n" % line for line in textwrap.wrap(" ".join(text.split()), 100))
 
 
-def listed(code, syllable, sector="00"):
+def listed(code: str, syllable: int, sector: str = "00") -> str:
     """A comment that says which instructions stand in a sector."""
     if not code:
         return ""
@@ -46,7 +51,7 @@ def listed(code, syllable, sector="00"):
     return comment("Code, sector %s from 000, syllable %d: %s." % (sector, syllable, instructions))
 
 
-def image(code="", words="", more="", upper=""):
+def image(code: str = "", words: str = "", more: str = "", upper: str = "") -> list[str]:
     """The lines of an image: code in sector 00 from 000, words in sector 01 from 000, and lines of its own."""
     lines = []
     lower, uppers = code.split(), upper.split()
@@ -58,8 +63,8 @@ def image(code="", words="", more="", upper=""):
     return sorted(lines + [line.strip() for line in block(more).splitlines()])
 
 
-def deck(note, code="", words="", run=1, more="", upper="", simplex="", start="", ports="", faults="", order="", debug="",
-         version=""):
+def deck(note: str, code: str = "", words: str = "", run: int | str = 1, more: str = "", upper: str = "", simplex: str = "",
+         start: str = "", ports: str = "", faults: str = "", order: str = "", debug: str = "", version: str = "") -> str:
     """A deck with comments. `version` has the lines START and SIMPLEX of an image of version 2."""
     text = comment(note) + listed(code, 0) + listed(upper, 1) + "IMAGE\n"
     text += "LVDC 2\n" + block(version) if version else "LVDC 1\n"
@@ -95,5 +100,6 @@ SAVER 000000000
 SUM_REPORT = "LVDC RUN\nEND DONE" + SUM_REGISTERS.rstrip() + SUM_MEMORY + "MEM 0 01 002 200000000\n"
 
 
-def sum_deck(note, run=3, **more):
+def sum_deck(note: str, run: int | str = 3, **more: str) -> str:
+    """The deck of that sum with more sections."""
     return deck(note, SUM_CODE, SUM_WORDS, run, **more)

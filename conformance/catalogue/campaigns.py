@@ -1,5 +1,5 @@
 """Campaigns."""
-from . import SUM_CODE, SUM_WORDS, Case, comment, deck
+from . import SUM_CODE, SUM_WORDS, Case, deck
 from .refusals import PLAIN
 
 TITLE = "campaigns"
@@ -39,7 +39,7 @@ FORCE 3 3 3 3 0 000017777 000016600
 """
 
 
-def refused(name, shows, given, cause, status=2, worked=False):
+def refused(name: str, shows: str, given: str, cause: str, status: int = 2, worked: bool = False) -> Case:
     return Case(name, shows, "campaign", given, status, "REFUSED %s" % cause, worked=worked)
 
 

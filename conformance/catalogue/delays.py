@@ -12,13 +12,13 @@ TWICE = "17000 01000 17001 01001 10004"
 SOON = "17000 01000 17001 17001 17001 01001 10006"
 
 
-def product(name, shows, a, m, result):
+def product(name: str, shows: str, a: str, m: str, result: str) -> Case:
     """Multiplies two words: the product is in PQ at the fifth time after MPY."""
     return Case(name, shows, "run", deck("%s by %s." % (a, m), "17000 01001 17002 17002 17002 17002 17775", "%s %s" % (a, m), 7),
                 has="A %s\nPQ %s" % (result, result))
 
 
-def quotient(name, shows, a, m, result):
+def quotient(name: str, shows: str, a: str, m: str, result: str) -> Case:
     """Divides two words: the quotient is in PQ at the ninth time after DIV."""
     return Case(name, shows, "run", deck("%s by %s." % (a, m), "17000 03001" + 8 * " 17002" + " 17775", "%s %s" % (a, m), 11),
                 has="A %s\nPQ %s" % (result, result))

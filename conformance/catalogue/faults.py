@@ -29,7 +29,7 @@ SAVER 000000000"""
 LOOP = "17000 07001 13002 01002 12017 10000"
 
 
-def once(name, shows, line, has):
+def once(name: str, shows: str, line: str, has: str) -> Case:
     """The sum that wraps under one event."""
     return Case(name, shows, "run", sum_deck(shows, faults=line), text=SUM_REPORT + has)
 

@@ -1,5 +1,5 @@
 """Images of both versions, as decks take them."""
-from . import Case, deck
+from . import Case
 from .refusals import refused
 
 TITLE = "images"
@@ -9,7 +9,7 @@ SHOWS = """The text of an image, in version 1 and in version 2 with its start co
 TWO = "IMAGE\nLVDC 2\nSTART %s\nSIMPLEX 0\n0 00 000 000017000\n4 01 000 000000007\nEND\nRUN 1\n"
 
 
-def image(name, shows, lines, cause, worked=False):
+def image(name: str, shows: str, lines: str, cause: str, worked: bool = False) -> Case:
     return refused(name, shows, "IMAGE\n" + lines + "RUN 1\n", cause, 4, worked=worked)
 
 

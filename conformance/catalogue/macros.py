@@ -105,22 +105,23 @@ NESTED_WRITTEN = """
 """
 
 
-def macro(name, shows, given, words="macro", status=0, text=None, **more):
-    return Case(name, shows, words, unindented(given), status, text, **more)
+def macro(name: str, shows: str, given: str, words: str = "macro", text: str | None = None, has: str | list[str] = "",
+          worked: bool = False) -> Case:
+    return Case(name, shows, words, unindented(given), text=text, has=has, worked=worked)
 
 
-def refused(name, shows, given, cause, words="macro", worked=False):
+def refused(name: str, shows: str, given: str, cause: str, words: str = "macro", worked: bool = False) -> Case:
     return Case(name, shows, words, given, 3, "REFUSED %s" % cause, worked=worked)
 
 
-def kept(name, shows, given, written):
+def kept(name: str, shows: str, given: str, written: str) -> Case:
     """A case whose expansion is written out whole, blanks at the ends of its lines too."""
     case = macro(name, shows, given)
     case.text = written.lstrip("\n")
     return case
 
 
-def levels(count):
+def levels(count: int) -> str:
     """A chain of macros, each of which calls the next one; the last has a body of its own."""
     text = "M1 MACRO\n* DONE\n MEND\n"
     for k in range(2, count + 1):

@@ -11,12 +11,12 @@ STORE = "17000 13002 17002 10003"
 BOTH = "DAMAGE 0 0 01 000 0 0000000001\nDAMAGE 1 0 01 000 0 0000000001"
 
 
-def read(note, faults, run=1, **more):
+def read(note: str, faults: str, run: int = 1, **more: str) -> str:
     """CLA 000 of a word 5, and TRA 000."""
     return deck(note, READ, "000000005", run, faults=faults, **more)
 
 
-def store(note, faults, run=3, **more):
+def store(note: str, faults: str, run: int = 3, **more: str) -> str:
     """CLA 000, STO 002, CLA 002, TRA 003."""
     return deck(note, STORE, "000000005", run, faults=faults, **more)
 

@@ -1,4 +1,6 @@
 """The latches of the seven modules, as a debug session shows them between two times."""
+from collections.abc import Sequence
+
 from . import SUM_WORDS, SUM_CODE, Case, deck, sum_deck
 
 TITLE = "modules"
@@ -24,11 +26,12 @@ LIMIT 8
 """
 
 
-def three(module, latches):
+def three(module: int, latches: str) -> str:
     return "".join("COPY %d %d %s\n" % (module, copy, latches) for copy in (1, 2, 3))
 
 
-def latches(name, shows, note, module, code, words, run, commands, has=(), more="", **other):
+def latches(name: str, shows: str, note: str, module: int, code: str, words: str, run: int, commands: str,
+            has: str | Sequence[str] = (), more: str = "", **other: str) -> Case:
     return Case(name, shows, "debug", deck(note, code, words, run, more, debug=commands, **other), has=has)
 
 

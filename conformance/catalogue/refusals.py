@@ -1,5 +1,5 @@
 """Decks that are refused, and decks that only look so."""
-from . import SUM_CODE, SUM_REPORT, SUM_WORDS, Case, deck, image as image_lines, sum_deck
+from . import SUM_CODE, SUM_REPORT, SUM_WORDS, Case, image as image_lines
 
 TITLE = "refusals"
 SHOWS = """Decks that are refused, by the first fault in the order of the lines; and a few that look wrong and aren't. Status 2 is
@@ -10,11 +10,11 @@ HEAD = "IMAGE\nLVDC 1\nEND\n"
 PLAIN = "IMAGE\nLVDC 1\n" + "".join(line + "\n" for line in image_lines(SUM_CODE, SUM_WORDS)) + "END\n"
 
 
-def refused(name, shows, given, cause, status=2, words="run", worked=False):
+def refused(name: str, shows: str, given: str, cause: str, status: int = 2, words: str = "run", worked: bool = False) -> Case:
     return Case(name, shows, words, given, status, "REFUSED %s" % cause, worked=worked)
 
 
-def tenth(name, shows, lines, cause, worked=True):
+def tenth(name: str, shows: str, lines: str, cause: str, worked: bool = True) -> Case:
     """The deck of the sum with these lines from line 10 on."""
     return refused(name, shows, PLAIN + lines + "\n" + ("" if "RUN" in lines else "RUN 3\n"), cause, worked=worked)
 

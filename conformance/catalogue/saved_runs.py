@@ -18,11 +18,11 @@ DEVICES = deck("A tape, a latch, the recorder; another tape is unplugged. A twin
                order="UTSRQPONMLKJIHGFEDCBA\nABCDEFGHIJKLMNOPQRSTU")
 
 
-def saved(given, times):
+def saved(given: str, times: int) -> str:
     return answer(["save", str(times)], given)[1]
 
 
-def changed(text, old, new):
+def changed(text: str, old: str, new: str) -> str:
     assert text.count(old) == 1, (text, old)
     return text.replace(old, new)
 
@@ -33,11 +33,11 @@ DEVICES_SAVED = saved(DEVICES, 5)
 NUMBER = {line: k + 1 for k, line in reversed(list(enumerate(DEVICES_SAVED.splitlines())))}
 
 
-def refused(name, shows, text, line, cause="BadSave"):
+def refused(name: str, shows: str, text: str, line: int, cause: str = "BadSave") -> Case:
     return Case(name, shows, "resume", text, 2, "REFUSED %s %d" % (cause, line))
 
 
-def number(text, start):
+def number(text: str, start: str) -> int:
     """The first line of a text that begins so."""
     return next(k + 1 for k, line in enumerate(text.splitlines()) if line.startswith(start))
 

@@ -6,7 +6,7 @@ SHOWS = """Sources and their images, by `asm --image`: where blocks stand, what 
 assembler, status 3."""
 
 
-def unindented(text):
+def unindented(text: str) -> str:
     """A source that is written indented in the catalogue: its operations stay behind a blank, where it has no label too."""
     lines = text.lstrip("\n").rstrip(" \n").split("\n")
     if all(line.startswith(" " * 8) for line in lines if line) and any(line.startswith(" " * 16) for line in lines):
@@ -14,13 +14,13 @@ def unindented(text):
     return "".join(line + "\n" for line in lines)
 
 
-def source(name, shows, text, image, worked=False):
+def source(name: str, shows: str, text: str, image: str, worked: bool = False) -> Case:
     """A source, and the word lines of its image."""
     return Case(name, shows, "asm --image", comment(shows) + unindented(text), text="LVDC 1\n" + block(image) + "END\n",
                 worked=worked)
 
 
-def refused(name, shows, text, cause, worked=False):
+def refused(name: str, shows: str, text: str, cause: str, worked: bool = False) -> Case:
     return Case(name, shows, "asm --image", unindented(text), 3, "REFUSED %s" % cause, worked=worked)
 
 
@@ -47,7 +47,7 @@ X       OCT   5
 """
 
 
-def lines(count, line):
+def lines(count: int, line: str) -> str:
     return (line + "\n") * count
 
 

@@ -8,11 +8,12 @@ EMPTY = "IMAGE\nLVDC 1\nEND\nUPLINK\n"
 FRAMES = "OPEN 7 2\nFRAME 7 2 0 01 000 5 6 424\nFRAME 7 1 0 01 001 1 2 3 417\n"
 
 
-def uplink(name, shows, messages, answers, image="LVDC 1\nEND\n", head=EMPTY, worked=False):
+def uplink(name: str, shows: str, messages: str, answers: str, image: str = "LVDC 1\nEND\n", head: str = EMPTY,
+           worked: bool = False) -> Case:
     return Case(name, shows, "uplink", head + block(messages), text=block(answers) + image, worked=worked)
 
 
-def refused(name, shows, given, cause, status=2):
+def refused(name: str, shows: str, given: str, cause: str, status: int = 2) -> Case:
     return Case(name, shows, "uplink", given, status, "REFUSED %s" % cause)
 
 

@@ -19,7 +19,7 @@ usage: lvdc run [--plain | --through]
 SOAK = "LVDC SOAK %d\nEND DONE\nTIMES 200000\nA 000606477\nWRONG 2048\nREPAIRS 1816"
 
 
-def usage(name, shows, words, worked=False):
+def usage(name: str, shows: str, words: str | list[str], worked: bool = False) -> Case:
     case = Case(name, shows, words, "IMAGE\nLVDC 1\nEND\nRUN 0\n", 1, worked=worked)
     case.text = USAGE.lstrip("\n")
     return case

@@ -1,25 +1,31 @@
 """The same report as that of a guarded run, but for its last two parts, from the plain run and the script alone: no copy, no vote and
 no selection occurs here (docs/MACHINE.md, "Stored cells, recoverable words, admissible steps")."""
-from .devices import unplug
-from .faults import Script, wrong_module
+from collections.abc import Sequence
+
+from .devices import Device, unplug
+from .ends import End, Exchanged, Opening
+from .faults import Event, Script, wrong_module
 from .plain import Plain
 from .twins import Twins
-from .words import (PQ, SAVER, TAKES_OPERAND, code, decode, decoded, fetch_address, holders, operand_address, operand_kind, place,
+from .words import (Address, Hop, PQ, SAVER, TAKES_OPERAND, code, decode, decoded, fetch_address, holders, operand_address, operand_kind, place,
                     syllable_at)
 
 
 class Account:
-    def __init__(self, opening, script, devices):
+    """The plain run, what the twins store by it and the script, and the verdict on each step."""
+
+    def __init__(self, opening: Opening, script: Sequence[Event], devices: list[Device]) -> None:
         self.opening, self.script = opening, Script(script)
         self.plain = Plain(opening, devices)
         self.cells = Twins(opening.image, opening.simplex)
-        self.end = None
+        self.end: End | None = None
 
-    def run(self, count):
+    def run(self, count: int) -> None:
+        """Goes on until so many times are made or an end comes."""
         while self.plain.times < count and self.end is None:
             self.time()
 
-    def time(self):
+    def time(self) -> None:
         """Judges the three steps of the next time, and makes it where all are admissible."""
         step = 3 * self.plain.times
         fetched, operand, stored = self.accesses()
@@ -37,7 +43,7 @@ class Account:
         self.plain.time()
         self.end = self.plain.end
 
-    def accesses(self):
+    def accesses(self) -> tuple[Address | None, Address | None, tuple[Address, int] | None]:
         """The addresses that the plain run fetches and reads in the next time, and the address and the word that it stores."""
         plain, simplex = self.plain, self.opening.simplex
         if plain.hold:
@@ -50,15 +56,16 @@ class Account:
         stored = (at, plain.saver if operand_kind(address) == SAVER else plain.a)
         return fetched, at if name in TAKES_OPERAND else None, stored if name == "STO" else None
 
-    def judged(self, step, active, at):
+    def judged(self, step: int, active: Sequence[Event], at: Address | None) -> End | None:
+        """The end that a step is which isn't admissible."""
         module = wrong_module(active)
         if module is not None:
-            return "INADMISSIBLE", step, "LOGIC", module
+            return End("INADMISSIBLE", step, "LOGIC", module=module)
         if at is not None and not self.is_known(at):
-            return "INADMISSIBLE", step, "MEMORY", at
+            return End("INADMISSIBLE", step, "MEMORY", at=at)
         return None
 
-    def mend(self, at):
+    def mend(self, at: Address) -> None:
         """Where a duplex pair is read, each twin that isn't dead and shows a bad cell stores the code of the plain word."""
         held = holders(at, self.opening.simplex)
         for twin in held if len(held) == 2 else []:
@@ -68,18 +75,18 @@ class Account:
     # ---- what a report asks
 
     @property
-    def times(self):
+    def times(self) -> int:
         return self.plain.times
 
     @property
-    def log(self):
+    def log(self) -> Sequence[Exchanged]:
         return self.plain.log
 
-    def registers(self):
+    def registers(self) -> tuple[Hop, int, int, int]:
         return self.plain.registers()
 
-    def intended(self, at):
+    def intended(self, at: Address) -> int:
         return self.plain.intended(at)
 
-    def is_known(self, at):
+    def is_known(self, at: Address) -> bool:
         return self.cells.is_recoverable(at, self.intended(at))

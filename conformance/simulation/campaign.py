@@ -2,17 +2,20 @@
 import re
 
 from .assembler import NAME
-from .decks import MOST_EVENTS, read_deck
+from .decks import MOST_EVENTS, Deck, read_deck
 from .devices import of_the_program
-from .faults import read_fault
+from .ends import End
+from .faults import Event, read_fault
 from .lines import BLANKS, LIMIT, Refused, find_end, is_comment, spot, tokens_of
 from .plain import Plain
 from .voted import Voted
 
 MOST_TIMES, MOST_SCRIPTS = 10_000, 256
 
+Script = tuple[str, list[Event]]
 
-def find_campaign(lines):
+
+def find_campaign(lines: list[str]) -> int:
     """The index of the line CAMPAIGN, or how many lines there are."""
     begin = next((k for k, line in enumerate(lines) if not is_comment(line)), len(lines))
     end = find_end(lines, begin)
@@ -22,7 +25,7 @@ def find_campaign(lines):
     return next(found, len(lines))
 
 
-def read_campaign(lines):
+def read_campaign(lines: list[str]) -> tuple[Deck, list[Script]]:
     """The deck before CAMPAIGN, and (name, script) of each script."""
     at = find_campaign(lines)
     deck = read_deck(lines[:at], of_the_program())
@@ -30,10 +33,11 @@ def read_campaign(lines):
     if barred:
         raise Refused("BadSection", min(barred))
     if deck.count > MOST_TIMES:
-        raise Refused("CountTooLarge", deck.count_line)
+        raise Refused("CountTooLarge", deck.headings["RUN"])
     if at == len(lines):
         raise Refused("BadSection", len(lines) + 1)
-    scripts, events = [], 0
+    scripts: list[Script] = []
+    events = 0
     for k in range(at + 1, len(lines)):
         if len(lines[k]) > LIMIT:
             raise Refused("BadLine", k + 1)
@@ -43,7 +47,7 @@ def read_campaign(lines):
     return deck, scripts
 
 
-def read_line(scripts, line, number, events):
+def read_line(scripts: list[Script], line: str, number: int, events: int) -> int:
     """Reads a line after CAMPAIGN. Answers how many events it is."""
     tokens = tokens_of(line)
     if tokens[0] == "SCRIPT":
@@ -63,19 +67,22 @@ def read_line(scripts, line, number, events):
     return 1
 
 
-def is_same(voted, plain):
+def is_same(voted: Voted, plain: Plain) -> bool:
+    """Has the voted machine come to what the plain one has come to?"""
     words = set(voted.words) | set(plain.memory)
     return (voted.end == plain.end and voted.times == plain.times and voted.registers() == plain.registers()
             and voted.log == plain.log and all(voted.intended(at) == plain.intended(at) for at in words))
 
 
-def verdict(end):
-    if end is None or end[0] != "INADMISSIBLE":
+def verdict(end: End | None) -> str:
+    """The verdict of a script whose guarded run ended so."""
+    if end is None or end.word != "INADMISSIBLE":
         return "ADMISSIBLE"
-    return "%s %d %s" % (end[2], end[1], spot(end[3]) if end[2] == "MEMORY" else end[3])
+    return "%s %d %s" % (end.cause, end.step, spot(end.at) if end.cause == "MEMORY" else end.module)
 
 
-def campaign(lines):
+def campaign(lines: list[str]) -> str:
+    """The rows of a campaign and their total."""
     deck, scripts = read_campaign(lines)
     plain = Plain(deck.opening, [])
     plain.run(deck.count)

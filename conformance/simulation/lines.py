@@ -1,7 +1,9 @@
 """Lines, tokens, images and refusals (docs/FORMATS.md, "Bytes, lines and numbers" and "Image text")."""
 import re
+from collections.abc import Mapping, Set
+from typing import NoReturn
 
-from .words import Hop, WORD, hop_of, word_of
+from .words import Address, Hop, WORD, hop_of, word_of
 
 LIMIT = 120
 BLANKS = " \t"
@@ -10,15 +12,16 @@ BLANKS = " \t"
 class Refused(Exception):
     """A refusal: its cause, its line, its status."""
 
-    def __init__(self, cause, line, status=2):
+    def __init__(self, cause: str, line: int, status: int = 2) -> None:
         super().__init__(cause)
         self.cause, self.line, self.status = cause, line, status
 
-    def text(self):
+    def text(self) -> str:
+        """The text that is answered."""
         return "REFUSED %s %d\n" % (self.cause, self.line)
 
 
-def lines_of(text):
+def lines_of(text: str) -> list[str]:
     """The lines: each ends with LF, and one CR just before it is dropped. What follows the last LF is a line unless it is empty."""
     pieces = text.split("\n")
     last = pieces.pop()
@@ -26,15 +29,17 @@ def lines_of(text):
     return lines + [last] if last else lines
 
 
-def tokens_of(line):
+def tokens_of(line: str) -> list[str]:
+    """The pieces between blanks."""
     return re.findall(r"[^ \t]+", line)
 
 
-def is_comment(line):
+def is_comment(line: str) -> bool:
+    """Is a line blank, or does it begin with an asterisk?"""
     return line.startswith("*") or not line.strip(BLANKS)
 
 
-def find_end(lines, after):
+def find_end(lines: list[str], after: int) -> int | None:
     """The index of the first line after this one that is END but for blanks around it, or None."""
     return next((k for k in range(after + 1, len(lines)) if lines[k].strip(BLANKS) == "END"), None)
 
@@ -45,15 +50,17 @@ def find_end(lines, after):
 class Image:
     """Words by address; of version 2 a start constant too, and the simplex pairs."""
 
-    def __init__(self, words, start=None, simplex=frozenset()):
+    def __init__(self, words: Mapping[Address, int], start: Hop | None = None, simplex: Set[int] = frozenset()) -> None:
         self.words, self.start, self.simplex = words, start, simplex
 
 
-def spot(at):
+def spot(at: Address) -> str:
+    """An address as it is printed."""
     return "%o %02o %03o" % at
 
 
-def print_image(image):
+def print_image(image: Image) -> str:
+    """The text of an image."""
     lines = ["LVDC 1"]
     if image.start is not None:
         lines = ["LVDC 2", "START %09o" % word_of(image.start)]
@@ -63,14 +70,14 @@ def print_image(image):
     return "\n".join(lines + ["END", ""])
 
 
-def simplex_line(line):
+def simplex_line(line: str) -> frozenset[int] | None:
     """The pairs of an image's SIMPLEX line, or None where the line hasn't that form."""
     found = re.fullmatch(r"SIMPLEX((?: [0-3])+)", line)
-    pairs = found.group(1).split() if found else []
+    pairs = found[1].split() if found else []
     return frozenset(int(pair) for pair in pairs) if pairs and pairs == sorted(set(pairs)) else None
 
 
-def word_line(line, simplex):
+def word_line(line: str, simplex: Set[int]) -> tuple[Address, int] | None:
     """The address and the number of a word line, or None."""
     found = re.fullmatch(r"([0-7]) ([0-7]{2}) ([0-7]{3}) ([0-7]{9})", line)
     if not found:
@@ -81,14 +88,17 @@ def word_line(line, simplex):
     return (bank, sector, loc), word
 
 
-def read_image(lines, first):
+def read_image(lines: list[str], first: int) -> Image:
     """The image of these lines, the first of which has this number."""
-    def refuse(cause, index):
+    def refuse(cause: str, index: int) -> NoReturn:
         raise Refused(cause, first + index, 4)
 
     if not lines or lines[0] not in ("LVDC 1", "LVDC 2"):
         refuse("BadImageLine", 0)
-    at, start, simplex, words, last = 1, None, frozenset(), {}, None
+    at, start = 1, None
+    simplex: frozenset[int] = frozenset()
+    words: dict[Address, int] = {}
+    last: Address | None = None
     if lines[0] == "LVDC 2":
         if len(lines) < 2 or not re.fullmatch(r"START [0-7]{9}", lines[1]):
             refuse("BadImageLine", 1)

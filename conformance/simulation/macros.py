@@ -1,5 +1,6 @@
 """Macros (docs/FORMATS.md, "Macros")."""
 import re
+from typing import NoReturn
 
 from .assembler import NAME, OPERATIONS, assemble, parted
 from .lines import Refused, is_comment, print_image
@@ -8,16 +9,23 @@ MOST_BYTES, MOST_CALLS, MOST_LEVELS = 1_048_576, 999, 16
 
 
 class Expander:
-    def __init__(self, lines):
-        self.lines = lines
-        self.macros, self.calls, self.size = {}, 0, 0
-        self.out, self.origins = [], []
+    """Writes a source with macros out, line by line."""
 
-    def refuse(self, cause, origin):
+    def __init__(self, lines: list[str]) -> None:
+        self.lines = lines
+        self.macros: dict[str, list[str]] = {}
+        self.calls = self.size = 0
+        self.out: list[str] = []
+        self.origins: list[int] = []
+
+    def refuse(self, cause: str, origin: int) -> NoReturn:
+        """Refuses the source at this line of it."""
         raise Refused(cause, origin, 3)
 
-    def expand(self):
-        name, body = None, []
+    def expand(self) -> None:
+        """Reads the definitions and writes out all else."""
+        name: str | None = None
+        body: list[str] = []
         for k, line in enumerate(self.lines):
             label, operation, operand = ("", "", "") if is_comment(line) else parted(line)
             if name is not None:
@@ -35,12 +43,13 @@ class Expander:
         if name is not None:
             self.refuse("BadMacro", len(self.lines) + 1)
 
-    def check_name(self, label, origin):
+    def check_name(self, label: str, origin: int) -> None:
+        """Refuses a macro's name that is none or is taken."""
         taken = label in OPERATIONS or label in ("EXM", "MACRO", "MEND") or label in self.macros
         if not re.fullmatch(NAME, label) or taken:
             self.refuse("BadMacro", origin)
 
-    def line(self, line, origin, level):
+    def line(self, line: str, origin: int, level: int) -> None:
         """Expands a line outside of definitions; a call in it is on this level."""
         label, operation, operand = ("", "", "") if is_comment(line) else parted(line)
         if operation in ("MACRO", "MEND"):
@@ -54,7 +63,8 @@ class Expander:
         self.out.append(line)
         self.origins.append(origin)
 
-    def call(self, label, body, operand, origin, level):
+    def call(self, label: str, body: list[str], operand: str, origin: int, level: int) -> None:
+        """Writes out a call."""
         arguments = operand.split(",") if operand else []
         if label or len(arguments) > 9:
             self.refuse("BadMacro", origin)
@@ -66,16 +76,17 @@ class Expander:
         put = {"&0": "%03d" % self.calls}
         put.update({"&%d" % k: arguments[k - 1] if k <= len(arguments) else "" for k in range(1, 10)})
         for line in body:
-            self.line(re.sub("&[0-9]", lambda found: put[found.group()], line), origin, level + 1)
+            self.line(re.sub("&[0-9]", lambda found: put[found[0]], line), origin, level + 1)
 
 
-def expansion(lines):
+def expansion(lines: list[str]) -> Expander:
+    """The expansion of a source."""
     expander = Expander(lines)
     expander.expand()
     return expander
 
 
-def image_of_expansion(lines):
+def image_of_expansion(lines: list[str]) -> str:
     """The text of the image of the expansion; a refusal names the line of the source that it came from."""
     expander = expansion(lines)
     try:

@@ -1,69 +1,141 @@
 """The seven modules and the arithmetic unit (docs/MACHINE.md, "The arithmetic unit" and "The seven modules")."""
-from collections import namedtuple
+from typing import NamedTuple
 
-from .words import (MEANINGLESS, MEMORY, PQ, SAVER, TAKES_OPERAND, WORD, after, decode, hop_of, jumped, operand_kind,
+from .words import (Hop, MEANINGLESS, PQ, SAVER, TAKES_OPERAND, WORD, after, decode, hop_of, jumped, operand_kind,
                     operand_sector, right, shifted, signed, syllable_at, with_data, word_of)
 
-Timer = namedtuple("Timer", "phase hold")
-Locator = namedtuple("Locator", "place saver")
-Decoder = namedtuple("Decoder", "instr")
-Selector = namedtuple("Selector", "data")
-Accumulator = namedtuple("Accumulator", "a operand")
-Multiplier = namedtuple("Multiplier", "pq control m h q")
-Exchange = namedtuple("Exchange", "stop request")
-KINDS = [Timer, Locator, Decoder, Selector, Accumulator, Multiplier, Exchange]
-LATCHES = [len(kind._fields) for kind in KINDS]
+
+class Timer(NamedTuple):
+    """The latches of module 1."""
+    phase: int
+    hold: int
+
+
+class Locator(NamedTuple):
+    """The latches of module 2."""
+    place: int
+    saver: int
+
+
+class Decoder(NamedTuple):
+    """The latch of module 3."""
+    instr: int
+
+
+class Selector(NamedTuple):
+    """The latch of module 4."""
+    data: int
+
+
+class Accumulator(NamedTuple):
+    """The latches of module 5."""
+    a: int
+    operand: int
+
+
+class Multiplier(NamedTuple):
+    """The latches of module 6."""
+    pq: int
+    control: int
+    m: int
+    h: int
+    q: int
+
+
+class Exchange(NamedTuple):
+    """The latches of module 7."""
+    stop: int
+    request: int
+
+
+class Bus(NamedTuple):
+    """What each copy hears of the seven modules."""
+    timer: Timer
+    locator: Locator
+    decoder: Decoder
+    selector: Selector
+    accumulator: Accumulator
+    multiplier: Multiplier
+    exchange: Exchange
+
+
+Latches = tuple[int, ...]
+LATCHES = [len(fields) for fields in (Timer._fields, Locator._fields, Decoder._fields, Selector._fields, Accumulator._fields,
+                                     Multiplier._fields, Exchange._fields)]
+
+
+def bus_of(states: list[Latches]) -> Bus:
+    """The bus of these latches, module by module."""
+    timer, locator, decoder, selector, accumulator, multiplier, exchange = states
+    return Bus(Timer(*timer), Locator(*locator), Decoder(*decoder), Selector(*selector), Accumulator(*accumulator),
+               Multiplier(*multiplier), Exchange(*exchange))
+
 
 # ---- what a module sees of a bus: the seven states
 
 
-def phase(bus):
-    return min(bus[0].phase % 4, 2)
+def phase(bus: Bus) -> int:
+    """The phase of the votes: 0, 1 or 2."""
+    return min(bus.timer.phase % 4, 2)
 
 
-def hold(bus):
-    return bus[0].hold % 8
+def hold(bus: Bus) -> int:
+    """How many times are still to be passed over."""
+    return bus.timer.hold % 8
 
 
-def instruction(bus):
-    return decode(bus[2].instr % 2**13)
+def instruction(bus: Bus) -> tuple[str, int]:
+    """The operation and the nine address bits."""
+    return decode(bus.decoder.instr % 2**13)
 
 
-def here(bus):
+def here(bus: Bus) -> Hop:
     """The instruction fields of PLACE with the data fields of DATA."""
-    data = hop_of(bus[3].data)
-    return hop_of(bus[1].place)._replace(dmod=data.dmod, dsec=data.dsec, dupdn=data.dupdn)
+    data = hop_of(bus.selector.data)
+    return hop_of(bus.locator.place)._replace(dmod=data.dmod, dsec=data.dsec, dupdn=data.dupdn)
 
 
-def is_executing(bus):
+def is_executing(bus: Bus) -> bool:
+    """Is an instruction carried out in this phase?"""
     return phase(bus) == 2 and hold(bus) == 0
 
 
-def place_fields(hop):
+def place_fields(hop: Hop) -> int:
+    """PLACE: the word without the data fields."""
     return word_of(hop._replace(dmod=0, dsec=0, dupdn=0))
 
 
-def data_fields(hop):
+def data_fields(hop: Hop) -> int:
+    """DATA: the word of the data fields alone."""
     return word_of(hop._replace(imod=0, isec=0, syl=0, loc=0, dupin=0))
 
 
-def is_taken(bus, name):
-    a = bus[4].a
+def is_taken(bus: Bus, name: str) -> bool:
+    """Does the instruction transfer?"""
+    a = bus.accumulator.a
     return name in ("HOP", "TRA") or (name == "TNZ" and a != 0) or (name == "TMI" and a >= WORD // 2)
 
 
 # ---- the arithmetic unit: CONTROL has the kind in bits 1-0, the phases left in bits 6-2, NEG in bit 7, SAT in bit 8
 
-Unit = namedtuple("Unit", "control m h q")
+
+class Unit(NamedTuple):
+    """The latches that the arithmetic unit works on."""
+    control: int
+    m: int
+    h: int
+    q: int
 
 
-def issued(name, a, operand):
+def issued(name: str, a: int, operand: int) -> Unit:
+    """The unit as a multiply or a divide begins."""
     if name == "DIV":
         return Unit(3 | 24 << 2, right(operand, 2), right(a, 2), 0)
     return Unit((2 if name == "MPH" else 1) | 12 << 2, right(operand, 2), 0, a // 4)
 
 
-def multiplied(unit, left):
+def multiplied(unit: Unit, left: int) -> Unit:
+    """A phase of a multiply."""
     digit = unit.q % 4
     if left == 1 and digit >= 2:
         digit -= 4
@@ -71,7 +143,8 @@ def multiplied(unit, left):
     return unit._replace(h=right(total, 2), q=(unit.q % 2**24) // 4 + (total % 4) * 2**22)
 
 
-def divided(unit, left):
+def divided(unit: Unit, left: int) -> Unit:
+    """A phase of a divide."""
     if left == 24:
         h, m = signed(unit.h), signed(unit.m)
         negative, saturated = (h < 0) != (m < 0), abs(h) >= abs(m)
@@ -83,7 +156,8 @@ def divided(unit, left):
     return unit._replace(h=double, q=2 * unit.q % WORD)
 
 
-def result(unit, kind):
+def result(unit: Unit, kind: int) -> int:
+    """What lands."""
     if kind != 3:
         return (8 * unit.h + unit.q // 2**21) % WORD
     negative, saturated = unit.control >> 7 & 1, unit.control >> 8 & 1
@@ -92,7 +166,7 @@ def result(unit, kind):
     return (-4 * unit.q if negative else 4 * unit.q) % WORD
 
 
-def worked(unit):
+def worked(unit: Unit) -> tuple[Unit, int | None]:
     """One phase of the unit: its latches after it, and what lands, or None."""
     kind, left = unit.control & 3, unit.control >> 2 & 31
     if kind == 0 or left == 0:
@@ -105,42 +179,47 @@ def worked(unit):
 # ---- the rows
 
 
-def next_timer(bus):
+def next_timer(bus: Bus) -> Timer:
+    """The row of TIMER."""
     following = (1, 2, 0)[phase(bus)]
     if phase(bus) != 2:
-        return Timer(following, bus[0].hold)
+        return Timer(following, bus.timer.hold)
     if hold(bus):
         return Timer(following, hold(bus) - 1)
     return Timer(following, 4 if instruction(bus)[0] == "MPH" else 0)
 
 
-def next_locator(bus):
+def next_locator(bus: Bus) -> Locator:
+    """The row of LOCATOR."""
     name, address = instruction(bus)
     if not is_executing(bus) or name in (MEANINGLESS, "EXM"):
-        return bus[1]
+        return bus.locator
     following = after(here(bus))
     if not is_taken(bus, name):
-        return bus[1]._replace(place=place_fields(following))
-    to = hop_of(bus[4].operand) if name == "HOP" else jumped(here(bus), address)
+        return bus.locator._replace(place=place_fields(following))
+    to = hop_of(bus.accumulator.operand) if name == "HOP" else jumped(here(bus), address)
     return Locator(place_fields(to), word_of(following))
 
 
-def next_decoder(bus, memory):
+def next_decoder(bus: Bus, memory: int) -> Decoder:
+    """The row of DECODER."""
     if phase(bus) == 0 and hold(bus) == 0:
         return Decoder(syllable_at(here(bus), memory))
-    return bus[2]
+    return bus.decoder
 
 
-def next_selector(bus):
+def next_selector(bus: Bus) -> Selector:
+    """The row of SELECTOR."""
     name, address = instruction(bus)
     if is_executing(bus) and name == "HOP":
-        return Selector(data_fields(hop_of(bus[4].operand)))
+        return Selector(data_fields(hop_of(bus.accumulator.operand)))
     if is_executing(bus) and name == "CDS":
         return Selector(data_fields(with_data(here(bus), address)))
-    return bus[3]
+    return bus.selector
 
 
-def accumulated(name, address, a, m, port):
+def accumulated(name: str, address: int, a: int, m: int, port: int) -> int:
+    """What an instruction leaves in A."""
     if name == "PIO":
         return port if address >> 8 else a
     if name == "SHF":
@@ -148,33 +227,35 @@ def accumulated(name, address, a, m, port):
     return {"SUB": (a - m) % WORD, "RSU": (m - a) % WORD, "ADD": (a + m) % WORD, "AND": a & m, "XOR": a ^ m, "CLA": m}.get(name, a)
 
 
-def next_accumulator(bus, memory, port):
+def next_accumulator(bus: Bus, memory: int, port: int) -> Accumulator:
+    """The row of ACCUMULATOR."""
     name, address = instruction(bus)
-    a, operand = bus[4]
+    a, operand = bus.accumulator
     if phase(bus) == 1 and hold(bus) == 0 and name in TAKES_OPERAND:
-        operand = bus[5].pq if operand_kind(address) == PQ else memory
+        operand = bus.multiplier.pq if operand_kind(address) == PQ else memory
     if is_executing(bus):
         a = accumulated(name, address, a, operand, port)
-    landed = worked(Unit(*bus[5][1:]))[1]
-    if landed is not None and bus[5].control & 3 == 2:
+    landed = worked(Unit(*bus.multiplier[1:]))[1]
+    if landed is not None and bus.multiplier.control & 3 == 2:
         a = landed
     return Accumulator(a, operand)
 
 
-def next_multiplier(bus):
+def next_multiplier(bus: Bus) -> Multiplier:
+    """The row of MULTIPLIER."""
     name, address = instruction(bus)
-    unit, landed = worked(Unit(*bus[5][1:]))
-    pq = bus[5].pq
+    unit, landed = worked(Unit(*bus.multiplier[1:]))
+    pq = bus.multiplier.pq
     if landed is not None:
         pq, unit = landed, unit._replace(control=0)
     if is_executing(bus) and name == "STO" and operand_kind(address) == PQ:
-        pq, unit = bus[4].a, unit._replace(control=0)
+        pq, unit = bus.accumulator.a, unit._replace(control=0)
     if is_executing(bus) and name in ("MPY", "MPH", "DIV"):
-        unit = issued(name, bus[4].a, bus[4].operand)
+        unit = issued(name, bus.accumulator.a, bus.accumulator.operand)
     return Multiplier(pq, *unit)
 
 
-def request(bus):
+def request(bus: Bus) -> int:
     """What an instruction asks for, as a word: bits 2-0 the kind, 10-3 location or port, 14-11 the sector, 17-15 the module."""
     name, address = instruction(bus)
     if name == "PIO":
@@ -186,15 +267,16 @@ def request(bus):
     return kind | (address & 255) << 3 | operand_sector(hop, address) << 11 | (hop.dmod >> 1) << 15 | (hop.dmod & 1) << 17
 
 
-def next_exchange(bus):
+def next_exchange(bus: Bus) -> Exchange:
+    """The row of EXCHANGE."""
     asked = request(bus) if phase(bus) == 1 and hold(bus) == 0 else 0
-    stop, name = bus[6].stop, instruction(bus)[0]
+    stop, name = bus.exchange.stop, instruction(bus)[0]
     if is_executing(bus):
         stop = {MEANINGLESS: 1, "EXM": 2}.get(name, stop)
     return Exchange(stop, asked)
 
 
-def next_states(bus, memory, port):
+def next_states(bus: Bus, memory: int, port: int) -> Bus:
     """What each of the seven latches from this bus."""
-    return [next_timer(bus), next_locator(bus), next_decoder(bus, memory), next_selector(bus), next_accumulator(bus, memory, port),
-            next_multiplier(bus), next_exchange(bus)]
+    return Bus(next_timer(bus), next_locator(bus), next_decoder(bus, memory), next_selector(bus), next_accumulator(bus, memory, port),
+               next_multiplier(bus), next_exchange(bus))

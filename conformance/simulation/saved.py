@@ -1,21 +1,25 @@
 """Saved texts (docs/FORMATS.md, "Saved text")."""
 import re
+from collections.abc import Callable
+from typing import NoReturn
 
-from .decks import MOST_EVENTS, MOST_ORDERS, MOST_TIMES, Opening
-from .devices import at_port, unplug
-from .faults import octal, plain_decimal, print_fault, read_fault, read_order
+from .decks import MOST_EVENTS, MOST_ORDERS, MOST_TIMES, Deck
+from .devices import Device, at_port, unplug
+from .ends import Opening
+from .faults import Event, Script, plain_decimal, print_fault, read_fault, read_order
 from .lines import DEFAULT_START, Refused, simplex_line, spot
-from .modules import KINDS, LATCHES
+from .modules import LATCHES, Latches, bus_of
 from .report import log_lines, repair_lines, text_of
 from .voted import Voted, voted
-from .words import WORD, ZERO
+from .words import WORD, ZERO, Address
 
 PLAIN_ORDER = "ABCDEFGHIJKLMNOPQRSTU"
 
 # ---- what is printed
 
 
-def print_saved(machine, deck):
+def print_saved(machine: Voted, deck: Deck) -> str:
+    """The saved text of a machine that stands between two times of a deck."""
     lines = ["LVDC SAVE 1", "STEPS %d" % machine.steps, "COUNT %d" % deck.count]
     if machine.opening.simplex:
         lines.append("SIMPLEX" + "".join(" %d" % pair for pair in sorted(machine.opening.simplex)))
@@ -47,30 +51,41 @@ UNPLUG = re.compile(r"UNPLUG ([0-7]{3}) (\d+)")
 class Reader:
     """Reads a saved text into a voted machine, line by line; the first fault is the refusal."""
 
-    def __init__(self, lines, devices):
+    def __init__(self, lines: list[str], devices: list[Device]) -> None:
         self.lines, self.devices, self.at = lines, devices, 0
-        self.states, self.unplugs, self.script, self.orders = [], [], [], []
+        self.steps = self.count = 0
+        self.simplex: frozenset[int] = frozenset()
+        self.machine = Voted(Opening({}, frozenset(), DEFAULT_START, []), [], devices, True)
+        self.states: list[tuple[int, int, int]] = []
+        self.unplugs: list[tuple[int, int]] = []
+        self.script: list[Event] = []
+        self.orders: list[str] = []
 
-    def refuse(self, cause="BadSave"):
+    def refuse(self, cause: str = "BadSave") -> NoReturn:
+        """Refuses the text at this line."""
         raise Refused(cause, self.at + 1)
 
-    def line(self):
+    def line(self) -> str:
+        """The line at hand."""
         if self.at == len(self.lines):
             self.refuse()
         return self.lines[self.at]
 
-    def need(self, holds, cause="BadSave"):
+    def need(self, holds: bool, cause: str = "BadSave") -> None:
+        """Refuses the text where something doesn't hold."""
         if not holds:
             self.refuse(cause)
 
-    def number(self, word, most):
+    def number(self, word: str, most: int) -> int:
         """The decimal of a line of this word and one number."""
         found = re.fullmatch(word + " (\\S+)", self.line())
-        number = plain_decimal(found.group(1)) if found else None
-        self.need(number is not None and number <= most)
+        number = plain_decimal(found[1]) if found else None
+        if number is None or number > most:
+            self.refuse()
         return number
 
-    def read(self):
+    def read(self) -> Voted:
+        """The machine that the text means."""
         self.need(self.line() == "LVDC SAVE 1")
         self.at += 1
         self.steps = self.number("STEPS", 3 * MOST_TIMES)
@@ -90,114 +105,130 @@ class Reader:
         self.read_lists()
         return self.machine
 
-    def read_copies(self):
-        for m, kind in enumerate(KINDS):
-            states = []
+    def read_copies(self) -> None:
+        """The 21 lines COPY."""
+        for m in range(7):
+            states: list[Latches] = []
             for c in range(3):
-                states.append(self.copy(m, c, kind))
+                states.append(self.copy(m, c))
                 if m in (0, 6):
                     self.need(self.is_whole(states))
                 self.at += 1
             self.machine.copies[m] = states
-            self.machine.votes[m] = voted(*states)
+        self.machine.votes = bus_of([voted(one, two, three) for one, two, three in self.machine.copies])
 
-    def copy(self, m, c, kind):
+    def copy(self, m: int, c: int) -> Latches:
+        """The latches of a line COPY."""
         found = re.fullmatch(r"COPY %d %d (\S+)((?: [0-7]{9}){%d})" % (m + 1, c + 1, LATCHES[m]), self.line())
-        count = plain_decimal(found.group(1)) if found else None
-        self.need(count is not None and count <= self.steps)
-        latches = [int(text, 8) for text in found.group(2).split()]
+        count = plain_decimal(found[1]) if found else None
+        if found is None or count is None or count > self.steps:
+            self.refuse()
+        latches = tuple(int(text, 8) for text in found[2].split())
         self.need(all(latch < WORD for latch in latches))
         self.machine.differed[m][c] = count
-        return kind(*latches)
+        return latches
 
     @staticmethod
-    def is_whole(states):
+    def is_whole(states: list[Latches]) -> bool:
         """The copies read so far don't make latch 0 of the vote other than 0 modulo 4."""
         firsts = [state[0] % 4 for state in states]
         pairs = [(one, two) for k, one in enumerate(firsts) for two in firsts[:k]]
         return all(one & two == 0 for one, two in pairs)
 
-    def read_select(self):
-        found = re.fullmatch("SELECT ([01]) ([01]) ([01]) ([01])", self.line())
-        self.need(found)
-        self.machine.twins.selected = [int(text) for text in found.groups()]
+    def read_select(self) -> None:
+        """The line SELECT."""
+        self.need(re.fullmatch("SELECT( [01]){4}", self.line()) is not None)
+        self.machine.twins.selected = [int(text) for text in self.line().split()[1:]]
         self.at += 1
 
-    def read_rising(self, form, keep):
-        last = None
-        while form.fullmatch(self.line()):
-            key = keep(*(int(text, 8) for text in form.fullmatch(self.line()).groups()))
-            self.need(last is None or last < key)
+    def read_rising(self, form: re.Pattern[str], keep: Callable[[list[int]], tuple[int, ...]]) -> None:
+        """Lines of this form, whose keys rise."""
+        last: tuple[int, ...] = ()
+        while found := form.fullmatch(self.line()):
+            key = keep([int(text, 8) for text in found.groups()])
+            self.need(last < key)
             last = key
             self.at += 1
 
-    def is_place(self, at):
+    def is_place(self, at: Address) -> bool:
+        """Is an address there?"""
         bank, sector, loc = at
         return sector < 16 and loc < 256 and (bank < 4 or bank - 4 in self.simplex)
 
-    def cell(self, twin, pair, sector, loc, cell):
+    def cell(self, numbers: list[int]) -> tuple[int, ...]:
+        """A line CELL."""
+        twin, pair, sector, loc, cell = numbers
         self.need(sector < 16 and loc < 256 and cell < 2**28 and cell != ZERO)
         self.machine.twins.keep(twin, (pair, sector, loc), cell)
-        return twin, (pair, sector, loc)
+        return twin, pair, sector, loc
 
-    def word(self, bank, sector, loc, word):
+    def word(self, numbers: list[int]) -> tuple[int, ...]:
+        """A line WORD."""
+        bank, sector, loc, word = numbers
         self.need(self.is_place((bank, sector, loc)) and 0 < word < WORD)
         self.machine.words[bank, sector, loc] = word
         return bank, sector, loc
 
-    def read_lists(self):
+    def read_lists(self) -> None:
         """The log, the repairs, the states, the unplugged devices, the script, the orders, END."""
         for read in (self.logged, self.repair, self.state, self.unplug, self.fault, self.order):
             while read(self.line()):
                 self.at += 1
-        self.need(self.line() == "END" and self.orders)
+        self.need(self.line() == "END" and bool(self.orders))
         self.at += 1
         self.need(self.at == len(self.lines))
-        self.machine.script = type(self.machine.script)(self.script)
+        self.machine.script = Script(self.script)
         if self.steps:
             self.machine.twins.in_force = [event for event in self.machine.script.active(self.steps - 1)
                                            if event.word in ("STICK", "DEAD")]
 
-    def logged(self, line):
+    def logged(self, line: str) -> bool:
+        """A line IN or OUT."""
         found = LOGGED.fullmatch(line)
         if not found:
             return False
-        time, port, word = plain_decimal(found.group(2)), int(found.group(3), 8), int(found.group(4), 8)
+        time, port, word = plain_decimal(found[2]), int(found[3], 8), int(found[4], 8)
         before = self.machine.log[-1][0] if self.machine.log else 0
-        self.need(time is not None and before <= time < self.steps // 3 and port < 256 and word < WORD)
-        self.machine.log.append((time, port, int(found.group(1) == "IN"), word))
+        if time is None or not before <= time < self.steps // 3 or port > 255 or word >= WORD:
+            self.refuse()
+        self.machine.log.append((time, port, int(found[1] == "IN"), word))
         return True
 
-    def repair(self, line):
+    def repair(self, line: str) -> bool:
+        """A line REPAIR."""
         found = REPAIR.fullmatch(line)
         if not found:
             return False
-        step, at = plain_decimal(found.group(1)), tuple(int(text, 8) for text in found.groups()[1:4])
+        step, at = plain_decimal(found[1]), (int(found[2], 8), int(found[3], 8), int(found[4], 8))
         before = self.machine.repairs[-1][0] if self.machine.repairs else -1
-        self.need(step is not None and before < step < self.steps and self.is_place(at))
-        self.machine.repairs.append((step, at, int(found.group(5)), found.group(6) is not None))
+        if step is None or not before < step < self.steps or not self.is_place(at):
+            self.refuse()
+        self.machine.repairs.append((step, at, int(found[5]), found[6] is not None))
         return True
 
-    def state(self, line):
+    def state(self, line: str) -> bool:
+        """A line STATE."""
         found = STATE.fullmatch(line)
         if not found:
             return False
         port, word = (int(text, 8) for text in found.groups())
         self.need(port < 256 and word < WORD and (not self.states or self.states[-1][0] <= port))
         device = at_port(self.devices, port)
-        twice = device is not None and device.kind == "Latch" and self.states and self.states[-1][0] == port
+        twice = device is not None and device.kind == "Latch" and bool(self.states) and self.states[-1][0] == port
         self.need(not twice)
         self.need(device is not None and device.kind != "Ticker", "NoDevice")
         self.states.append((port, word, self.at))
         return True
 
-    def unplug(self, line):
+    def unplug(self, line: str) -> bool:
+        """A line UNPLUG."""
         found = UNPLUG.fullmatch(line)
         if not found:
             return False
-        port, time = int(found.group(1), 8), plain_decimal(found.group(2))
-        self.need(port < 256 and time is not None and time <= MOST_TIMES)
-        known = at_port(self.devices, port) and all(port != other for other, _ in self.unplugs)
+        port, time = int(found[1], 8), plain_decimal(found[2])
+        if port > 255 or time is None or time > MOST_TIMES:
+            self.refuse()
+        known = at_port(self.devices, port) is not None and all(port != other for other, _ in self.unplugs)
         self.need(known, "NoDevice")
         held = [at for other, _, at in self.states if other == port]
         if time < self.steps // 3 and held:
@@ -205,7 +236,8 @@ class Reader:
         self.unplugs.append((port, time))
         return True
 
-    def fault(self, line):
+    def fault(self, line: str) -> bool:
+        """A fault line."""
         event = read_fault(line)
         if event is None or print_fault(event) != line:
             return False
@@ -213,7 +245,8 @@ class Reader:
         self.script.append(event)
         return True
 
-    def order(self, line):
+    def order(self, line: str) -> bool:
+        """An order."""
         if read_order(line) != line:
             return False
         self.need(len(self.orders) < MOST_ORDERS)
@@ -221,7 +254,7 @@ class Reader:
         return True
 
 
-def read_saved(lines, devices):
+def read_saved(lines: list[str], devices: list[Device]) -> tuple[Voted, int]:
     """The machine that a saved text means, its devices with their words; and the deck's count."""
     reader = Reader(lines, devices)
     machine = reader.read()
@@ -230,8 +263,8 @@ def read_saved(lines, devices):
             unplug(devices, [(port, time)], time)
     for port, word, _ in reader.states:
         device = at_port(devices, port)
-        if device.kind == "Tape":
+        if device is not None and device.kind == "Tape":
             device.supply(word)
-        else:
+        elif device is not None:
             device.write(word)
     return machine, reader.count
