@@ -33,16 +33,20 @@ class Machine(Protocol):
     """What each of the machines tells for the first parts of a report."""
 
     @property
-    def opening(self) -> Opening: ...
+    def opening(self) -> Opening:
+        """What it depends on."""
 
     @property
-    def end(self) -> End | None: ...
+    def end(self) -> End | None:
+        """The end, where it has come."""
 
     @property
-    def times(self) -> int: ...
+    def times(self) -> int:
+        """The instruction times that are made."""
 
     @property
-    def log(self) -> Sequence[Exchanged]: ...
+    def log(self) -> Sequence[Exchanged]:
+        """The exchanges with ports."""
 
     def registers(self) -> tuple[Hop, int, int, int]:
         """PLACE with the data fields, A, PQ and SAVER."""
