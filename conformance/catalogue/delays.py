@@ -101,4 +101,13 @@ CASES = [
              "000000014", "325252530"),
     quotient("equal-magnitudes-are-too-large", "A word by its negative isn't below it in magnitude: the least fraction.",
              "100000000", "300000000", "200000000"),
+    product("the-fraction-of-a-negative-factor-is-rounded-down",
+            "-1 is the fraction -1/4, rounded down -1: by a half that is -2 of the lowest bits.", "377777777", "100000000", "377777776"),
+    quotient("the-fraction-of-a-negative-dividend-is-rounded-down",
+             "-1 is the fraction -1/4, rounded down -1: by a half that is -2, and times 4.", "377777777", "100000000", "377777770"),
+    quotient("a-quotient-of-two-negative-words-is-positive", "-1/2 by -1 is 1/2.", "300000000", "200000000", "100000000"),
+    quotient("a-quotient-of-equal-magnitudes-and-signs-is-the-greatest", "1/2 by 1/2 would be 1, which doesn't fit.", "100000000",
+             "100000000", "177777774"),
+    quotient("a-quotient-of-equal-magnitudes-and-two-signs-is-the-lowest", "1/2 by -1/2 is -1.", "100000000", "300000000",
+             "200000000"),
 ]

@@ -95,4 +95,7 @@ CASES = [
          worked=True),
     Case("discretes-by-the-plain-machine", "The same program on the plain machine.", "run --plain", block(WHOLE % SIXTY),
          has="LVDC PLAIN\nEND DONE\nOUT 15 017 000000004\nOUT 32 017 000000014", lacks=["WRONG"]),
+    Case("unplugged-while-the-machine-holds", "A device is taken away at its time in held times too.", "run",
+         deck("MPH holds the times 1 to 4; the tape goes in time 2.", "05000 12400 10002", "", 7, ports="TAPE 000 5\nUNPLUG 000 2"),
+         has="A 000000000\nIN 5 000 000000000"),
 ]

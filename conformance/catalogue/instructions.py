@@ -126,4 +126,11 @@ CASES = [
     Case("any-syllable-is-an-instruction", "Decoding never fails: a word of data that is reached is an instruction too.", "run",
          deck("TRA 410 goes to syllable 1 of location 010, whose word 377777777 is CLA 777 in both syllables.", "10410", "", 2,
               "0 00 010 377777777\n0 17 377 000000012"), has="PLACE 0 00 1 011\nA 000000012"),
+    Case("sums-are-modulo-2-to-the-26", "ADD: -1 and 1 are 0.", "run",
+         deck("The word of all ones and 1.", "17000 07001", "377777777 000000001", 2), has="A 000000000"),
+    Case("a-shift-of-the-least-word", "200000000 is negative: one place to the right keeps its sign.", "run",
+         deck("SHF 001 of the least word.", "17000 16201", "200000000", 2), has="A 300000000"),
+    Case("code-in-sector-17", "A HOP constant has four bits for the sector of an instruction.", "run",
+         deck("HOP 000 goes to sector 17, where CLA 001 stands.", "00000", "036000016 000000044", 2, "0 17 000 000017001"),
+         has="PLACE 0 17 0 001\nA 000000044"),
 ]
