@@ -1,6 +1,7 @@
 //! Image texts, versions 1 and 2: what a memory is filled with before a run, read from lines and printed.
 #![tactic(auto)]
 
+mod address;
 mod entry;
 mod fault;
 mod image;
@@ -9,6 +10,7 @@ mod read;
 mod simplex;
 mod start;
 
+pub use address::put_address;
 pub use fault::ImageFault;
 pub use image::Image;
 pub use print::print_image;

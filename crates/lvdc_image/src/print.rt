@@ -6,6 +6,7 @@ ghost use Rattle.lvdc_image.specs.Reading.{texts, image_of};
 ghost use Rattle.lvdc_image.specs.declared.TheConstants.{LONGEST_IMAGE};
 
 use crate::Image;
+use crate::address::put_address;
 use lvdc_map::{Banks, Hop, Placed};
 use lvdc_text::put_octal;
 use lvdc_word::NoMemory;
@@ -16,11 +17,7 @@ fn put_word(out: &mut Vec<u8>, placed: &Placed) -> Result<(), NoMemory>
     ensures line { OnOk result (out.new.items ≡ out.old.items ++ text_of (word_line placed.now ∷ [])) }
     ensures placed { OnOk result (IsPlaced placed.now) }
 {
-    put_octal(out, u64::from(placed.at.pair), 1)?;
-    out.extend_from_slice(b" ")?;
-    put_octal(out, u64::from(placed.at.sector), 2)?;
-    out.extend_from_slice(b" ")?;
-    put_octal(out, u64::from(placed.at.loc), 3)?;
+    put_address(out, placed.at)?;
     out.extend_from_slice(b" ")?;
     put_octal(out, u64::from(placed.word.value()), 9)?;
     out.extend_from_slice(b"\n")?;
