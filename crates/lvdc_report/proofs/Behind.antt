@@ -14,13 +14,14 @@ use Rattle.lvdc_model.specs.declared.outcome.Outcome.{Outcome}
 use Rattle.lvdc_model.specs.declared.outcome.Outcome.TheVariants.{Done, Stopped, Inadmissible, Device}
 use Rattle.lvdc_model.specs.declared.repair.Repair.{Repair}
 use Rattle.lvdc_model.specs.Exchanges.{begin_step, repair_by, reading, exchanges, wished}
-use Rattle.lvdc_model.specs.Runs.{alone_by, judged_by, own_verdict}
+use Rattle.lvdc_model.specs.Runs.{after_steps, alone_step, alone_by, through_step, through_by, judged_by, own_verdict}
 use Rattle.lvdc_model.specs.Trial.{Trial}
 use Rattle.lvdc_model.specs.Twins.{read_answer}
 use Rattle.lvdc_model.specs.Voted.{Voted}
 use Rattle.lvdc_machine.specs.Resumed.{steps_since, state_from}
 use Rattle.lvdc_machine.specs.Steps.{run_from}
-use Rattle.lvdc_machine.specs.declared.mode.Mode.TheVariants.{Guarded}
+use Rattle.lvdc_machine.specs.declared.mode.Mode.{Mode}
+use Rattle.lvdc_machine.specs.declared.mode.Mode.TheVariants.{Guarded, Through}
 
 -- the log and the repairs of a state begin with these
 pub record IsBehind (log : List Exchange) (repairs : List Repair) (v : Voted) : Type 0 where
@@ -70,21 +71,39 @@ module _ (log : List Exchange) (repairs : List Repair) where
   step-behind (Some e) o v h = h
   step-behind None o v h = judged-behind (own_verdict o (begin_step o v)) o (begin_step o v) (prepared-behind o v h)
 
-  run-behind : (o : Trial) (first : Voted) (n : ℕ) → IsBehind log repairs first → IsBehind log repairs (run_from Guarded o first n)
-  run-behind o first zero h = h
-  run-behind o first (suc n) h = step-behind (run_from Guarded o first n).end o (run_from Guarded o first n) (run-behind o first n h)
+  alone-behind : (o : Trial) (first : Voted) (n : ℕ) → IsBehind log repairs first → IsBehind log repairs (after_steps (alone_step o) first n)
+  alone-behind o first zero h = h
+  alone-behind o first (suc n) h =
+      let v = after_steps (alone_step o) first n in
+      step-behind v.end o v (alone-behind o first n h)
 
-  state-behind : (end : Option Outcome) (o : Trial) (first : Voted) (n : ℕ) → IsBehind log repairs first → IsBehind log repairs (state_from end Guarded o first n)
-  state-behind None o first n h = run-behind o first n h
-  state-behind (Some Done) o first n h = run-behind o first n h
-  state-behind (Some (Stopped step stop)) o first n h = run-behind o first n h
-  state-behind (Some (Inadmissible verdict)) o first n h = run-behind o first n h
-  state-behind (Some (Device step port)) o first n h =
-      let r = run-behind o first (steps_since first.steps step) h in
+  passed-behind : (end : Option Outcome) (o : Trial) (v : Voted) → IsBehind log repairs v → IsBehind log repairs (through_by end o v)
+  passed-behind (Some e) o v h = h
+  passed-behind None o v h = exchanges-behind (wished o (begin_step o v)) o (begin_step o v) (prepared-behind o v h)
+
+  through-behind : (o : Trial) (first : Voted) (n : ℕ) → IsBehind log repairs first → IsBehind log repairs (after_steps (through_step o) first n)
+  through-behind o first zero h = h
+  through-behind o first (suc n) h =
+      let v = after_steps (through_step o) first n in
+      passed-behind v.end o v (through-behind o first n h)
+
+  run-behind : (mode : Mode) (o : Trial) (first : Voted) (n : ℕ) → IsBehind log repairs first → IsBehind log repairs (run_from mode o first n)
+  run-behind Guarded o first n h = alone-behind o first n h
+  run-behind Through o first n h = through-behind o first n h
+
+  state-behind : (end : Option Outcome) (mode : Mode) (o : Trial) (first : Voted) (n : ℕ) → IsBehind log repairs first
+      → IsBehind log repairs (state_from end mode o first n)
+  state-behind None mode o first n h = run-behind mode o first n h
+  state-behind (Some Done) mode o first n h = run-behind mode o first n h
+  state-behind (Some (Stopped step stop)) mode o first n h = run-behind mode o first n h
+  state-behind (Some (Inadmissible verdict)) mode o first n h = run-behind mode o first n h
+  state-behind (Some (Device step port)) mode o first n h =
+      let r = run-behind mode o first (steps_since first.steps step) h in
       record { exchanges = r.exchanges; log_is = r.log_is; mended = r.mended; repairs_is = r.repairs_is }
 
 -- whatever end a machine has come to
-pub state_from_behind : (end : Option Outcome) (o : Trial) (first : Voted) (n : ℕ) → IsBehind first.log first.repairs (state_from end Guarded o first n)
-state_from_behind end o first n =
-    state-behind first.log first.repairs end o first n
+pub state_from_behind : (end : Option Outcome) (mode : Mode) (o : Trial) (first : Voted) (n : ℕ)
+    → IsBehind first.log first.repairs (state_from end mode o first n)
+state_from_behind end mode o first n =
+    state-behind first.log first.repairs end mode o first n
     (record { exchanges = []; log_is = sym (append-nil first.log); mended = []; repairs_is = sym (append-nil first.repairs) })

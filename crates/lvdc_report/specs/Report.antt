@@ -1,5 +1,5 @@
 -- The texts of a run. Each line ends with LF.
-use Rattle.std.specs.Prelude.{ℕ, zero, suc, Bool, true, false, ◌==◌, List, [], ◌∷◌, ◌++◌, codes, decimal, if◌then◌else◌}
+use Rattle.std.specs.Prelude.{ℕ, zero, suc, ◌<◌, ◌^◌, Bool, true, false, ◌==◌, List, [], ◌∷◌, ◌++◌, codes, decimal, if◌then◌else◌}
 use Rattle.lvdc_map.specs.Address.{Spot, spot_at}
 use Rattle.lvdc_map.specs.Banks.{is_there}
 use Rattle.lvdc_map.specs.Hop.{HopConstant}
@@ -16,6 +16,7 @@ use Rattle.lvdc_fault.specs.declared.verdict.Verdict.TheVariants as verdicts
 use Rattle.lvdc_model.specs.declared.outcome.Outcome.{Outcome}
 use Rattle.lvdc_model.specs.declared.outcome.Outcome.TheVariants.{Done, Stopped, Inadmissible, Device}
 use Rattle.lvdc_text.specs.Numbers.{octal_text}
+use Rattle.lvdc_image.specs.Image.{spot_text}
 use Rattle.lvdc_report.specs.declared.title.Title.{Title}
 use Rattle.lvdc_report.specs.declared.title.Title.TheVariants.{Run, Plain, Through}
 
@@ -24,10 +25,6 @@ abbrev pub title_line : Title → List ℕ
 title_line Run = codes "LVDC RUN\n"
 title_line Plain = codes "LVDC PLAIN\n"
 title_line Through = codes "LVDC THROUGH\n"
-
--- an address: bank, sector and location in one, two and three octal digits
-abbrev pub spot_text : Spot → List ℕ
-spot_text at = octal_text 1 at.pair ++ codes " " ++ octal_text 2 at.sector ++ codes " " ++ octal_text 3 at.loc
 
 -- ---- the end
 
@@ -108,6 +105,11 @@ direction reading = if reading then codes "IN " else codes "OUT "
 abbrev pub exchange_line : Exchange → List ℕ
 exchange_line e =
     direction e.reading ++ decimal e.time ++ codes " " ++ octal_text 3 e.port ++ codes " " ++ octal_text 9 e.word ++ codes "\n"
+
+-- the port and the word of an exchange are in their ranges
+pub record IsInRange (e : Exchange) : Type 0 where
+  pub port : e.port < 2 ^ 8
+  pub word : e.word < 2 ^ 26
 
 -- the lines of the log in its order
 abbrev pub log_text : List Exchange → List ℕ

@@ -24,7 +24,8 @@ use Rattle.lvdc_plain.specs.declared.records.Exchange.{Exchange}
 use Rattle.lvdc_plain.specs.declared.records.Unplug.{Unplug}
 use Rattle.lvdc_model.specs.declared.repair.Repair.{Repair}
 use Rattle.lvdc_machine.specs.declared.snapshot.Snapshot.{Snapshot}
-use Rattle.lvdc_report.specs.Report.{lines_of, direction, spot_text}
+use Rattle.lvdc_image.specs.Image.{spot_text}
+use Rattle.lvdc_report.specs.Report.{lines_of, direction}
 use Rattle.lvdc_report.specs.Voted.{switch_text}
 use Rattle.lvdc_machine.specs.Snapshot.{IsWhole}
 use Rattle.lvdc_save.specs.Bounded.{IsBounded}

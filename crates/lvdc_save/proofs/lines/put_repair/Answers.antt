@@ -2,7 +2,7 @@
 use Rattle.std.proofs.Common.{◌≡◌, ℕ, List, ◌++◌, ap, ◌∙◌, append_assoc}
 use Rattle.std.specs.Prelude.{codes, decimal}
 use Rattle.lvdc_model.specs.declared.repair.Repair.{Repair}
-use Rattle.lvdc_report.specs.Report.{spot_text}
+use Rattle.lvdc_image.specs.Image.{spot_text}
 use Rattle.lvdc_report.specs.Voted.{switch_text, repair_line}
 use Rattle.lvdc_save.specs.Lines.{number_after, spot_after}
 use Rattle.lvdc_save.proofs.lines.put_repair.Goals as goal
