@@ -1,7 +1,7 @@
 use Rattle.std.proofs.Common.{◌≡◌, ℕ, List, [], ◌∷◌, ◌++◌, ap, ◌∙◌, append_assoc, arith}
 use Rattle.lvdc_map.specs.declared.placed.Placed.{Placed}
 use Rattle.lvdc_text.specs.Numbers.{octal_text}
-use Rattle.lvdc_image.specs.Image.{IsPlaced, spot_text, word_line, text_of}
+use Rattle.lvdc_image.specs.Image.{spot_text, word_line, text_of}
 use Rattle.lvdc_image.proofs.print.put_word.Goals as goal
 
 -- the parts of a word's line, each after the one before it
