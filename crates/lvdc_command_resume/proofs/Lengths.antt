@@ -26,7 +26,7 @@ use Rattle.lvdc_report.specs.declared.report.TheConstants.{LONGEST_REPORT}
 use Rattle.lvdc_report.specs.declared.title.Title.TheVariants.{Run}
 use Rattle.lvdc_report.proofs.Noted.{IsNoted, state_from_noted}
 use Rattle.lvdc_report.proofs.Sizes.{decimal_short, byte_short, step_short}
-use Rattle.lvdc_save.specs.declared.TheConstants.{MOST_TIMES}
+use Rattle.lvdc_fault.specs.Events.{TIMES}
 use Rattle.lvdc_command_resume.specs.Room.{noted_size}
 use Rattle.lvdc_command_resume.proofs.Behind.{IsBehind, state_from_behind}
 
@@ -130,7 +130,7 @@ short-repairs : (steps : ℕ) (repairs : List Repair) → steps < 10 ^ 7 → All
     → All (λ (r : Repair). r.step < 10 ^ 7 → length (repair_line r) ≤ 35) repairs → All (λ (r : Repair). length (repair_line r) ≤ 35) repairs
 short-repairs steps repairs few below short = λ k d within. let early = below k d within in short k d within (omega (arith, few, early))
 
-pub report-short : (o : Trial) (first v : Voted) → IsBehind first.log first.repairs v → IsNoted first v → v.steps / 3 ≤ MOST_TIMES
+pub report-short : (o : Trial) (first v : Voted) → IsBehind first.log first.repairs v → IsNoted first v → v.steps / 3 ≤ TIMES
     → length (end_text (answer_of_end v.end)) ≤ 65
     → All (λ (e : Exchange). length (exchange_line e) ≤ 39) v.log
     → All (λ (r : Repair). r.step < 10 ^ 7 → length (repair_line r) ≤ 35) v.repairs
@@ -176,13 +176,13 @@ pub report-of-machine : (o : Trial) (first : Voted) (n : ℕ) (m : View) (ds : L
     → (end : Outcome) → end ≡ answer_of_end m.end → length (end_text end) ≤ 65
     → (log : List Exchange) → log ≡ m.log → All (λ (e : Exchange). length (exchange_line e) ≤ 39) log
     → (repairs : List Repair) → repairs ≡ m.repairs → All (λ (r : Repair). r.step < 10 ^ 7 → length (repair_line r) ≤ 35) repairs
-    → length (wrong_text m.counts) ≤ 1449 → m.steps / 3 ≤ MOST_TIMES
+    → length (wrong_text m.counts) ≤ 1449 → m.steps / 3 ≤ TIMES
     → length (voted_text Run o (state_from m.end Guarded o first n)) < LONGEST_REPORT + noted_size first.log first.repairs
 report-of-machine o first n m ds mode stands below end end_is short log log_is exchanges repairs repairs_is mended wrong few =
     let v = state_from m.end Guarded o first n in
     let s : Shows o m ds v = subst (λ (k : Mode). Shows o m ds (state_from m.end k o first n)) mode stands.shows in
     report-short o first v (state_from_behind m.end o first n) (state_from_noted first below m.end Guarded o n)
-    (subst (λ (k : ℕ). k / 3 ≤ MOST_TIMES) s.steps few)
+    (subst (λ (k : ℕ). k / 3 ≤ TIMES) s.steps few)
     (subst (λ (e : Outcome). length (end_text e) ≤ 65) (end_is ∙ ap answer_of_end s.end) short)
     (subst (All (λ (e : Exchange). length (exchange_line e) ≤ 39)) (log_is ∙ s.log) exchanges)
     (subst (All (λ (r : Repair). r.step < 10 ^ 7 → length (repair_line r) ≤ 35)) (repairs_is ∙ s.repairs) mended)

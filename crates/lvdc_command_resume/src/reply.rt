@@ -30,7 +30,7 @@ use lvdc_machine::{Mode, resumed_goes_on};
 use lvdc_port::PortDevice;
 use lvdc_reply::{Reply, refusal};
 use lvdc_save::{SaveFault, Saved};
-use lvdc_saved_lines::read_saved;
+use lvdc_save_read::read_saved;
 use lvdc_text::put_octal;
 use lvdc_word::{NoMemory, Seq};
 use std::alloc::Global;

@@ -12,7 +12,7 @@ ghost use Rattle.lvdc_report.specs.Report.{verdict_text, end_text, exchange_line
 ghost use Rattle.lvdc_report.specs.Voted.{repair_line, wrong_lines, wrong_text, voted_text};
 ghost use Rattle.lvdc_report.specs.declared.report.TheConstants.{LONGEST_REPORT};
 ghost use Rattle.lvdc_report.specs.declared.title.Title.TheVariants.{Run};
-ghost use Rattle.lvdc_save.specs.declared.TheConstants.{MOST_TIMES};
+ghost use Rattle.lvdc_fault.specs.Events.{TIMES};
 ghost use Rattle.lvdc_command_resume.specs.Room.{noted_size};
 
 use lvdc_fault::Verdict;
@@ -116,7 +116,7 @@ fn copies_are_short(machine: &Machine)
 
 /// The whole times that a machine has made.
 fn times_are_few(machine: &Machine)
-    ensures { machine.now.steps / 3 ≤ MOST_TIMES }
+    ensures { machine.now.steps / 3 ≤ TIMES }
 {
     machine.visible();
 }

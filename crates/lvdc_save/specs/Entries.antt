@@ -10,7 +10,7 @@ use Rattle.lvdc_text.specs.Numbers.{word_in}
 use Rattle.lvdc_fault.specs.declared.event.Event.{Event}
 use Rattle.lvdc_script_lines.specs.Fields.{decimal_in, octal_in, place_in}
 use Rattle.lvdc_script_lines.specs.Lines.{fault_in, order_in}
-use Rattle.lvdc_save.specs.declared.TheConstants.{MOST_TIMES}
+use Rattle.lvdc_fault.specs.Events.{TIMES}
 use Rattle.lvdc_save.specs.declared.entry.Entry.{Entry}
 use Rattle.lvdc_save.specs.declared.entry.Entry.TheVariants as says
 use Rattle.lvdc_save.specs.Lines.{entry_line}
@@ -19,11 +19,11 @@ use Rattle.lvdc_save.specs.Lines.{entry_line}
 
 -- a number of steps made: up to three for each time
 abbrev pub steps_in : List ℕ → Option ℕ
-steps_in token = decimal_in 0 (3 * MOST_TIMES + 1) token
+steps_in token = decimal_in 0 (3 * TIMES + 1) token
 
 -- a number of times
 abbrev pub times_in : List ℕ → Option ℕ
-times_in token = decimal_in 0 (MOST_TIMES + 1) token
+times_in token = decimal_in 0 (TIMES + 1) token
 
 -- a port
 abbrev pub port_in : List ℕ → Option ℕ
