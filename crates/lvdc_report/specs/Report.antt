@@ -67,6 +67,7 @@ lines_below line (suc number) = lines_below line number ++ line number
 
 -- ---- the registers
 
+-- the whole instruction times made
 abbrev pub times_line : ℕ → List ℕ
 times_line times = codes "TIMES " ++ decimal times ++ codes "\n"
 
@@ -80,6 +81,7 @@ place_line h =
 abbrev pub data_line : HopConstant → List ℕ
 data_line h = codes "DATA " ++ octal_text 1 h.dmod ++ codes " " ++ octal_text 2 h.dsec ++ codes "\n"
 
+-- a bit as a digit
 abbrev pub bit_digit : Bool → List ℕ
 bit_digit bit = if bit then codes "1" else codes "0"
 
@@ -91,6 +93,7 @@ dup_line h = codes "DUP " ++ bit_digit h.dupin ++ codes " " ++ bit_digit h.dupdn
 abbrev pub word_line : List ℕ → ℕ → List ℕ
 word_line name word = name ++ codes " " ++ octal_text 9 word ++ codes "\n"
 
+-- the lines of the registers, TIMES first
 abbrev pub registers_text : Visible → List ℕ
 registers_text v =
     times_line v.times ++ place_line v.place ++ data_line v.place ++ dup_line v.place
@@ -98,6 +101,7 @@ registers_text v =
 
 -- ---- the port log
 
+-- whether a word was read or written
 abbrev pub direction : Bool → List ℕ
 direction reading = if reading then codes "IN " else codes "OUT "
 
@@ -117,6 +121,7 @@ log_text log = lines_of exchange_line log
 
 -- ---- the words of memory
 
+-- the line of an address and its word
 abbrev pub memory_line : Spot → ℕ → List ℕ
 memory_line at word = codes "MEM " ++ spot_text at ++ codes " " ++ octal_text 9 word ++ codes "\n"
 
@@ -143,6 +148,7 @@ all_known at = true
 
 -- ---- the whole
 
+-- what a plain state shows of its registers
 abbrev pub visible_in : PlainState → Visible
 visible_in p = record { place = p.place; a = p.a; pq = p.pq; saver = p.saver; times = p.times }
 
