@@ -13,7 +13,7 @@ mod start;
 pub use address::put_address;
 pub use fault::ImageFault;
 pub use image::Image;
-pub use print::print_image;
+pub use print::{print_image, put_simplex};
 pub use read::read_image;
 
 /// The text of an image has at most so many bytes: a line for each address, and four more.

@@ -1,8 +1,7 @@
 //! The lines of a saved text, one by one.
 
 ghost use Rattle.std.specs.Prelude.{◌≡◌, ◌<◌, ◌≤◌, ◌^◌, ◌++◌, ◌+◌, map, length, OnOk, All};
-ghost use Rattle.lvdc_map.specs.Address.{IsAddress};
-ghost use Rattle.lvdc_image.specs.Image.{IsPlaced, pair_name};
+ghost use Rattle.lvdc_image.specs.Image.{IsPlaced};
 ghost use Rattle.lvdc_vote.specs.Copies.{IsFullOrder};
 ghost use Rattle.lvdc_fault.specs.Events.{TIMES};
 ghost use Rattle.lvdc_save.specs.declared.entry.Entry.TheVariants as says;
@@ -11,6 +10,7 @@ ghost use Rattle.lvdc_save.specs.Printed.{IsSupply, IsUnplug};
 
 use crate::events::put_fault;
 use crate::parts::{put_cell, put_number, put_spot, put_twins, put_word, put_words};
+use lvdc_image::put_simplex;
 use lvdc_map::{Banks, Placed};
 use lvdc_orders::Order;
 use lvdc_plain::Unplug;
@@ -41,26 +41,11 @@ pub(crate) fn put_count(out: &mut Vec<u8>, count: u64) -> Result<(), NoMemory>
     Ok(())
 }
 
-/// Adds the name of a pair after a blank, where it is simplex.
-fn put_pair(out: &mut Vec<u8>, banks: Banks, pair: u8) -> Result<(), NoMemory>
-    requires { pair < 4 }
-    ensures { OnOk result (out.new.items ≡ out.old.items ++ pair_name banks pair) }
-{
-    if banks.simplex(pair) {
-        out.extend_from_slice(&[b' ', b'0' + pair])?;
-    }
-    Ok(())
-}
-
 /// Adds the SIMPLEX line.
-pub(crate) fn put_simplex(out: &mut Vec<u8>, banks: Banks) -> Result<(), NoMemory>
+pub(crate) fn put_simplex_line(out: &mut Vec<u8>, banks: Banks) -> Result<(), NoMemory>
     ensures { OnOk result (out.new.items ≡ out.old.items ++ entry_line (says.Simplex banks)) }
 {
-    out.extend_from_slice(b"SIMPLEX")?;
-    put_pair(out, banks, 0)?;
-    put_pair(out, banks, 1)?;
-    put_pair(out, banks, 2)?;
-    put_pair(out, banks, 3)?;
+    put_simplex(out, banks)?;
     out.extend_from_slice(b"\n")?;
     Ok(())
 }
@@ -175,7 +160,7 @@ pub fn put_entry(out: &mut Vec<u8>, entry: &Entry) -> Result<(), NoMemory>
         Entry::Title => out.extend_from_slice(b"LVDC SAVE 1\n")?,
         Entry::Steps(steps) => put_steps(out, *steps)?,
         Entry::Count(count) => put_count(out, *count)?,
-        Entry::Simplex(banks) => put_simplex(out, *banks)?,
+        Entry::Simplex(banks) => put_simplex_line(out, *banks)?,
         Entry::Copy(copy) => put_copy(
             out,
             copy.number,

@@ -15,7 +15,7 @@ ghost use Rattle.lvdc_save.specs.Saved.{module_at, latches_before, copy_state, c
 
 use crate::events::put_fault;
 use crate::lines::{
-    put_copy, put_count, put_held, put_order, put_placed, put_select, put_simplex, put_state,
+    put_copy, put_count, put_held, put_order, put_placed, put_select, put_simplex_line, put_state,
     put_steps, put_unplug,
 };
 use lvdc_fault::Script;
@@ -40,7 +40,7 @@ fn put_banks(out: &mut Vec<u8>, banks: Banks) -> Result<(), NoMemory>
     if banks == Banks::DUPLEX {
         return Ok(());
     }
-    put_simplex(out, banks)?;
+    put_simplex_line(out, banks)?;
     Ok(())
 }
 
