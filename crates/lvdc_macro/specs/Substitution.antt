@@ -1,5 +1,5 @@
 -- What a body's line becomes in a call.
-use Rattle.std.specs.Prelude.{ℕ, ◌+◌, ◌-◌, ◌/◌, ◌%◌, Bool, ◌==◌, ◌&&◌, List, [], ◌∷◌, ◌++◌, if◌then◌else◌, slice_index_or}
+use Rattle.std.specs.Prelude.{ℕ, ◌+◌, ◌-◌, ◌/◌, ◌%◌, ◌==◌, ◌&&◌, List, [], ◌∷◌, ◌++◌, if◌then◌else◌, slice_index_or}
 use Rattle.std.specs.List.{slice_split}
 use Rattle.lvdc_text.specs.Lines.{has_bytes}
 use Rattle.lvdc_text.specs.Numbers.{is_digit}
