@@ -10,7 +10,7 @@ use Rattle.lvdc_map.specs.declared.placed.Placed.{Placed}
 use Rattle.lvdc_twin.specs.Store.{slot_of}
 use Rattle.lvdc_twin.specs.Cells.{are_rising}
 use Rattle.lvdc_twin.specs.declared.held.Held.{Held}
-use Rattle.lvdc_save_read.proofs.Soundness.{both}
+use Rattle.lvdc_save.proofs.Below.{both}
 
 -- a test of lists that says of each item that its number is below that of the next
 module _ {A : Type 0} (number : A → ℕ) (rises : List A → Bool)

@@ -8,7 +8,7 @@ use Rattle.lvdc_vote.specs.Bits.{TwoAre, majority}
 use Rattle.lvdc_vote.proofs.Votes.{vote_bits, two_map}
 use Rattle.lvdc_save.specs.Reading.{latch_at, is_at_rest}
 use Rattle.lvdc_save_read.proofs.Following.{both_are}
-use Rattle.lvdc_save_read.proofs.Soundness.{both}
+use Rattle.lvdc_save.proofs.Below.{both}
 
 -- ---- a vote whose words are cut to 0
 

@@ -30,13 +30,10 @@ use Rattle.lvdc_save.specs.declared.section.Section.{Section}
 use Rattle.lvdc_save.specs.declared.section.Section.TheVariants as section
 use Rattle.lvdc_save.specs.Saved.{module_at, copy_at, latches_before}
 use Rattle.lvdc_save.specs.Reading.{Progress, nothing_said, rank, section_of, earliest, latest, follows, place_of, least_in, is_at_rest, agrees, fits, lacking, adds, moved_on, by_lack, after_entry, saved_in, Makes}
+use Rattle.lvdc_save.proofs.Below.{both}
 use Rattle.lvdc_save_read.specs.Sound.{IsEntry, AreCounted, AreCopies, AreSelected, AreCells, ArePlaced, AreLogged, AreMended, AreEvents, IsSound}
 
 -- ---- tests
-
-pub both : (a b : Bool) → (a && b) ≡ true → (a ≡ true) × (b ≡ true)
-both true b e = (refl, e)
-both false b e = absurd cc
 
 not-false : (b : Bool) → not b ≡ true → b ≡ false
 not-false true e = absurd cc
