@@ -13,7 +13,7 @@ pub use join::reply;
 pub use laws::source_is_printed;
 use lvdc_debug::LONGEST_SESSION;
 use lvdc_report::LONGEST_REPORT;
-use lvdc_save::LONGEST_SAVED;
+use lvdc_save_print::LONGEST_SAVED;
 
 /// The input has at most so many bytes, but for `resume`.
 pub const LIMIT: usize = 1_048_576;

@@ -1,4 +1,3 @@
-mod Growing
-mod Sizes
+mod Counts
 mod Runnable
 pub mod Admitted

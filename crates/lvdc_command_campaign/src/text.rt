@@ -1,27 +1,15 @@
 //! The text of a campaign.
 
 ghost use Rattle.std.specs.Prelude.{◌≡◌, ◌+◌, ◌*◌, ◌≤◌, ◌++◌, length, All, OnOk, IfOk};
-ghost use Rattle.lvdc_report.specs.Report.{spot_text, lines_of};
+ghost use Rattle.lvdc_report.specs.Report.{lines_of};
 ghost use Rattle.lvdc_command_campaign.specs.Texts.{verdict_text, outcome_text, row_line, one_admissible, one_same, admissible_in, same_in, total_line, campaign_text};
 
 use lvdc_campaign::Row;
 use lvdc_fault::Verdict;
-use lvdc_map::Address;
-use lvdc_text::{put_decimal, put_octal};
+use lvdc_image::put_address;
+use lvdc_text::put_decimal;
 use lvdc_word::NoMemory;
 use std::alloc::Global;
-
-/// Adds an address: bank, sector and location.
-fn put_address(out: &mut Vec<u8>, at: Address) -> Result<(), NoMemory>
-    ensures { OnOk result (out.new.items ≡ out.old.items ++ spot_text at) }
-{
-    put_octal(out, u64::from(at.pair), 1)?;
-    out.extend_from_slice(b" ")?;
-    put_octal(out, u64::from(at.sector), 2)?;
-    out.extend_from_slice(b" ")?;
-    put_octal(out, u64::from(at.loc), 3)?;
-    Ok(())
-}
 
 /// Adds a verdict.
 fn put_verdict(out: &mut Vec<u8>, verdict: Verdict) -> Result<(), NoMemory>

@@ -12,7 +12,8 @@ use Rattle.lvdc_text.proofs.Texts.{texts-lines_of}
 use Rattle.lvdc_port.specs.Device.{Device}
 use Rattle.lvdc_report.specs.Report as report
 use Rattle.lvdc_report.specs.Report.{exchange_line}
-use Rattle.lvdc_report.specs.Voted.{repair_line}
+use Rattle.lvdc_report.specs.Voted.{repair_line, noted_size}
+use Rattle.lvdc_report.proofs.Sizes.{length-both, none-noted}
 use Rattle.lvdc_save.specs.Entries.{entry_in, spelled}
 use Rattle.lvdc_save.specs.Lines.{entry_line}
 use Rattle.lvdc_save.specs.Reading.{Progress, nothing_said, adds, moved_on, fits, lacking, by_lack, by_entry, after_line, and_then, told_from, whole_of, saved_in, saved_of, rank}
@@ -21,7 +22,6 @@ use Rattle.lvdc_save.specs.declared.entry.Entry.TheVariants as says
 use Rattle.lvdc_save.specs.declared.fault.SaveFault.{SaveFault}
 use Rattle.lvdc_save.specs.declared.fault.SaveFault.TheVariants.{BadSave}
 use Rattle.lvdc_save.specs.declared.saved.Saved.{Saved}
-use Rattle.lvdc_command_resume.specs.Room.{noted_size}
 
 -- ---- how long lines are
 
@@ -73,9 +73,7 @@ size-lines bytes =
 pub size-more : {A : Type 0} (line : A → List ℕ) (items : List A) (item : A)
     → length (report.lines_of line (items ++ item ∷ [])) ≡ length (report.lines_of line items) + length (line item)
 unfolding report.lines_of
-size-more line [] item = omega (arith, length-append (line item) [])
-size-more line (x ∷ items) item =
-    omega (arith, size-more line items item, length-append (line x) (report.lines_of line (items ++ item ∷ [])), length-append (line x) (report.lines_of line items))
+size-more line items item = omega (arith, length-both line items (item ∷ []), length-append (line item) [])
 
 size-adds : (number : ℕ) (r : Progress) (e : Entry)
     → noted_size (adds number r e).log (adds number r e).repairs ≤ noted_size r.log r.repairs + length (entry_line e)
@@ -143,10 +141,6 @@ size-told devices r s (line ∷ lines) is = size-line devices r s line lines (af
 -- the lines of bytes with their numbers
 abbrev lines_in : List ℕ → List NumberedLine
 lines_in bytes = numbered bytes (lines_of bytes)
-
-none-noted : noted_size [] [] ≡ 0
-unfolding report.lines_of
-none-noted = refl
 
 -- the log and the repairs of a saved text
 pub noted-fits : (devices : List Device) (bytes : List ℕ) (s : Saved) → saved_of devices bytes ≡ Ok s

@@ -3,8 +3,6 @@ pub mod Taking
 pub mod Resumed
 pub mod Replied
 pub mod Consumed
-pub mod Behind
-pub mod Lengths
 pub mod Went
 pub mod Onward
 pub mod Statuses

@@ -16,6 +16,7 @@ use Rattle.lvdc_plain.proofs.Causes.{since-more}
 use Rattle.lvdc_plain.proofs.Lefts.{others-in}
 use Rattle.lvdc_plain.specs.Lists.{Since}
 use Rattle.lvdc_plain.specs.declared.records.Unplug.{Unplug}
+use Rattle.lvdc_command_run.proofs.Counts.{count-same}
 use Rattle.lvdc_command_resume.specs.declared.restore.Unrestored.{Unrestored}
 use Rattle.lvdc_command_resume.specs.declared.restore.Unrestored.TheVariants.{NoMemory, Failed}
 use Rattle.lvdc_command_resume.specs.Restore.{left_before, after_state_by, after_state, with_states, HasFailed, HasRefused, HaveTaken, HaveRefused}
@@ -64,22 +65,7 @@ has-same device_of olds news same port has =
 
 -- ---- counts
 
--- devices with the same ports and the same counts, one by one, have the same count at each port
-pub count-same : {B : Type 0} (device_of : B → Device) (count : B → ℕ) (port : ℕ) (xs ys : List B)
-    → ports_of (map device_of xs) ≡ ports_of (map device_of ys) → map count xs ≡ map count ys
-    → count_at device_of count port xs ≡ count_at device_of count port ys
-count-same device_of count port [] [] e f = refl
-count-same device_of count port [] (y ∷ ys) e f = absurd (cc)
-count-same device_of count port (x ∷ xs) [] e f = absurd (cc)
-count-same device_of count port (x ∷ xs) (y ∷ ys) e f =
-    let place : (device_of x).port ≡ (device_of y).port = cc in
-    let number : count x ≡ count y = cc in
-    let later : ports_of (map device_of xs) ≡ ports_of (map device_of ys) = cc in
-    let counts : map count xs ≡ map count ys = cc in
-    let rest = count-same device_of count port xs ys later counts in
-    λ i. if place i == port then number i else rest i
-
--- so nothing has grown
+-- devices with the same ports and the same counts, one by one: nothing has grown
 pub since-same : {B : Type 0} (device_of : B → Device) (count : B → ℕ) (olds news : List B)
     → ports_of (map device_of news) ≡ ports_of (map device_of olds) → map count news ≡ map count olds → Since device_of count olds news
 since-same device_of count olds news ports counts = record {

@@ -1,7 +1,6 @@
 pub mod Restore
 pub mod Runs
 pub mod Finished
-pub mod Room
 pub mod Answers
 pub mod Replies
 pub mod GoesOn

@@ -3,7 +3,7 @@ use Rattle.std.specs.Prelude.{ℕ, ◌-◌, ◌*◌, ◌≤◌, All, List, lengt
 use Rattle.std.specs.declared.option.Option.TheVariants.{Some}
 use Rattle.lvdc_port.specs.Device as device
 use Rattle.lvdc_modules.specs.Seen.{here}
-use Rattle.lvdc_fault.specs.Events.{IsEvent}
+use Rattle.lvdc_fault.specs.Events.{TIMES, EVENTS, IsEvent}
 use Rattle.lvdc_model.specs.Trial.{Trial}
 use Rattle.lvdc_model.specs.Voted.{Voted}
 use Rattle.lvdc_model.specs.declared.outcome.Outcome.TheVariants.{Device}
@@ -11,7 +11,6 @@ use Rattle.lvdc_machine.specs.Resumed.{state_from, FailedFrom}
 use Rattle.lvdc_machine.specs.Snapshot.{IsWhole, voted_in, meant}
 use Rattle.lvdc_machine.specs.Steps.{run_from}
 use Rattle.lvdc_machine.specs.declared.mode.Mode.TheVariants.{Guarded}
-use Rattle.lvdc_save.specs.declared.TheConstants.{MOST_TIMES, MOST_EVENTS}
 use Rattle.lvdc_save.specs.declared.saved.Saved.{Saved}
 use Rattle.lvdc_command_resume.specs.Restore.{devices_of}
 
@@ -19,8 +18,8 @@ use Rattle.lvdc_command_resume.specs.Restore.{devices_of}
 pub record IsRunnable (s : Saved) : Type 0 where
   pub whole : IsWhole s.snapshot
   pub steps : s.snapshot.steps ≤ 3 * s.count
-  pub count : s.count ≤ MOST_TIMES
-  pub few : length s.script ≤ MOST_EVENTS
+  pub count : s.count ≤ TIMES
+  pub few : length s.script ≤ EVENTS
   pub events : All IsEvent s.script
 
 -- The trial that goes on. Of its opening only the simplex pairs and the UNPLUG lines matter from here on; beside them stand the

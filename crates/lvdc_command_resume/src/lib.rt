@@ -6,7 +6,6 @@ mod laws;
 mod reply;
 mod restore;
 mod run;
-mod widths;
 
 pub use laws::resume_statuses;
 pub use reply::{LIMIT, ROOM, resume_bytes};

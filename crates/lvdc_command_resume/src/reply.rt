@@ -6,7 +6,7 @@ ghost use Rattle.lvdc_model.specs.Voted.{Voted};
 ghost use Rattle.lvdc_machine.specs.Resumed.{state_from, StandsFrom};
 ghost use Rattle.lvdc_machine.specs.View.{answer_of_end};
 ghost use Rattle.lvdc_machine.specs.declared.mode.Mode.TheVariants.{Guarded};
-ghost use Rattle.lvdc_report.specs.Voted.{voted_text};
+ghost use Rattle.lvdc_report.specs.Voted.{noted_size, voted_text};
 ghost use Rattle.lvdc_report.specs.declared.report.TheConstants.{LONGEST_REPORT};
 ghost use Rattle.lvdc_report.specs.declared.title.Title.TheVariants.{Run};
 ghost use Rattle.lvdc_reply.specs.Answer.{answer_with, refusal_text};
@@ -18,19 +18,17 @@ ghost use Rattle.lvdc_save.specs.declared.fault.SaveFault.TheVariants.{NoMemory 
 ghost use Rattle.lvdc_command_resume.specs.Answers.{device_text};
 ghost use Rattle.lvdc_command_resume.specs.GoesOn.{GoesOn};
 ghost use Rattle.lvdc_command_resume.specs.Replies.{IsResumed, IsResumeReply, IsUnreported, IsUnresumed};
-ghost use Rattle.lvdc_command_resume.specs.Room.{noted_size};
 ghost use Rattle.lvdc_command_resume.specs.Runs.{IsRunnable};
 
 use crate::restore::Unrestored;
 use crate::run::{Finished, run_saved};
-use crate::widths::report_is_short;
 use lvdc_command_run::{guarded_is_answered, report_end};
 use lvdc_laws_voted::judges_alone;
 use lvdc_machine::{Mode, resumed_goes_on};
 use lvdc_port::PortDevice;
 use lvdc_reply::{Reply, refusal};
 use lvdc_save::{SaveFault, Saved};
-use lvdc_saved_lines::read_saved;
+use lvdc_save_read::read_saved;
 use lvdc_text::put_octal;
 use lvdc_word::{NoMemory, Seq};
 use std::alloc::Global;
@@ -51,7 +49,6 @@ fn report(alloc: Global, finished: &Finished) -> Result<Reply, NoMemory>
     ensures short { IfOk result (λ reply. (o : Trial) (first : Voted) (n : ℕ) (ds : List Device) → StandsFrom o first n finished.now.machine ds
         → All (λ repair. repair.step < first.steps) first.repairs → length reply.text < LONGEST_REPORT + noted_size first.log first.repairs) }
 {
-    report_is_short(&finished.machine, finished.end);
     report_end(alloc, &finished.machine, Mode::Guarded, finished.end)
 }
 

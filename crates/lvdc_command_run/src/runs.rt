@@ -1,6 +1,6 @@
 //! Runs of a deck by each of the machines.
 
-ghost use Rattle.std.specs.Prelude.{◌≡◌, ◌≤◌, List, ℕ, length, map, OnErr, IfOk};
+ghost use Rattle.std.specs.Prelude.{◌≡◌, ◌+◌, ◌<◌, ◌≤◌, List, ℕ, All, length, map, OnErr, IfOk};
 ghost use Rattle.lvdc_port.specs.Device.{Device};
 ghost use Rattle.lvdc_port.specs.Devices.{AreDistinct};
 ghost use Rattle.lvdc_plain.specs.View.{answer_of_end as plain_answer_of_end};
@@ -10,7 +10,7 @@ ghost use Rattle.lvdc_machine.specs.Resumed.{state_from, StandsFrom};
 ghost use Rattle.lvdc_machine.specs.Stands.{Stands, state_by};
 ghost use Rattle.lvdc_machine.specs.View.{answer_of_end};
 ghost use Rattle.lvdc_report.specs.Report.{outcome_of};
-ghost use Rattle.lvdc_report.specs.Voted.{title_of, voted_text};
+ghost use Rattle.lvdc_report.specs.Voted.{title_of, noted_size, voted_text};
 ghost use Rattle.lvdc_reply.specs.Answer.{answer_with};
 ghost use Rattle.lvdc_command_run.specs.Trials.{trial_of, IsRunnable};
 ghost use Rattle.lvdc_command_run.specs.Accounts.{end_status};
@@ -87,6 +87,10 @@ pub fn report_end(
         → reply.text ≡ voted_text (title_of mode) o (state_from machine.now.end machine.now.mode o first n)) }
     ensures room { IfOk result (λ reply. (o : Trial) (t : ℕ) (ds : List Device) → Stands o t machine.now ds
         → length reply.text ≤ LONGEST_REPORT) }
+
+    // In a run from a given state little stands behind the lines that the state has noted.
+    ensures short { IfOk result (λ reply. (o : Trial) (first : Voted) (n : ℕ) (ds : List Device) → StandsFrom o first n machine.now ds
+        → All (λ repair. repair.step < first.steps) first.repairs → length reply.text < LONGEST_REPORT + noted_size first.log first.repairs) }
 {
     let text = report_run(alloc, machine, mode, end)?;
     Ok(Reply {

@@ -1,13 +1,21 @@
--- The numbers of an event in their ranges.
+-- The limits of a script, and the numbers of an event in their ranges.
 use Rattle.std.specs.Prelude.{ℕ, ◌<◌, ◌≤◌, ◌^◌}
 use Rattle.lvdc_map.specs.Banks.{IsPlace}
 use Rattle.lvdc_vote.specs.Numbers.{latches_of}
 use Rattle.lvdc_fault.specs.declared.event.Event.{Event}
 use Rattle.lvdc_fault.specs.declared.event.Event.TheVariants.{Flip, Force, Lag, Deaf, Damage, Stick, Dead}
 
--- the first step that no event names
+-- the most instruction times of a run
+abbrev pub TIMES : ℕ
+TIMES = 1000000
+
+-- the first step that no event names, three for each time
 abbrev pub STEPS : ℕ
 STEPS = 3000000
+
+-- the most events of a script
+abbrev pub EVENTS : ℕ
+EVENTS = 65536
 
 -- a copy of a module
 pub record IsCopy (number copy : ℕ) : Type 0 where

@@ -20,3 +20,9 @@ pub use named::Named;
 pub use script::Script;
 pub use verdict::Verdict;
 pub use wrong::{wrong_module, wrong_now};
+
+/// The most instruction times of a run.
+pub const MOST_TIMES: u64 = 1_000_000;
+
+/// The most events of a script.
+pub const MOST_EVENTS: usize = 65_536;

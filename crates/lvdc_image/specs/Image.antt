@@ -1,6 +1,6 @@
 -- Images and their texts.
 use Rattle.std.specs.Prelude.{◌≡◌, ℕ, ◌+◌, ◌^◌, ◌<◌, true, ◌==◌, List, [], ◌∷◌, ◌++◌, map, codes, All, Option, None, Some, IfSome, if◌then◌else◌}
-use Rattle.lvdc_map.specs.Address.{IsAddress}
+use Rattle.lvdc_map.specs.Address.{Spot, IsAddress}
 use Rattle.lvdc_map.specs.Hop.{HopConstant, IsHopConstant, word_of_hop}
 use Rattle.lvdc_map.specs.Banks.{is_simplex}
 use Rattle.lvdc_map.specs.Memory.{are_rising, AllThere}
@@ -31,11 +31,13 @@ pub record IsSound (image : Contents) : Type 0 where
   pub start : IfSome image.start IsHopConstant
   pub banks : image.banks < 16
 
--- the line of a word: bank, sector, location and the word itself, in octal
+-- an address: bank, sector and location in one, two and three octal digits
+abbrev pub spot_text : Spot → List ℕ
+spot_text at = octal_text 1 at.pair ++ codes " " ++ octal_text 2 at.sector ++ codes " " ++ octal_text 3 at.loc
+
+-- the line of a word: its address and the word itself, in octal
 abbrev pub word_line : Placed → List ℕ
-word_line placed =
-    octal_text 1 placed.at.pair ++ codes " " ++ octal_text 2 placed.at.sector ++ codes " "
-    ++ octal_text 3 placed.at.loc ++ codes " " ++ octal_text 9 placed.word
+word_line placed = spot_text placed.at ++ codes " " ++ octal_text 9 placed.word
 
 -- the line of a start constant
 abbrev pub start_line : HopConstant → List ℕ

@@ -102,6 +102,7 @@ abbrev pub by_banks : HopConstant → ℕ → NumberedLine → List NumberedLine
 by_banks start next line lines (Some banks) = image_with (Some start) banks (words_from banks 0 (line.number + 1) lines)
 by_banks start next line lines None = image_with (Some start) 0 (words_from 0 0 next (line ∷ lines))
 
+-- from the line after START on, which must be there
 abbrev pub after_start : HopConstant → ℕ → List NumberedLine → Result Contents ImageFault
 after_start start next [] = Err (BadImageLine next)
 after_start start next (line ∷ lines) = by_banks start next line lines (banks_in line.text)

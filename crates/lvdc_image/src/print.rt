@@ -1,11 +1,12 @@
 ghost use Rattle.std.specs.Prelude.{◌≡◌, ◌<◌, ◌≤◌, ◌++◌, ◌∷◌, [], length, map, List, All, IfOk, IfSome, OnOk, Ok};
 ghost use Rattle.lvdc_map.specs.Hop.{IsHopConstant};
 ghost use Rattle.lvdc_text.specs.Lines.{lines_of, NumberedLine, numbered};
-ghost use Rattle.lvdc_image.specs.Image.{IsPlaced, word_line, pair_name, simplex_lines, head_lines, image_lines, text_of, image_text};
+ghost use Rattle.lvdc_image.specs.Image.{IsPlaced, word_line, pair_name, simplex_line, simplex_lines, head_lines, image_lines, text_of, image_text};
 ghost use Rattle.lvdc_image.specs.Reading.{texts, image_of};
 ghost use Rattle.lvdc_image.specs.declared.TheConstants.{LONGEST_IMAGE};
 
 use crate::Image;
+use crate::address::put_address;
 use lvdc_map::{Banks, Hop, Placed};
 use lvdc_text::put_octal;
 use lvdc_word::NoMemory;
@@ -16,11 +17,7 @@ fn put_word(out: &mut Vec<u8>, placed: &Placed) -> Result<(), NoMemory>
     ensures line { OnOk result (out.new.items ≡ out.old.items ++ text_of (word_line placed.now ∷ [])) }
     ensures placed { OnOk result (IsPlaced placed.now) }
 {
-    put_octal(out, u64::from(placed.at.pair), 1)?;
-    out.extend_from_slice(b" ")?;
-    put_octal(out, u64::from(placed.at.sector), 2)?;
-    out.extend_from_slice(b" ")?;
-    put_octal(out, u64::from(placed.at.loc), 3)?;
+    put_address(out, placed.at)?;
     out.extend_from_slice(b" ")?;
     put_octal(out, u64::from(placed.word.value()), 9)?;
     out.extend_from_slice(b"\n")?;
@@ -49,6 +46,18 @@ fn put_pair(out: &mut Vec<u8>, banks: Banks, pair: u8) -> Result<(), NoMemory>
     Ok(())
 }
 
+/// Adds the line that names the simplex pairs, without an LF. After a want of memory `out` may have grown by a part of it.
+pub fn put_simplex(out: &mut Vec<u8>, banks: Banks) -> Result<(), NoMemory>
+    ensures { OnOk result (out.new.items ≡ out.old.items ++ simplex_line banks) }
+{
+    out.extend_from_slice(b"SIMPLEX")?;
+    put_pair(out, banks, 0)?;
+    put_pair(out, banks, 1)?;
+    put_pair(out, banks, 2)?;
+    put_pair(out, banks, 3)?;
+    Ok(())
+}
+
 /// Appends the line that names the simplex pairs, where there are any.
 fn put_banks(out: &mut Vec<u8>, banks: Banks) -> Result<(), NoMemory>
     ensures { OnOk result (out.new.items ≡ out.old.items ++ text_of (simplex_lines banks)) }
@@ -56,11 +65,7 @@ fn put_banks(out: &mut Vec<u8>, banks: Banks) -> Result<(), NoMemory>
     if banks == Banks::DUPLEX {
         return Ok(());
     }
-    out.extend_from_slice(b"SIMPLEX")?;
-    put_pair(out, banks, 0)?;
-    put_pair(out, banks, 1)?;
-    put_pair(out, banks, 2)?;
-    put_pair(out, banks, 3)?;
+    put_simplex(out, banks)?;
     out.extend_from_slice(b"\n")?;
     Ok(())
 }

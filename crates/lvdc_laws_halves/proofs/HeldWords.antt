@@ -9,7 +9,7 @@ use Rattle.lvdc_port.specs.declared.device.Kind.{Kind}
 use Rattle.lvdc_port.specs.declared.device.Kind.TheVariants.{Tape, Latch, Ticker, Recorder}
 use Rattle.lvdc_port.specs.declared.requests.Supply.{Supply}
 use Rattle.lvdc_deck.specs.Sections.{supply_of}
-use Rattle.lvdc_save.specs.Back.{kind_among, HoldsWords, AreStates}
+use Rattle.lvdc_save_read.specs.Accepted.{kind_among, HoldsWords, AreStates}
 use Rattle.lvdc_laws_halves.specs.Alike.{MayHold}
 use Rattle.lvdc_command_save.specs.States.{state_at, states_of}
 use Rattle.lvdc_laws_halves.proofs.Renewing.{AreDevices}

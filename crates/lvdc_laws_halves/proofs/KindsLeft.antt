@@ -11,7 +11,7 @@ use Rattle.lvdc_port.specs.declared.device.Kind.{Kind}
 use Rattle.lvdc_port.proofs.Lists.{distinct-without}
 use Rattle.lvdc_port.proofs.Supplied.{distinct-ports}
 use Rattle.lvdc_plain.specs.declared.records.Unplug.{Unplug}
-use Rattle.lvdc_save.specs.Back.{kind_among}
+use Rattle.lvdc_save_read.specs.Accepted.{kind_among}
 use Rattle.lvdc_laws_halves.specs.Alike.{renewed}
 use Rattle.lvdc_command_resume.specs.Restore.{left_before}
 

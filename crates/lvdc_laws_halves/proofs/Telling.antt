@@ -17,7 +17,7 @@ use Rattle.lvdc_deck.specs.declared.TheConstants.{MOST_TIMES, MOST_ORDERS}
 use Rattle.lvdc_deck.specs.declared.deck.Deck.{Deck}
 use Rattle.lvdc_deck.specs.declared.fault.DeckFault.{DeckFault}
 use Rattle.lvdc_deck.specs.declared.fault.DeckFault.TheVariants.{CountTooLarge}
-use Rattle.lvdc_save.specs.Back.{kind_among, AreUnplugs, GoesWith, with_orders}
+use Rattle.lvdc_save_read.specs.Accepted.{kind_among, AreUnplugs, GoesWith, with_orders}
 use Rattle.lvdc_save.specs.Printed.{IsPrinted, IsOfADeck}
 use Rattle.lvdc_save.specs.Reading.{saved_of}
 use Rattle.lvdc_save.specs.Saved.{entries_of, saved_text}

@@ -7,7 +7,7 @@ ghost use Rattle.lvdc_laws_halves.specs.Alike.{AreAlike};
 ghost use Rattle.lvdc_laws_halves.specs.Goes.{TellsRun};
 
 use lvdc_deck::unplugs_are_apart;
-use lvdc_saved_lines::printed_is_read_back;
+use lvdc_save_read::printed_is_read_back;
 
 /// A text that was saved tells the run that it was saved from, over devices of the ports and kinds of those that were handed in,
 /// each in its kind's first state.

@@ -1,5 +1,5 @@
 -- How places of memory, and what stands there, are written: in octal digits.
-use Rattle.std.specs.Prelude.{ℕ, ◌<◌, ◌==◌, List, ◌++◌, [], Option, None, Some, IfSome, unwrap_or, codes, if◌then◌else◌}
+use Rattle.std.specs.Prelude.{ℕ, ◌==◌, List, ◌++◌, [], Option, None, Some, unwrap_or, codes, if◌then◌else◌}
 use Rattle.lvdc_word.specs.Word.{upper, lower}
 use Rattle.lvdc_map.specs.Address.{Spot}
 use Rattle.lvdc_map.specs.Memory.{Memory, word_at}
@@ -11,10 +11,6 @@ use Rattle.lvdc_place.specs.declared.spot.Spot.{Spot as Place}
 -- pair and sector
 abbrev pub sector_text : Spot → List ℕ
 sector_text at = octal_text 1 at.pair ++ codes " " ++ octal_text 2 at.sector
-
--- a syllable, where there is one, is 0 or 1
-abbrev pub IsHalf : Option ℕ → Type 0
-IsHalf syl = IfSome syl (λ syl. syl < 2)
 
 -- the syllable of code; words have none
 abbrev pub syllable_text : Option ℕ → List ℕ

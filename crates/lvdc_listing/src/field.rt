@@ -3,7 +3,8 @@
 ghost use Rattle.std.specs.Prelude.{◌≡◌, ◌++◌, OnOk, IfOk};
 ghost use Rattle.lvdc_map.specs.Memory.{Memory, IsMemory};
 ghost use Rattle.lvdc_place.specs.Placement.{IsInPairs};
-ghost use Rattle.lvdc_listing.specs.Places.{IsHalf, sector_text, syllable_text, place_text, syllable_in, held_text, field_text};
+ghost use Rattle.lvdc_asm.specs.Target.{IsHalf};
+ghost use Rattle.lvdc_listing.specs.Places.{sector_text, syllable_text, place_text, syllable_in, held_text, field_text};
 
 use lvdc_map::{Address, Words};
 use lvdc_place::Spot;

@@ -1,11 +1,9 @@
 -- What a body's line becomes in a call.
-use Rattle.std.specs.Prelude.{ℕ, ◌+◌, ◌-◌, ◌/◌, ◌%◌, Bool, ◌==◌, ◌&&◌, List, [], ◌∷◌, ◌++◌, if◌then◌else◌, slice_index_or}
+use Rattle.std.specs.Prelude.{ℕ, ◌+◌, ◌-◌, ◌/◌, ◌%◌, ◌==◌, ◌&&◌, List, [], ◌∷◌, ◌++◌, if◌then◌else◌, slice_index_or}
 use Rattle.std.specs.List.{slice_split}
 use Rattle.lvdc_text.specs.Lines.{has_bytes}
 use Rattle.lvdc_text.specs.Numbers.{is_digit}
-
-abbrev pub is_comma : ℕ → Bool
-is_comma b = b == 44
+use Rattle.lvdc_source.specs.Numbers.{is_comma}
 
 -- the arguments of a call, by its operand: the texts between commas, and none where there is no operand
 abbrev pub arguments_of : List ℕ → List (List ℕ)

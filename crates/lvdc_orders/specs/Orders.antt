@@ -2,6 +2,14 @@
 use Rattle.std.specs.Prelude.{ℕ, ◌%◌, Bool, true, not, ◌==◌, ◌&&◌, nat_lt, List, [], ◌∷◌, length, slice_index_or, if◌then◌else◌, Option, None, Some}
 use Rattle.std.specs.List.{list_all, list_any, range_with_len}
 
+-- how many copies there are: three of each of the seven modules
+abbrev pub COPIES : ℕ
+COPIES = 21
+
+-- the most orders
+abbrev pub ORDERS : ℕ
+ORDERS = 16
+
 -- no number stands twice in the list
 abbrev pub names_once : List ℕ → Bool
 names_once [] = true

@@ -6,5 +6,5 @@ mod order;
 mod orders;
 
 pub use full::OrdersFull;
-pub use order::Order;
-pub use orders::Orders;
+pub use order::{COPIES, Order};
+pub use orders::{MOST_ORDERS, Orders};

@@ -8,7 +8,7 @@ use std::default::Default;
 use std::marker::Model;
 
 /// How many copies latch in a step: three of each of the seven modules.
-const COPIES: usize = 21;
+pub const COPIES: usize = 21;
 
 /// An order in which the 21 copies latch. Number 3(m-1)+(c-1) is copy c of module m (this project's profile).
 #[derive(Debug, Drop)]

@@ -5,6 +5,9 @@ use crate::{Order, OrdersFull};
 use arrayvec::ArrayVec;
 use std::marker::Model;
 
+/// The most orders.
+pub const MOST_ORDERS: usize = 16;
+
 /// One to sixteen orders, which take turns step by step. Contracts see the list of those that were added; while there are
 /// none, the plain one is in force.
 #[derive(Debug, Drop)]

@@ -1,6 +1,8 @@
+pub mod Behind
 pub mod Counts
 pub mod Lines
 pub mod Noted
+pub mod NotedLines
 pub mod Shown
 pub mod Rows
 mod SumRows

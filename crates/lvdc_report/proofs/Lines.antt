@@ -1,5 +1,5 @@
 -- Texts that grow by one line after the other.
-use Rattle.std.proofs.Common.{◌≡◌, ℕ, ◌+◌, ◌<◌, ◌≤◌, List, ◌++◌, length, get_or, drop, sym, ap, ◌∙◌, append_assoc, add-one}
+use Rattle.std.proofs.Common.{◌≡◌, ℕ, ◌+◌, ◌<◌, ◌≤◌, List, [], ◌∷◌, ◌++◌, map, length, get_or, drop, refl, sym, ap, ◌∙◌, append_assoc, add-one}
 use Rattle.std.proofs.lemmas.List.{append-nil, drop_more, drop_all}
 use Rattle.lvdc_report.specs.Report.{lines_of, lines_below}
 
@@ -23,6 +23,19 @@ pub lines_of_done : {A : Type 0} (line : A → List ℕ) (index : ℕ) (items : 
 unfolding lines_of
 lines_of_done line index items text all l e =
     sym (append-nil text) ∙ ap (λ rest. text ++ rest) (sym (ap (λ xs. lines_of line xs) (drop_all index items l))) ∙ e
+
+-- the lines of one list after those of another
+pub lines_of-append : {A : Type 0} (line : A → List ℕ) (xs ys : List A) → lines_of line (xs ++ ys) ≡ lines_of line xs ++ lines_of line ys
+unfolding lines_of
+lines_of-append line [] ys = refl
+lines_of-append line (x ∷ xs) ys =
+    ap (λ rest. line x ++ rest) (lines_of-append line xs ys) ∙ sym (append_assoc (line x) (lines_of line xs) (lines_of line ys))
+
+-- the lines of what items become
+pub lines_of-map : {A B : Type 0} (line : B → List ℕ) (f : A → B) (xs : List A) → lines_of line (map f xs) ≡ lines_of (λ x. line (f x)) xs
+unfolding lines_of
+lines_of-map line f [] = refl
+lines_of-map line f (x ∷ xs) = ap (λ rest. line (f x) ++ rest) (lines_of-map line f xs)
 
 pub lines_below_none : (line : ℕ → List ℕ) (front : List ℕ) → front ≡ front ++ lines_below line 0
 unfolding lines_below

@@ -1,13 +1,15 @@
 -- How long the texts are.
-use Rattle.std.proofs.Common.{◌≡◌, ℕ, ◌+◌, ◌<◌, ◌≤◌, ◌^◌, Bool, true, false, List, ◌++◌, length, decimal, refl, ap, arith, length-append}
+use Rattle.std.proofs.Common.{◌≡◌, ℕ, ◌+◌, ◌*◌, ◌<◌, ◌≤◌, ◌^◌, Bool, true, false, List, [], ◌∷◌, ◌++◌, All, length, decimal, refl, ap, ◌∙◌, arith, length-append}
+use Rattle.std.proofs.Math.Nat.{mul-suc}
 use Rattle.std.proofs.lemmas.Fmt.{length-decimal-le}
+use Rattle.std.proofs.lemmas.List.Elements.{All-head, All-tail}
 use Rattle.lvdc_text.proofs.ReadBack.{length-octal_text}
-use Rattle.lvdc_map.specs.Address.{Spot}
 use Rattle.lvdc_map.specs.Hop.{HopConstant}
 use Rattle.lvdc_plain.specs.declared.records.Stop.{Stop}
 use Rattle.lvdc_plain.specs.declared.records.Stop.TheVariants as stops
-use Rattle.lvdc_report.specs.Report.{title_line, spot_text, stop_text, place_line, data_line, bit_digit, dup_line, word_line, direction}
-use Rattle.lvdc_report.specs.Voted.{switch_text}
+use Rattle.lvdc_report.specs.Report.{title_line, stop_text, place_line, data_line, bit_digit, dup_line, word_line, direction, lines_of}
+use Rattle.lvdc_report.specs.Voted.{switch_text, noted_size}
+use Rattle.lvdc_report.proofs.Lines.{lines_of-append}
 use Rattle.lvdc_report.specs.declared.title.Title.{Title}
 use Rattle.lvdc_report.specs.declared.title.Title.TheVariants.{Run, Plain, Through}
 
@@ -25,9 +27,6 @@ byte_short n h = length-decimal-le 3 n (omega arith) (omega (arith, h)) (omega (
 -- a number of seven digits
 pub step_short : (n : ℕ) → n < 10 ^ 7 → length (decimal n) ≤ 7
 step_short n h = length-decimal-le 7 n (omega arith) h (omega (arith, h))
-
-pub length-spot_text : (at : Spot) → length (spot_text at) ≡ 8
-length-spot_text at = simp (length-append, length-octal_text) (omega arith)
 
 pub length-stop_text : (stop : Stop) → length (stop_text stop) ≤ 15
 length-stop_text stops.Shift = omega arith
@@ -62,3 +61,27 @@ length-dup_line h = simp (length-append, length-bit_digit) (omega arith)
 
 pub length-word_line : (name : List ℕ) (word : ℕ) → length (word_line name word) ≤ length name + 11
 length-word_line name word = simp (length-append, length-octal_text) (omega arith)
+
+-- ---- lists of lines
+
+pub length-both : {A : Type 0} (line : A → List ℕ) (xs ys : List A)
+    → length (lines_of line (xs ++ ys)) ≡ length (lines_of line xs) + length (lines_of line ys)
+length-both line xs ys = ap length (lines_of-append line xs ys) ∙ length-append (lines_of line xs) (lines_of line ys)
+
+pub length-lines : {A : Type 0} (line : A → List ℕ) (most : ℕ) (items : List A) → All (λ (a : A). length (line a) ≤ most) items
+    → length (lines_of line items) ≤ most * length items
+unfolding lines_of
+length-lines line most [] short = omega arith
+length-lines {A = A} line most (a ∷ items) short =
+    let one : length (line a) ≤ most = All-head (λ (a : A). length (line a) ≤ most) a items short in
+    omega (
+      arith,
+      one,
+      length-lines line most items (All-tail (λ (a : A). length (line a) ≤ most) a items short),
+      length-append (line a) (lines_of line items),
+      mul-suc most (length items),
+    )
+
+pub none-noted : noted_size [] [] ≡ 0
+unfolding lines_of
+none-noted = refl

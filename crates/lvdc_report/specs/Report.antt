@@ -1,5 +1,5 @@
 -- The texts of a run. Each line ends with LF.
-use Rattle.std.specs.Prelude.{ℕ, zero, suc, Bool, true, false, ◌==◌, List, [], ◌∷◌, ◌++◌, codes, decimal, if◌then◌else◌}
+use Rattle.std.specs.Prelude.{ℕ, zero, suc, ◌<◌, ◌^◌, Bool, true, false, ◌==◌, List, [], ◌∷◌, ◌++◌, codes, decimal, if◌then◌else◌}
 use Rattle.lvdc_map.specs.Address.{Spot, spot_at}
 use Rattle.lvdc_map.specs.Banks.{is_there}
 use Rattle.lvdc_map.specs.Hop.{HopConstant}
@@ -16,6 +16,7 @@ use Rattle.lvdc_fault.specs.declared.verdict.Verdict.TheVariants as verdicts
 use Rattle.lvdc_model.specs.declared.outcome.Outcome.{Outcome}
 use Rattle.lvdc_model.specs.declared.outcome.Outcome.TheVariants.{Done, Stopped, Inadmissible, Device}
 use Rattle.lvdc_text.specs.Numbers.{octal_text}
+use Rattle.lvdc_image.specs.Image.{spot_text}
 use Rattle.lvdc_report.specs.declared.title.Title.{Title}
 use Rattle.lvdc_report.specs.declared.title.Title.TheVariants.{Run, Plain, Through}
 
@@ -24,10 +25,6 @@ abbrev pub title_line : Title → List ℕ
 title_line Run = codes "LVDC RUN\n"
 title_line Plain = codes "LVDC PLAIN\n"
 title_line Through = codes "LVDC THROUGH\n"
-
--- an address: bank, sector and location in one, two and three octal digits
-abbrev pub spot_text : Spot → List ℕ
-spot_text at = octal_text 1 at.pair ++ codes " " ++ octal_text 2 at.sector ++ codes " " ++ octal_text 3 at.loc
 
 -- ---- the end
 
@@ -70,6 +67,7 @@ lines_below line (suc number) = lines_below line number ++ line number
 
 -- ---- the registers
 
+-- the whole instruction times made
 abbrev pub times_line : ℕ → List ℕ
 times_line times = codes "TIMES " ++ decimal times ++ codes "\n"
 
@@ -83,6 +81,7 @@ place_line h =
 abbrev pub data_line : HopConstant → List ℕ
 data_line h = codes "DATA " ++ octal_text 1 h.dmod ++ codes " " ++ octal_text 2 h.dsec ++ codes "\n"
 
+-- a bit as a digit
 abbrev pub bit_digit : Bool → List ℕ
 bit_digit bit = if bit then codes "1" else codes "0"
 
@@ -94,6 +93,7 @@ dup_line h = codes "DUP " ++ bit_digit h.dupin ++ codes " " ++ bit_digit h.dupdn
 abbrev pub word_line : List ℕ → ℕ → List ℕ
 word_line name word = name ++ codes " " ++ octal_text 9 word ++ codes "\n"
 
+-- the lines of the registers, TIMES first
 abbrev pub registers_text : Visible → List ℕ
 registers_text v =
     times_line v.times ++ place_line v.place ++ data_line v.place ++ dup_line v.place
@@ -101,6 +101,7 @@ registers_text v =
 
 -- ---- the port log
 
+-- whether a word was read or written
 abbrev pub direction : Bool → List ℕ
 direction reading = if reading then codes "IN " else codes "OUT "
 
@@ -109,12 +110,18 @@ abbrev pub exchange_line : Exchange → List ℕ
 exchange_line e =
     direction e.reading ++ decimal e.time ++ codes " " ++ octal_text 3 e.port ++ codes " " ++ octal_text 9 e.word ++ codes "\n"
 
+-- the port and the word of an exchange are in their ranges
+pub record IsInRange (e : Exchange) : Type 0 where
+  pub port : e.port < 2 ^ 8
+  pub word : e.word < 2 ^ 26
+
 -- the lines of the log in its order
 abbrev pub log_text : List Exchange → List ℕ
 log_text log = lines_of exchange_line log
 
 -- ---- the words of memory
 
+-- the line of an address and its word
 abbrev pub memory_line : Spot → ℕ → List ℕ
 memory_line at word = codes "MEM " ++ spot_text at ++ codes " " ++ octal_text 9 word ++ codes "\n"
 
@@ -141,6 +148,7 @@ all_known at = true
 
 -- ---- the whole
 
+-- what a plain state shows of its registers
 abbrev pub visible_in : PlainState → Visible
 visible_in p = record { place = p.place; a = p.a; pq = p.pq; saver = p.saver; times = p.times }
 

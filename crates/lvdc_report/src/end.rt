@@ -1,24 +1,12 @@
 ghost use Rattle.std.specs.Prelude.{◌≡◌, ◌+◌, ◌≤◌, ◌++◌, length, OnOk, OnErr};
-ghost use Rattle.lvdc_report.specs.Report.{spot_text, stop_text, verdict_text, end_text, outcome_of};
+ghost use Rattle.lvdc_report.specs.Report.{stop_text, verdict_text, end_text, outcome_of};
 
 use lvdc_fault::Verdict;
-use lvdc_map::Address;
+use lvdc_image::put_address;
 use lvdc_model::Outcome;
 use lvdc_plain::{PlainEnd, Stop};
 use lvdc_text::{put_decimal, put_octal};
 use lvdc_word::NoMemory;
-
-/// Adds an address: bank, sector and location, as `p ss lll`.
-pub(crate) fn put_address(out: &mut Vec<u8>, at: Address) -> Result<(), NoMemory>
-    ensures { OnOk result (out.new.items ≡ out.old.items ++ spot_text at) }
-{
-    put_octal(out, u64::from(at.pair), 1)?;
-    out.extend_from_slice(b" ")?;
-    put_octal(out, u64::from(at.sector), 2)?;
-    out.extend_from_slice(b" ")?;
-    put_octal(out, u64::from(at.loc), 3)?;
-    Ok(())
-}
 
 fn put_stop(out: &mut Vec<u8>, stop: Stop) -> Result<(), NoMemory>
     ensures { OnOk result (out.new.items ≡ out.old.items ++ stop_text stop) }

@@ -1,5 +1,5 @@
-ghost use Rattle.std.specs.Prelude.{◌≡◌, ◌+◌, ◌*◌, ◌≤◌, ◌++◌, length, OnOk};
-ghost use Rattle.lvdc_report.specs.Report.{direction, exchange_line, log_text};
+ghost use Rattle.std.specs.Prelude.{◌≡◌, ◌≤◌, ◌++◌, length, All, OnOk};
+ghost use Rattle.lvdc_report.specs.Report.{direction, exchange_line, IsInRange, log_text};
 
 use lvdc_plain::Exchange;
 use lvdc_text::{put_decimal, put_octal};
@@ -11,9 +11,11 @@ fn direction(reading: bool) -> &'static [u8]
     if reading { b"IN " } else { b"OUT " }
 }
 
-fn put_exchange_line(out: &mut Vec<u8>, exchange: &Exchange) -> Result<(), NoMemory>
+/// Adds the line of a port exchange.
+pub fn put_exchange_line(out: &mut Vec<u8>, exchange: &Exchange) -> Result<(), NoMemory>
     ensures line { OnOk result (out.new.items ≡ out.old.items ++ exchange_line exchange.now) }
-    ensures short { OnOk result (length out.new.items ≤ length out.old.items + 39) }
+    ensures short { OnOk result (length (exchange_line exchange.now) ≤ 39) }
+    ensures ranges { OnOk result (IsInRange exchange.now) }
 {
     out.extend_from_slice(direction(exchange.reading))?;
     put_decimal(out, exchange.time)?;
@@ -26,9 +28,10 @@ fn put_exchange_line(out: &mut Vec<u8>, exchange: &Exchange) -> Result<(), NoMem
 }
 
 /// Adds the lines of the port log, in its order.
-pub(crate) fn put_log(out: &mut Vec<u8>, log: &[Exchange]) -> Result<(), NoMemory>
+pub fn put_log(out: &mut Vec<u8>, log: &[Exchange]) -> Result<(), NoMemory>
     ensures log { OnOk result (out.new.items ≡ out.old.items ++ log_text log.now) }
-    ensures short { OnOk result (length out.new.items ≤ length out.old.items + 39 * length log.now) }
+    ensures short { OnOk result (All (λ exchange. length (exchange_line exchange) ≤ 39) log.now) }
+    ensures ranges { OnOk result (All IsInRange log.now) }
 {
     for exchange in log {
         put_exchange_line(out, exchange)?;

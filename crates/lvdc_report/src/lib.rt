@@ -13,6 +13,8 @@ mod voted;
 mod words;
 
 pub use end::put_end;
+pub use exchanges::{put_exchange_line, put_log};
+pub use redundancy::{put_repair_line, put_repairs};
 pub use registers::put_registers;
 pub use report::{LONGEST_REPORT, report_plain};
 pub use soak::report_soak;

@@ -1,9 +1,10 @@
 //! The redundancy part of a report: which copies differed how often, and which cells were repaired.
 
-ghost use Rattle.std.specs.Prelude.{◌≡◌, ◌+◌, ◌*◌, ◌<◌, ◌≤◌, ◌^◌, ◌++◌, length, All, OnOk};
+ghost use Rattle.std.specs.Prelude.{◌≡◌, ◌+◌, ◌<◌, ◌≤◌, ◌^◌, ◌++◌, length, All, OnOk};
+ghost use Rattle.lvdc_map.specs.Address.{IsAddress};
 ghost use Rattle.lvdc_report.specs.Voted.{wrong_line, wrong_lines, wrong_text, switch_text, repair_line, repairs_text};
 
-use crate::end::put_address;
+use lvdc_image::put_address;
 use lvdc_machine::Machine;
 use lvdc_model::Repair;
 use lvdc_text::put_decimal;
@@ -57,9 +58,11 @@ fn switch_text(switched: bool) -> &'static [u8]
     if switched { b" SWITCH" } else { b"" }
 }
 
-fn put_repair_line(out: &mut Vec<u8>, repair: &Repair) -> Result<(), NoMemory>
+/// Adds the line of a repair.
+pub fn put_repair_line(out: &mut Vec<u8>, repair: &Repair) -> Result<(), NoMemory>
     ensures line { OnOk result (out.new.items ≡ out.old.items ++ repair_line repair.now) }
-    ensures short { OnOk result (repair.now.step < 10 ^ 7 → length out.new.items ≤ length out.old.items + 35) }
+    ensures short { OnOk result (repair.now.step < 10 ^ 7 → length (repair_line repair.now) ≤ 35) }
+    ensures at { OnOk result (IsAddress repair.now.at) }
 {
     out.extend_from_slice(b"REPAIR ")?;
     put_decimal(out, repair.step)?;
@@ -73,10 +76,10 @@ fn put_repair_line(out: &mut Vec<u8>, repair: &Repair) -> Result<(), NoMemory>
 }
 
 /// Adds the lines of the repairs, in their order.
-pub(crate) fn put_repairs(out: &mut Vec<u8>, repairs: &[Repair]) -> Result<(), NoMemory>
+pub fn put_repairs(out: &mut Vec<u8>, repairs: &[Repair]) -> Result<(), NoMemory>
     ensures lines { OnOk result (out.new.items ≡ out.old.items ++ repairs_text repairs.now) }
-    ensures short { OnOk result (All (λ repair. repair.step < 10 ^ 7) repairs.now
-        → length out.new.items ≤ length out.old.items + 35 * length repairs.now) }
+    ensures short { OnOk result (All (λ repair. repair.step < 10 ^ 7 → length (repair_line repair) ≤ 35) repairs.now) }
+    ensures at { OnOk result (All (λ repair. IsAddress repair.at) repairs.now) }
 {
     for repair in repairs {
         put_repair_line(out, repair)?;

@@ -1,11 +1,11 @@
-ghost use Rattle.std.specs.Prelude.{◌≡◌, ◌+◌, ◌*◌, ◌<◌, ◌≤◌, ℕ, List, All, length, IfOk};
+ghost use Rattle.std.specs.Prelude.{◌≡◌, ◌+◌, ◌<◌, ◌≤◌, ℕ, List, All, length, IfOk};
 ghost use Rattle.lvdc_port.specs.Device.{Device};
 ghost use Rattle.lvdc_model.specs.Trial.{Trial};
 ghost use Rattle.lvdc_model.specs.Voted.{Voted};
 ghost use Rattle.lvdc_machine.specs.Resumed.{state_from, StandsFrom};
 ghost use Rattle.lvdc_machine.specs.Stands.{Stands, state_by};
 ghost use Rattle.lvdc_machine.specs.View.{answer_of_end};
-ghost use Rattle.lvdc_report.specs.Voted.{title_of, voted_text};
+ghost use Rattle.lvdc_report.specs.Voted.{title_of, noted_size, voted_text};
 
 use crate::end::put_end;
 use crate::exchanges::put_log;
@@ -52,7 +52,7 @@ pub fn report_run(
     // In a run from a given state they stand behind those that the state has.
     ensures size_resumed { IfOk result (λ text. (o : Trial) (first : Voted) (n : ℕ) (ds : List Device) → StandsFrom o first n machine.now ds
         → All (λ repair. repair.step < first.steps) first.repairs
-        → length text.items ≤ LONGEST_REPORT + 39 * (length first.log + length first.repairs)) }
+        → length text.items < LONGEST_REPORT + noted_size first.log first.repairs) }
 {
     let mut out = Vec::new(alloc);
     out.extend_from_slice(title_line(title_of(mode)))?;

@@ -7,7 +7,7 @@ ghost use Rattle.lvdc_model.specs.Voted.{Voted};
 ghost use Rattle.lvdc_machine.specs.Resumed.{state_from, StandsFrom};
 ghost use Rattle.lvdc_report.specs.Report.{memory_line, unknown_line, told_line, line_at, memory_text, all_known};
 
-use crate::end::put_address;
+use lvdc_image::put_address;
 use lvdc_machine::{Machine, Shown};
 use lvdc_map::Address;
 use lvdc_plain::Plain;

@@ -8,7 +8,7 @@ use Rattle.std.proofs.lemmas.List.Elements.{All-nil, All-cons}
 use Rattle.std.proofs.lemmas.List.Splits.{slice_split_at, length-slice_split}
 use Rattle.lvdc_text.specs.Lines.{NumberedLine, is_line_feed, part_at, part_of, lines_from, lines_of, texts_of, numbered_line, numbered}
 use Rattle.lvdc_text.proofs.Texts.{texts-lines_of}
-use Rattle.lvdc_save.proofs.Printing.{both}
+use Rattle.lvdc_save.proofs.Below.{both}
 use Rattle.lvdc_save.proofs.Words.{is_printing}
 
 -- lines, each with LF after it

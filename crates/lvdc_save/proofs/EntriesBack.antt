@@ -11,7 +11,7 @@ use Rattle.lvdc_orders.specs.Orders.{is_order}
 use Rattle.lvdc_script_lines.specs.Lines.{fault_in, order_in}
 use Rattle.lvdc_plain.specs.declared.records.Exchange.{Exchange}
 use Rattle.lvdc_model.specs.declared.repair.Repair.{Repair}
-use Rattle.lvdc_save.specs.declared.TheConstants.{MOST_TIMES}
+use Rattle.lvdc_fault.specs.Events.{TIMES}
 use Rattle.lvdc_save.specs.declared.entry.CopyState.{CopyState}
 use Rattle.lvdc_save.specs.declared.entry.Entry.{Entry}
 use Rattle.lvdc_save.specs.declared.entry.Entry.TheVariants as says
@@ -27,10 +27,10 @@ use Rattle.lvdc_save.proofs.EntryLines.{latch_fields, twin_fields, entry_word, e
 -- ---- fields
 
 steps-read : (n : ℕ) → AreSteps n → steps_in (decimal n) ≡ Some n
-steps-read n few = decimal-read 0 (3 * MOST_TIMES + 1) n (omega arith) (omega (arith, few)) (omega (arith, few))
+steps-read n few = decimal-read 0 (3 * TIMES + 1) n (omega arith) (omega (arith, few)) (omega (arith, few))
 
-times-read : (n : ℕ) → n ≤ MOST_TIMES → times_in (decimal n) ≡ Some n
-times-read n few = decimal-read 0 (MOST_TIMES + 1) n (omega arith) (omega (arith, few)) (omega (arith, few))
+times-read : (n : ℕ) → n ≤ TIMES → times_in (decimal n) ≡ Some n
+times-read n few = decimal-read 0 (TIMES + 1) n (omega arith) (omega (arith, few)) (omega (arith, few))
 
 port-read : (n : ℕ) → n < 2 ^ 8 → port_in (octal_text 3 n) ≡ Some n
 port-read n low = octal-read (2 ^ 8) 3 n (omega arith) low (omega (arith, low))
@@ -93,8 +93,8 @@ select-read (a ∷ b ∷ c ∷ d ∷ e ∷ rest) size all = absurd (omega (arith
 
 exchange-read : (e : Exchange) (reading : Bool) → e.reading ≡ reading → IsExchange e
     → entry_in (entry_word (says.Exchange e) ∷ entry_fields (says.Exchange e)) ≡ Some (says.Exchange e)
-exchange-read e true way is = rw (way, times-read e.time is.time, port-read e.port is.port, word-read e.word is.word) refl
-exchange-read e false way is = rw (way, times-read e.time is.time, port-read e.port is.port, word-read e.word is.word) refl
+exchange-read e true way is = rw (way, times-read e.time is.time, port-read e.port is.numbers.port, word-read e.word is.numbers.word) refl
+exchange-read e false way is = rw (way, times-read e.time is.time, port-read e.port is.numbers.port, word-read e.word is.numbers.word) refl
 
 repair-read : (r : Repair) (switched : Bool) → r.switched ≡ switched → IsRepair r
     → entry_in (codes "REPAIR" ∷ entry_fields (says.Repair r)) ≡ Some (says.Repair r)

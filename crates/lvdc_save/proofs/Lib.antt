@@ -1,6 +1,4 @@
-mod Texts
-mod Printing
-mod Sizes
+pub mod Below
 mod Words
 mod Ended
 mod Fields
@@ -10,5 +8,4 @@ mod PairsAndOrders
 mod EntryLines
 mod EntriesBack
 mod LinesBack
-mod AllPrinted
 mod Rows

@@ -8,8 +8,7 @@ use Rattle.lvdc_report.specs.Report as report
 use Rattle.lvdc_save.specs.declared.entry.Entry.{Entry}
 use Rattle.lvdc_save.specs.declared.fault.SaveFault.{SaveFault}
 use Rattle.lvdc_save.specs.Lines.{entry_line}
-use Rattle.lvdc_save.specs.Reading.{Progress, nothing_said, by_entry, and_then, told_from, whole_of, saved_from, saved_of}
-use Rattle.lvdc_save.specs.Back.{told_entries}
+use Rattle.lvdc_save.specs.Reading.{Progress, nothing_said, by_entry, and_then, told_from, whole_of, saved_from, saved_of, told_entries}
 use Rattle.lvdc_save.specs.Printed.{IsPrinted}
 use Rattle.lvdc_save.proofs.Words.{words-printing}
 use Rattle.lvdc_save.proofs.Ended.{ended, ArePrinting, counted, numbered-ended}

@@ -14,7 +14,7 @@ use Rattle.lvdc_orders.proofs.Permutations.{full_from_order, length-full}
 use Rattle.lvdc_script_lines.specs.Lines.{fault_in, order_in}
 use Rattle.lvdc_save.specs.Entries.{pairs_in}
 use Rattle.lvdc_save.proofs.Words.{IsWord, AreWords, after_blanks, is_visible}
-use Rattle.lvdc_save.proofs.Printing.{all_below, from_all_below}
+use Rattle.lvdc_save.proofs.Below.{all_below, from_all_below}
 use Rattle.lvdc_save.proofs.FaultFields.{AreWords-append}
 
 -- ---- pairs

@@ -14,7 +14,7 @@ use Rattle.lvdc_text.specs.Lines.{is_blank, has_bytes, word_texts_of}
 use Rattle.lvdc_text.specs.Numbers.{is_digit, value_of, is_plain, octal_text, plain_number_of, number_of}
 use Rattle.lvdc_text.proofs.Digits.{octal_text-zero, octal_text-suc}
 use Rattle.lvdc_text.proofs.ReadBack.{length-octal_text, number_of-decimal}
-use Rattle.lvdc_save.proofs.Printing.{both}
+use Rattle.lvdc_save.proofs.Below.{both}
 
 -- ---- words
 

@@ -10,7 +10,7 @@ use Rattle.lvdc_text.specs.Numbers.{word_in}
 use Rattle.lvdc_fault.specs.declared.event.Event.{Event}
 use Rattle.lvdc_script_lines.specs.Fields.{decimal_in, octal_in, place_in}
 use Rattle.lvdc_script_lines.specs.Lines.{fault_in, order_in}
-use Rattle.lvdc_save.specs.declared.TheConstants.{MOST_TIMES}
+use Rattle.lvdc_fault.specs.Events.{TIMES}
 use Rattle.lvdc_save.specs.declared.entry.Entry.{Entry}
 use Rattle.lvdc_save.specs.declared.entry.Entry.TheVariants as says
 use Rattle.lvdc_save.specs.Lines.{entry_line}
@@ -19,11 +19,11 @@ use Rattle.lvdc_save.specs.Lines.{entry_line}
 
 -- a number of steps made: up to three for each time
 abbrev pub steps_in : List ℕ → Option ℕ
-steps_in token = decimal_in 0 (3 * MOST_TIMES + 1) token
+steps_in token = decimal_in 0 (3 * TIMES + 1) token
 
 -- a number of times
 abbrev pub times_in : List ℕ → Option ℕ
-times_in token = decimal_in 0 (MOST_TIMES + 1) token
+times_in token = decimal_in 0 (TIMES + 1) token
 
 -- a port
 abbrev pub port_in : List ℕ → Option ℕ
@@ -63,6 +63,7 @@ abbrev pub title_in : List (List ℕ) → Option Entry
 title_in (save ∷ one ∷ []) = Some says.Title
 title_in _ = None
 
+-- the entry of the steps, where they were found
 abbrev pub steps_of : Option ℕ → Option Entry
 steps_of (Some steps) = Some (says.Steps steps)
 steps_of None = None
@@ -72,6 +73,7 @@ abbrev pub steps_line_in : List (List ℕ) → Option Entry
 steps_line_in (steps ∷ []) = steps_of (steps_in steps)
 steps_line_in _ = None
 
+-- the entry of the count, where it was found
 abbrev pub count_of : Option ℕ → Option Entry
 count_of (Some count) = Some (says.Count count)
 count_of None = None
@@ -93,6 +95,7 @@ pairs_in tokens = pair_bit 0 tokens + pair_bit 1 tokens + pair_bit 2 tokens + pa
 abbrev pub simplex_line_in : List (List ℕ) → Option Entry
 simplex_line_in tokens = if pairs_in tokens == 0 then None else Some (says.Simplex (pairs_in tokens))
 
+-- the entry of a copy, where all its fields were found
 abbrev pub copy_of : Option ℕ → Option ℕ → Option ℕ → Option (List ℕ) → Option Entry
 copy_of (Some number) (Some copy) (Some count) (Some latches) =
     Some (says.Copy (record { number = number; copy = copy; count = count; latches = latches }))
@@ -103,6 +106,7 @@ abbrev pub copy_line_in : List (List ℕ) → Option Entry
 copy_line_in (m ∷ c ∷ n ∷ latches) = copy_of (decimal_in 1 8 m) (decimal_in 1 4 c) (steps_in n) (words_in latches)
 copy_line_in _ = None
 
+-- the entry of the four twins, where all were found
 abbrev pub select_of : Option ℕ → Option ℕ → Option ℕ → Option ℕ → Option Entry
 select_of (Some a) (Some b) (Some c) (Some d) = Some (says.Select (a ∷ b ∷ c ∷ d ∷ []))
 select_of _ _ _ _ = None
@@ -114,6 +118,7 @@ select_line_in _ = None
 
 -- ---- the lines of lists
 
+-- the entry of a stored cell, where all its fields were found
 abbrev pub cell_of : Option ℕ → Option Spot → Option ℕ → Option Entry
 cell_of (Some twin) (Some at) (Some cell) = Some (says.Cell (record { twin = twin; at = at; cell = cell }))
 cell_of _ _ _ = None
@@ -123,6 +128,7 @@ abbrev pub cell_line_in : List (List ℕ) → Option Entry
 cell_line_in (w ∷ p ∷ s ∷ loc ∷ cell ∷ []) = cell_of (twin_in w) (place_in p s loc) (cell_in cell)
 cell_line_in _ = None
 
+-- the entry of a word and its address, where both were found
 abbrev pub word_of : Option Spot → Option ℕ → Option Entry
 word_of (Some at) (Some word) = Some (says.Word (record { at = at; word = word }))
 word_of _ _ = None
@@ -132,6 +138,7 @@ abbrev pub word_line_in : List (List ℕ) → Option Entry
 word_line_in (p ∷ s ∷ loc ∷ word ∷ []) = word_of (spot_in p s loc) (word_in word)
 word_line_in _ = None
 
+-- the entry of a port exchange, where all its fields were found
 abbrev pub exchange_of : Bool → Option ℕ → Option ℕ → Option ℕ → Option Entry
 exchange_of reading (Some time) (Some port) (Some word) =
     Some (says.Exchange (record { time = time; port = port; reading = reading; word = word }))
@@ -142,6 +149,7 @@ abbrev pub exchange_line_in : Bool → List (List ℕ) → Option Entry
 exchange_line_in reading (time ∷ port ∷ word ∷ []) = exchange_of reading (times_in time) (port_in port) (word_in word)
 exchange_line_in reading _ = None
 
+-- the entry of a repair, where all its fields were found
 abbrev pub repair_of : Option Bool → Option ℕ → Option Spot → Option ℕ → Option Entry
 repair_of (Some switched) (Some step) (Some at) (Some twin) =
     Some (says.Repair (record { step = step; at = at; twin = twin; switched = switched }))
@@ -158,6 +166,7 @@ abbrev pub repair_line_in : List (List ℕ) → Option Entry
 repair_line_in (t ∷ p ∷ s ∷ loc ∷ w ∷ rest) = repair_of (switch_in rest) (steps_in t) (spot_in p s loc) (twin_in w)
 repair_line_in _ = None
 
+-- the entry of a word that a device holds, where both fields were found
 abbrev pub state_of : Option ℕ → Option ℕ → Option Entry
 state_of (Some port) (Some word) = Some (says.State (record { port = port; word = word }))
 state_of _ _ = None
@@ -167,6 +176,7 @@ abbrev pub state_line_in : List (List ℕ) → Option Entry
 state_line_in (port ∷ word ∷ []) = state_of (port_in port) (word_in word)
 state_line_in _ = None
 
+-- the entry of a device that is taken away, where both fields were found
 abbrev pub unplug_of : Option ℕ → Option ℕ → Option Entry
 unplug_of (Some port) (Some time) = Some (says.Unplug (record { port = port; time = time }))
 unplug_of _ _ = None

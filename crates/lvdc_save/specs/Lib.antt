@@ -2,8 +2,5 @@ pub mod Lines
 pub mod Entries
 pub mod Saved
 pub mod Reading
-pub mod Back
-pub mod Sound
 pub mod Printed
-pub mod Bounded
 pub mod Faults

@@ -8,8 +8,8 @@ use Rattle.lvdc_fault.specs.declared.event.Event.{Event}
 use Rattle.lvdc_fault.specs.declared.event.Event.TheVariants.{Flip, Force, Lag, Deaf, Damage, Stick, Dead}
 use Rattle.lvdc_port.specs.declared.requests.Supply.{Supply}
 use Rattle.lvdc_plain.specs.declared.records.Unplug.{Unplug}
-use Rattle.lvdc_image.specs.Image.{simplex_line}
-use Rattle.lvdc_report.specs.Report.{lines_of, spot_text, exchange_line}
+use Rattle.lvdc_image.specs.Image.{spot_text, simplex_line}
+use Rattle.lvdc_report.specs.Report.{lines_of, exchange_line}
 use Rattle.lvdc_report.specs.Voted.{repair_line}
 use Rattle.lvdc_save.specs.declared.entry.CopyState.{CopyState}
 use Rattle.lvdc_save.specs.declared.entry.Entry.{Entry}

@@ -4,13 +4,13 @@ use Rattle.lvdc_map.specs.Address.{IsAddress}
 use Rattle.lvdc_image.specs.Image.{IsPlaced}
 use Rattle.lvdc_twin.specs.Cells.{NamesPlace}
 use Rattle.lvdc_twin.specs.declared.held.Held.{Held}
-use Rattle.lvdc_fault.specs.Events.{IsCopy, IsEvent}
+use Rattle.lvdc_fault.specs.Events.{TIMES, IsCopy, IsEvent}
 use Rattle.lvdc_orders.specs.Orders.{is_order}
 use Rattle.lvdc_port.specs.declared.requests.Supply.{Supply}
 use Rattle.lvdc_plain.specs.declared.records.Exchange.{Exchange}
 use Rattle.lvdc_plain.specs.declared.records.Unplug.{Unplug}
 use Rattle.lvdc_model.specs.declared.repair.Repair.{Repair}
-use Rattle.lvdc_save.specs.declared.TheConstants.{MOST_TIMES}
+use Rattle.lvdc_report.specs.Report.{IsInRange}
 use Rattle.lvdc_save.specs.declared.entry.CopyState.{CopyState}
 use Rattle.lvdc_save.specs.declared.entry.Entry.{Entry}
 use Rattle.lvdc_save.specs.declared.entry.Entry.TheVariants as says
@@ -18,7 +18,7 @@ use Rattle.lvdc_save.specs.declared.saved.Saved.{Saved}
 
 -- as many steps as the times of a deck have, or fewer
 abbrev pub AreSteps : ℕ → Type 0
-AreSteps steps = steps ≤ 3 * MOST_TIMES
+AreSteps steps = steps ≤ 3 * TIMES
 
 -- a copy with its latches
 pub record IsCopyState (c : CopyState) : Type 0 where
@@ -33,9 +33,8 @@ pub record IsHeld (h : Held) : Type 0 where
 
 -- a port exchange
 pub record IsExchange (e : Exchange) : Type 0 where
-  pub time : e.time ≤ MOST_TIMES
-  pub port : e.port < 2 ^ 8
-  pub word : e.word < 2 ^ 26
+  pub time : e.time ≤ TIMES
+  pub numbers : IsInRange e
 
 -- a repair
 pub record IsRepair (r : Repair) : Type 0 where
@@ -51,13 +50,13 @@ pub record IsSupply (s : Supply) : Type 0 where
 -- a device that is taken away
 pub record IsUnplug (u : Unplug) : Type 0 where
   pub port : u.port < 2 ^ 8
-  pub time : u.time ≤ MOST_TIMES
+  pub time : u.time ≤ TIMES
 
 -- the line of the entry says it again
 abbrev pub IsPrinted : Entry → Type 0
 IsPrinted says.Title = Unit {0}
 IsPrinted (says.Steps steps) = AreSteps steps
-IsPrinted (says.Count count) = count ≤ MOST_TIMES
+IsPrinted (says.Count count) = count ≤ TIMES
 IsPrinted (says.Simplex banks) = (0 < banks) × (banks < 16)
 IsPrinted (says.Copy copy) = IsCopyState copy
 IsPrinted (says.Select twins) = (length twins ≡ 4) × All (λ twin. twin < 2) twins
@@ -74,6 +73,6 @@ IsPrinted says.End = Unit {0}
 -- the times of a saved state are those that a deck may have, and its events are in their ranges
 pub record IsOfADeck (s : Saved) : Type 0 where
   pub steps : AreSteps s.snapshot.steps
-  pub count : s.count ≤ MOST_TIMES
-  pub times : All (λ unplug. unplug.time ≤ MOST_TIMES) s.unplugs
+  pub count : s.count ≤ TIMES
+  pub times : All (λ unplug. unplug.time ≤ TIMES) s.unplugs
   pub events : All IsEvent s.script

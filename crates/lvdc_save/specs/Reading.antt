@@ -21,7 +21,8 @@ use Rattle.lvdc_port.specs.declared.requests.Supply.{Supply}
 use Rattle.lvdc_plain.specs.declared.records.Exchange.{Exchange}
 use Rattle.lvdc_plain.specs.declared.records.Unplug.{Unplug}
 use Rattle.lvdc_model.specs.declared.repair.Repair.{Repair}
-use Rattle.lvdc_save.specs.declared.TheConstants.{COPIES, MOST_EVENTS, MOST_ORDERS}
+use Rattle.lvdc_fault.specs.Events.{EVENTS}
+use Rattle.lvdc_orders.specs.Orders.{COPIES, ORDERS}
 use Rattle.lvdc_save.specs.declared.entry.CopyState.{CopyState}
 use Rattle.lvdc_save.specs.declared.entry.Entry.{Entry}
 use Rattle.lvdc_save.specs.declared.entry.Entry.TheVariants as says
@@ -207,8 +208,8 @@ agrees r (says.Cell held) = not (held.cell == code_of 0)
 agrees r (says.Word placed) = not (placed.word == 0) && is_there r.banks placed.at
 agrees r (says.Exchange exchange) = nat_lt exchange.time (r.steps / 3)
 agrees r (says.Repair repair) = nat_lt repair.step r.steps && is_there r.banks repair.at
-agrees r (says.Fault event) = nat_lt (length r.script) MOST_EVENTS
-agrees r (says.Order order) = nat_lt (length r.orders) MOST_ORDERS
+agrees r (says.Fault event) = nat_lt (length r.script) EVENTS
+agrees r (says.Order order) = nat_lt (length r.orders) ORDERS
 agrees r _ = true
 
 -- an entry may stand here
@@ -305,6 +306,11 @@ and_then (Err fault) f = Err fault
 unfoldable pub told_from : List Device → Progress → List NumberedLine → Result Progress SaveFault
 told_from devices r [] = Ok r
 told_from devices r (line ∷ lines) = and_then (after_line devices r line) (λ s. told_from devices s lines)
+
+-- what was said after these entries, each on a line of its own, the first on the line of this number; a refusal keeps
+unfoldable pub told_entries : List Device → ℕ → Progress → List Entry → Result Progress SaveFault
+told_entries devices number r [] = Ok r
+told_entries devices number r (e ∷ es) = and_then (after_entry devices number r e) (λ s. told_entries devices (number + 1) s es)
 
 -- the saved state that all lines together say
 abbrev pub saved_in : Progress → Saved

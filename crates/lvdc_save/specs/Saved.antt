@@ -11,10 +11,11 @@ use Rattle.lvdc_save.specs.declared.entry.Entry.TheVariants as says
 use Rattle.lvdc_save.specs.declared.saved.Saved.{Saved}
 use Rattle.lvdc_save.specs.Lines.{entry_line}
 
--- the module and the number of a copy, by its index from 0
+-- the module of a copy, by its index from 0
 abbrev pub module_at : ℕ → ℕ
 module_at index = index / 3 + 1
 
+-- the number of a copy in its module, by its index from 0
 abbrev pub copy_at : ℕ → ℕ
 copy_at index = index % 3 + 1
 

@@ -8,8 +8,7 @@ ghost use Rattle.lvdc_save.specs.declared.saved.Saved.{Saved};
 ghost use Rattle.lvdc_save.specs.Lines.{entry_line};
 ghost use Rattle.lvdc_save.specs.Entries.{entry_of};
 ghost use Rattle.lvdc_save.specs.Saved.{entries_of, saved_text};
-ghost use Rattle.lvdc_save.specs.Reading.{nothing_said, and_then, told_from, whole_of, saved_of};
-ghost use Rattle.lvdc_save.specs.Back.{told_entries};
+ghost use Rattle.lvdc_save.specs.Reading.{nothing_said, and_then, told_from, whole_of, saved_of, told_entries};
 ghost use Rattle.lvdc_save.specs.Printed.{IsPrinted};
 
 /// The line of an entry says the entry again, and the lines of a saved text are those of its entries, one for each. So what

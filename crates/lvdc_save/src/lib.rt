@@ -1,41 +1,17 @@
 //! Saved texts: the state of a guarded run between two instruction times, with all that the run still needs. What such a text
-//! means, and how it is printed; it is read in `lvdc_saved_lines` (this project's profile).
+//! means; it is printed in `lvdc_save_print` and read in `lvdc_save_read` (this project's profile).
 #![tactic(auto)]
 
 mod entry;
-mod events;
 mod fault;
 mod laws;
-mod lines;
 mod mark;
-mod parts;
-mod print;
 mod saved;
 mod section;
 
 pub use entry::{CopyState, Entry};
 pub use fault::SaveFault;
 pub use laws::lines_are_read_back;
-pub use lines::put_entry;
 pub use mark::Mark;
-pub use print::print_saved;
 pub use saved::Saved;
 pub use section::Section;
-
-/// How many copies there are: three of each of the seven modules.
-pub const COPIES: usize = 21;
-
-/// The greatest count of instruction times, and the latest time of an UNPLUG line.
-pub const MOST_TIMES: u64 = 1_000_000;
-
-/// The most events of a script.
-pub const MOST_EVENTS: usize = 65_536;
-
-/// The most orders of latching.
-pub const MOST_ORDERS: usize = 16;
-
-/// No saved text of a bounded run has more bytes: 128 MiB.
-pub const LONGEST_SAVED: usize = 134_217_728;
-
-/// The most words that the devices of a bounded run hold together.
-pub const MOST_WORDS: usize = 1_048_576;

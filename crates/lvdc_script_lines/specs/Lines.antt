@@ -13,6 +13,7 @@ use Rattle.lvdc_script_lines.specs.Fields.{step_in, twin_in, pair_in, cell_in, m
 
 -- ---- what happens to copies
 
+-- the event of a FLIP line, where all its fields were found
 abbrev pub flip_of : Option ModuleCopy → Option Span → Option ℕ → Option ℕ → Option Event
 flip_of (Some named) (Some span) (Some index) (Some mask) = Some (Flip named.number named.copy span.first span.last index mask)
 flip_of _ _ _ _ = None
@@ -22,6 +23,7 @@ abbrev pub flip_in : List (List ℕ) → Option Event
 flip_in (m ∷ c ∷ f ∷ l ∷ i ∷ mask ∷ []) = flip_of (module_copy_in m c) (span_in f l) (index_in (module_copy_in m c) i) (word_in mask)
 flip_in _ = None
 
+-- the event of a FORCE line, where all its fields were found
 abbrev pub force_of : Option ModuleCopy → Option Span → Option ℕ → Option ℕ → Option ℕ → Option Event
 force_of (Some named) (Some span) (Some index) (Some mask) (Some value) = Some (Force named.number named.copy span.first span.last index mask value)
 force_of _ _ _ _ _ = None
@@ -31,6 +33,7 @@ abbrev pub force_in : List (List ℕ) → Option Event
 force_in (m ∷ c ∷ f ∷ l ∷ i ∷ mask ∷ value ∷ []) = force_of (module_copy_in m c) (span_in f l) (index_in (module_copy_in m c) i) (word_in mask) (word_in value)
 force_in _ = None
 
+-- the event of a LAG line, where all its fields were found
 abbrev pub lag_of : Option ModuleCopy → Option Span → Option Event
 lag_of (Some named) (Some span) = Some (Lag named.number named.copy span.first span.last)
 lag_of _ _ = None
@@ -40,6 +43,7 @@ abbrev pub lag_in : List (List ℕ) → Option Event
 lag_in (m ∷ c ∷ f ∷ l ∷ []) = lag_of (module_copy_in m c) (span_in f l)
 lag_in _ = None
 
+-- the event of a DEAF line, where all its fields were found
 abbrev pub deaf_of : Option ModuleCopy → Option Span → Option Event
 deaf_of (Some named) (Some span) = Some (Deaf named.number named.copy span.first span.last)
 deaf_of _ _ = None
@@ -51,6 +55,7 @@ deaf_in _ = None
 
 -- ---- what happens to memory
 
+-- the event of a DAMAGE line, where all its fields were found
 abbrev pub damage_of : Option ℕ → Option Spot → Option ℕ → Option ℕ → Option Event
 damage_of (Some twin) (Some at) (Some step) (Some mask) = Some (Damage twin at step mask)
 damage_of _ _ _ _ = None
@@ -60,6 +65,7 @@ abbrev pub damage_in : List (List ℕ) → Option Event
 damage_in (w ∷ p ∷ s ∷ loc ∷ t ∷ mask ∷ []) = damage_of (twin_in w) (place_in p s loc) (step_in t) (cell_in mask)
 damage_in _ = None
 
+-- the event of a STICK line, where all its fields were found
 abbrev pub stick_of : Option ℕ → Option Spot → Option Span → Option ℕ → Option ℕ → Option Event
 stick_of (Some twin) (Some at) (Some span) (Some mask) (Some value) = Some (Stick twin at span.first span.last mask value)
 stick_of _ _ _ _ _ = None
@@ -69,6 +75,7 @@ abbrev pub stick_in : List (List ℕ) → Option Event
 stick_in (w ∷ p ∷ s ∷ loc ∷ f ∷ l ∷ mask ∷ value ∷ []) = stick_of (twin_in w) (place_in p s loc) (span_in f l) (cell_in mask) (cell_in value)
 stick_in _ = None
 
+-- the event of a DEAD line, where all its fields were found
 abbrev pub dead_of : Option ℕ → Option ℕ → Option Span → Option Event
 dead_of (Some twin) (Some pair) (Some span) = Some (Dead twin pair span.first span.last)
 dead_of _ _ _ = None

@@ -4,13 +4,14 @@ ghost use Rattle.lvdc_map.specs.Banks.{IsPlace};
 ghost use Rattle.lvdc_fault.specs.Events.{STEPS, IsCopy, IsSpan};
 ghost use Rattle.lvdc_script_lines.specs.Fields.{decimal_in, octal_in, step_in, twin_in, pair_in, cell_in, module_copy_in, index_in, span_in, place_in};
 
+use lvdc_fault::MOST_TIMES;
 use lvdc_map::Address;
 use lvdc_modules::latches;
 use lvdc_text::{octal, plain_decimal};
 use lvdc_word::Cell;
 
-/// The first step that no event names: three for each of the 1,000,000 instruction times that a run may have.
-const STEPS: u64 = 3_000_000;
+/// The first step that no event names: three for each instruction time that a run may have.
+const STEPS: u64 = 3 * MOST_TIMES;
 
 /// The copy of a module.
 #[derive(Clone, Copy, Debug, PartialEq, Eq)]

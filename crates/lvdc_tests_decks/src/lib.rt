@@ -10,6 +10,6 @@ mod rows;
 #[cfg(test)]
 mod save;
 #[cfg(test)]
-mod saved_lines;
+mod save_read;
 #[cfg(test)]
 mod soak;

@@ -1,7 +1,7 @@
 use Rattle.std.proofs.Common.{ap, ◌∙◌, arith}
 use Rattle.lvdc_campaign.specs.declared.row.Row.{Row}
 use Rattle.lvdc_command_campaign.specs.Texts.{one_admissible}
-use Rattle.lvdc_command_campaign.proofs.Growing.{admissible-more, admissible-none, count-more, count-done}
+use Rattle.lvdc_command_campaign.proofs.Counts.{admissible-more, admissible-none, count-more, count-done}
 use Rattle.lvdc_command_campaign.proofs.text.admissible_in.Goals as goal
 
 pub loop-row-preserved : goal.loop-row-preserved

@@ -1,7 +1,7 @@
 use Rattle.std.proofs.Common.{ℕ, ◌++◌, ◌∙◌, ap, codes, decimal, length, arith, length-append}
 use Rattle.lvdc_command_campaign.specs.Texts.{admissible_in, same_in}
-use Rattle.lvdc_command_campaign.proofs.Growing.{onward}
-use Rattle.lvdc_command_campaign.proofs.Sizes.{decimal_short}
+use Rattle.lvdc_report.proofs.Lines.{onward}
+use Rattle.lvdc_report.proofs.Sizes.{decimal_short}
 use Rattle.lvdc_command_campaign.proofs.text.put_total.Goals as goal
 
 pub returns-clause-line : goal.returns-clause-line

@@ -1,5 +1,5 @@
 use Rattle.std.proofs.Common.{ℕ, ap, length, arith, length-append}
-use Rattle.lvdc_command_campaign.proofs.Sizes.{decimal_short, byte_short, length-spot_text}
+use Rattle.lvdc_report.proofs.Sizes.{decimal_short, byte_short}
 use Rattle.lvdc_command_campaign.proofs.text.put_verdict.Goals as goal
 
 pub returns-in_ok-put_decimal-in-Logic-2-clause-short : goal.returns-in_ok-put_decimal-in-Logic-2-clause-short
@@ -20,10 +20,9 @@ returns-in_ok-put_address-in-Memory-clause-short c =
     omega (
       arith,
       length-append {A = ℕ},
-      length-spot_text c.in-Memory.address,
       decimal_short c.in-Memory.step (omega arith),
       ap length c.in_ok-extend_from_slice-in-Memory.ensures.items,
       ap length c.in_ok-put_decimal-in-Memory.ensures.ok,
       ap length c.in_ok-extend_from_slice-in-Memory-2.ensures.items,
-      ap length c.in_ok-put_address-in-Memory.ensures,
+      c.in_ok-put_address-in-Memory.ensures.length,
     )

@@ -1,7 +1,7 @@
 use Rattle.std.proofs.Common.{ap, ◌∙◌, arith}
 use Rattle.lvdc_campaign.specs.declared.row.Row.{Row}
 use Rattle.lvdc_command_campaign.specs.Texts.{one_same}
-use Rattle.lvdc_command_campaign.proofs.Growing.{same-more, same-none, count-more, count-done}
+use Rattle.lvdc_command_campaign.proofs.Counts.{same-more, same-none, count-more, count-done}
 use Rattle.lvdc_command_campaign.proofs.text.same_in.Goals as goal
 
 pub loop-row-preserved : goal.loop-row-preserved

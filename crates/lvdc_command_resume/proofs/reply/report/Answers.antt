@@ -1,11 +1,9 @@
-use Rattle.std.proofs.Common.{◌+◌, ◌<◌, List, ℕ, length, sym, ap, subst, ◌∙◌}
+use Rattle.std.proofs.Common.{ap, ◌∙◌}
 use Rattle.std.proofs.lemmas.Result.{IfOk-weaker}
 use Rattle.lvdc_machine.specs.Resumed.{state_from}
 use Rattle.lvdc_machine.specs.declared.mode.Mode.{Mode}
 use Rattle.lvdc_report.specs.Voted.{voted_text}
-use Rattle.lvdc_report.specs.declared.report.TheConstants.{LONGEST_REPORT}
 use Rattle.lvdc_report.specs.declared.title.Title.TheVariants.{Run}
-use Rattle.lvdc_command_resume.specs.Room.{noted_size}
 use Rattle.lvdc_command_resume.proofs.reply.report.Goals as goal
 
 pub returns-clause-text : goal.returns-clause-text
@@ -16,9 +14,4 @@ returns-clause-text c =
     c.report_end.ensures.resumed
 
 pub returns-clause-short : goal.returns-clause-short
-returns-clause-short c =
-    IfOk-weaker c.report_end.result _ _
-    (λ reply text o first n ds stands below.
-    subst (λ (text : List ℕ). length text < LONGEST_REPORT + noted_size first.log first.repairs) (sym (text o first n ds stands))
-    (c.report_is_short.ensures o first n ds stands below))
-    (returns-clause-text c)
+returns-clause-short c = c.report_end.ensures.short

@@ -1,5 +1,6 @@
 use Rattle.lvdc_plain.proofs.Lefts.{spare-same}
-use Rattle.lvdc_command_resume.proofs.Taking.{state-supplied, since-same, count-same}
+use Rattle.lvdc_command_run.proofs.Counts.{count-same}
+use Rattle.lvdc_command_resume.proofs.Taking.{state-supplied, since-same}
 use Rattle.lvdc_command_resume.proofs.restore.supply_word.Goals as goal
 
 pub returns-in-Ok-clause-ok : goal.returns-in-Ok-clause-ok

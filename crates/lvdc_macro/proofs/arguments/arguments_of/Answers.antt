@@ -2,7 +2,8 @@ use Rattle.std.proofs.Common.{rules, tests, nat_eq, not, [], ◌≡◌, Bool, tr
 use Rattle.std.specs.List.{slice_split}
 use Rattle.std.proofs.lemmas.Iterator.Splits.{YieldsList-from_slice_split}
 use Rattle.std.proofs.lemmas.Iterator.Consumers.{YieldsList-at, YieldsList-turn, YieldsList-end}
-use Rattle.lvdc_macro.specs.Substitution.{is_comma, arguments_of}
+use Rattle.lvdc_source.specs.Numbers.{is_comma}
+use Rattle.lvdc_macro.specs.Substitution.{arguments_of}
 use Rattle.lvdc_macro.proofs.arguments.arguments_of.Goals as goal
 
 -- an operand that isn't empty is split

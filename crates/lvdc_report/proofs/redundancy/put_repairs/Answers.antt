@@ -1,24 +1,35 @@
-use Rattle.std.proofs.Common.{◌<◌, ◌^◌, arith}
-use Rattle.std.proofs.lemmas.List.Elements.{All-get_or}
+use Rattle.std.proofs.Common.{◌<◌, ◌≤◌, ◌^◌, All, length, subst}
+use Rattle.std.proofs.lemmas.List.{take_all}
+use Rattle.std.proofs.lemmas.List.Elements.{All-more}
+use Rattle.lvdc_map.specs.Address.{IsAddress}
 use Rattle.lvdc_model.specs.declared.repair.Repair.{Repair}
 use Rattle.lvdc_report.specs.Voted.{repair_line}
 use Rattle.lvdc_report.proofs.Lines.{lines_of_more, lines_of_done}
 use Rattle.lvdc_report.proofs.redundancy.put_repairs.Goals as goal
 
 pub loop-repair-preserved : goal.loop-repair-preserved
-loop-repair-preserved c = record {
-  lines = lines_of_more repair_line c.loop-repair.repair-index c.args.repairs.now c.repair-item.result c.loop-repair.out.items c.put_repair_line.new.out.items _
-      c.loop-repair-test.true c.repair-item.is c.in_ok-put_repair_line.ensures.line c.loop-repair.invariant.lines;
-  short = λ early.
-      omega (
-        arith,
-        c.loop-repair.invariant.short early,
-        c.in_ok-put_repair_line.ensures.short
-            (rw c.repair-item.is (All-get_or (λ (repair : Repair). repair.step < 10 ^ 7) c.args.repairs.now c.loop-repair.repair-index _ c.loop-repair-test.true early)),
-      );
-}
+loop-repair-preserved c =
+    let short = λ (r : Repair). r.step < 10 ^ 7 → length (repair_line r) ≤ 35 in
+    let at = λ (r : Repair). IsAddress r.at in
+    record {
+      lines = lines_of_more repair_line c.loop-repair.repair-index c.args.repairs.now c.repair-item.result c.loop-repair.out.items c.put_repair_line.new.out.items _
+          c.loop-repair-test.true c.repair-item.is c.in_ok-put_repair_line.ensures.line c.loop-repair.invariant.lines;
+      short = All-more short c.args.repairs.now c.loop-repair.repair-index c.repair-item.result c.loop-repair-test.true c.loop-repair.invariant.short
+          (subst short c.repair-item.is c.in_ok-put_repair_line.ensures.short);
+      at = All-more at c.args.repairs.now c.loop-repair.repair-index c.repair-item.result c.loop-repair-test.true c.loop-repair.invariant.at
+          (subst at c.repair-item.is c.in_ok-put_repair_line.ensures.at);
+    }
 
 pub returns-clause-lines : goal.returns-clause-lines
 returns-clause-lines c =
     lines_of_done repair_line c.loop-repair.repair-index c.args.repairs.now c.loop-repair.out.items _ c.loop-repair-test.false
     c.loop-repair.invariant.lines
+
+pub returns-clause-short : goal.returns-clause-short
+returns-clause-short c =
+    subst (All (λ (r : Repair). r.step < 10 ^ 7 → length (repair_line r) ≤ 35)) (take_all c.loop-repair.repair-index c.args.repairs.now c.loop-repair-test.false)
+    c.loop-repair.invariant.short
+
+pub returns-clause-at : goal.returns-clause-at
+returns-clause-at c =
+    subst (All (λ (r : Repair). IsAddress r.at)) (take_all c.loop-repair.repair-index c.args.repairs.now c.loop-repair-test.false) c.loop-repair.invariant.at

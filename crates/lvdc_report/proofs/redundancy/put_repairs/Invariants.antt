@@ -1,4 +1,5 @@
-use Rattle.std.proofs.Common.{◌≡◌, ◌+◌, ◌*◌, ◌<◌, ◌≤◌, ◌^◌, ◌++◌, All, drop, length}
+use Rattle.std.proofs.Common.{◌≡◌, ◌<◌, ◌≤◌, ◌^◌, ◌++◌, All, drop, take, length}
+use Rattle.lvdc_map.specs.Address.{IsAddress}
 use Rattle.lvdc_model.specs.declared.repair.Repair.{Repair}
 use Rattle.lvdc_report.specs.Report.{lines_of}
 use Rattle.lvdc_report.specs.Voted.{repair_line}
@@ -7,5 +8,6 @@ use Rattle.lvdc_report.proofs.redundancy.put_repairs.Given as goal
 abbrev pub invariant-loop-repair : goal.invariant-loop-repair
 invariant-loop-repair l = record {
   lines : l.out.items ++ lines_of repair_line (drop l.repair-index l.repairs) ≡ l.initial.out.items ++ lines_of repair_line l.repairs;
-  short : All (λ (repair : Repair). repair.step < 10 ^ 7) l.repairs → length l.out.items ≤ length l.initial.out.items + 35 * l.repair-index;
+  short : All (λ (r : Repair). r.step < 10 ^ 7 → length (repair_line r) ≤ 35) (take l.repair-index l.repairs);
+  at : All (λ (r : Repair). IsAddress r.at) (take l.repair-index l.repairs);
 }

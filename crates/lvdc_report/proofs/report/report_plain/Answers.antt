@@ -1,8 +1,9 @@
-use Rattle.std.proofs.Common.{◌++◌, ap, ◌∙◌, []}
+use Rattle.std.proofs.Common.{ℕ, ◌++◌, ap, ◌∙◌, [], length, arith, length-append}
 use Rattle.lvdc_plain.specs.View.{visible_of}
-use Rattle.lvdc_report.specs.Report.{title_line, end_text, outcome_of, registers_text, log_text, memory_text, all_known}
+use Rattle.lvdc_report.specs.Report.{title_line, end_text, outcome_of, registers_text, exchange_line, log_text, memory_text, all_known}
 use Rattle.lvdc_report.specs.declared.title.Title.TheVariants.{Plain}
 use Rattle.lvdc_report.proofs.Lines.{onward}
+use Rattle.lvdc_report.proofs.Sizes.{length-lines}
 use Rattle.lvdc_report.proofs.Shown.{plain_text_shown}
 use Rattle.lvdc_report.proofs.report.report_plain.Goals as goal
 
@@ -23,3 +24,19 @@ returns-clause-text c = λ p s.
     (c.in_ok-put_log.ensures.log ∙ ap (λ l. c.put_registers.new.out.items ++ log_text l) c.log.ensures.log))
     (c.in_ok-put_memory.ensures.lines p.memory s.memory)
     ∙ plain_text_shown Plain c.args.end m p s
+
+pub returns-clause-size : goal.returns-clause-size
+returns-clause-size c =
+    omega (
+      arith,
+      length-append {A = ℕ},
+      ap length c.new-out.ensures.items,
+      ap length c.in_ok-extend_from_slice.ensures.items,
+      ap length c.title_line.ensures,
+      c.in_ok-put_end.ensures.short,
+      c.in_ok-put_registers.ensures.short,
+      ap length c.in_ok-put_log.ensures.log,
+      length-lines exchange_line 39 c.log.result.now c.in_ok-put_log.ensures.short,
+      c.log.ensures.few,
+      c.in_ok-put_memory.ensures.short,
+    )

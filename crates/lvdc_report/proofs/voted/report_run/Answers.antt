@@ -1,4 +1,4 @@
-use Rattle.std.proofs.Common.{◌^◌, ◌++◌, ap, ◌∙◌, length, [], arith, length-append}
+use Rattle.std.proofs.Common.{ℕ, ◌++◌, All, ap, ◌∙◌, subst, length, [], arith, length-append}
 use Rattle.lvdc_plain.specs.declared.records.Visible.{Visible}
 use Rattle.lvdc_model.specs.Known.{is_known}
 use Rattle.lvdc_model.specs.Voted.{voted_start}
@@ -7,9 +7,11 @@ use Rattle.lvdc_machine.specs.View.{answer_of_end, visible_of}
 use Rattle.lvdc_report.specs.Report.{title_line, end_text, registers_text, log_text, memory_text}
 use Rattle.lvdc_report.specs.Voted.{title_of, wrong_text, repairs_text}
 use Rattle.lvdc_report.proofs.Lines.{onward}
-use Rattle.lvdc_report.proofs.Noted.{state_from_noted, below_more, start_below}
+use Rattle.lvdc_report.proofs.Behind.{state_from_behind}
+use Rattle.lvdc_report.proofs.Noted.{state_from_noted, start_below}
+use Rattle.lvdc_report.proofs.NotedLines.{IsShortExchange, IsShortRepair, noted-short}
 use Rattle.lvdc_report.proofs.Shown.{voted_text_shown}
-use Rattle.lvdc_report.proofs.Sizes.{length-title_line}
+use Rattle.lvdc_report.proofs.Sizes.{length-title_line, none-noted}
 use Rattle.lvdc_report.proofs.voted.report_run.Goals as goal
 
 pub returns-clause-resumed : goal.returns-clause-resumed
@@ -46,31 +48,32 @@ pub returns-clause-size_resumed : goal.returns-clause-size_resumed
 returns-clause-size_resumed c = λ o first n ds s below.
     let m = c.args.machine.now in
     let v = state_from m.end m.mode o first n in
-    let noted = state_from_noted first below m.end m.mode o n in
     let times = ap (λ (r : Visible). r.times) c.visible.ensures.registers in
-    let early = below_more v.steps (10 ^ 7) v.repairs (omega (arith, times, c.visible.ensures.few, s.shows.steps)) noted.dated in
+    let log = c.log.ensures.log ∙ s.shows.log in
+    let repairs = c.repairs.ensures.repairs ∙ s.shows.repairs in
+    let noted = noted-short first v (state_from_behind m.end m.mode o first n) (state_from_noted first below m.end m.mode o n)
+    (omega (arith, times, c.visible.ensures.few, s.shows.steps)) (subst (All IsShortExchange) log c.in_ok-put_log.ensures.short)
+    (subst (All IsShortRepair) repairs c.in_ok-put_repairs.ensures.short) in
     omega (
       arith,
       times,
       c.visible.ensures.few,
       s.shows.steps,
-      noted.few,
-      ap length s.shows.log,
-      ap length s.shows.repairs,
-      ap length c.log.ensures.log,
-      ap length c.repairs.ensures.repairs,
+      noted,
+      length-append {A = ℕ},
       ap length c.new-out.ensures.items,
       ap length c.in_ok-extend_from_slice.ensures.items,
-      length-append c.new-out.result.items c.title_line.result.now,
       ap length c.title_line.ensures,
       length-title_line c.title_of.result,
       c.in_ok-put_end.ensures.short,
       c.in_ok-put_registers.ensures.short,
-      c.in_ok-put_log.ensures.short,
+      ap length (c.in_ok-put_log.ensures.log ∙ ap (λ l. c.put_registers.new.out.items ++ log_text l) log),
       c.in_ok-put_shown_memory.ensures.short,
       c.in_ok-put_wrong.ensures.short,
-      c.in_ok-put_repairs.ensures.short (rw (c.repairs.ensures.repairs, s.shows.repairs) early),
+      ap length (c.in_ok-put_repairs.ensures.lines ∙ ap (λ r. c.put_wrong.new.out.items ++ repairs_text r) repairs),
     )
 
 pub returns-clause-size : goal.returns-clause-size
-returns-clause-size c = λ o t ds s. returns-clause-size_resumed c o (voted_start o) t ds s (start_below o)
+returns-clause-size c = λ o t ds s.
+    let less = returns-clause-size_resumed c o (voted_start o) t ds s (start_below o) in
+    omega (arith, less, none-noted)

@@ -1,6 +1,5 @@
 use Rattle.std.proofs.Common.{ℕ, ap, length, arith, length-append}
 use Rattle.lvdc_text.proofs.ReadBack.{length-octal_text}
-use Rattle.lvdc_report.proofs.Sizes.{length-spot_text}
 use Rattle.lvdc_report.proofs.words.put_memory_line.Goals as goal
 
 pub returns-clause-short : goal.returns-clause-short
@@ -9,8 +8,7 @@ returns-clause-short c =
       arith,
       length-append {A = ℕ},
       length-octal_text,
-      length-spot_text c.args.at,
-      ap length c.in_ok-put_address.ensures,
+      c.in_ok-put_address.ensures.length,
       ap length c.in_ok-extend_from_slice.ensures.items,
       ap length c.in_ok-extend_from_slice-2.ensures.items,
       ap length c.in_ok-put_octal.ensures.ok,

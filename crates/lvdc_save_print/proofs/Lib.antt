@@ -1,0 +1,4 @@
+mod Texts
+mod Printing
+mod Sizes
+mod AllPrinted
