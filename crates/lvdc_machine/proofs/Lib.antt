@@ -15,4 +15,5 @@ pub mod Starting
 pub mod Following
 pub mod Exchanged
 pub mod Plainly
+pub mod Calls
 mod Rows

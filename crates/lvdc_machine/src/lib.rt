@@ -11,6 +11,7 @@ mod notes;
 mod resumed;
 mod shown;
 mod snapshot;
+mod start;
 mod stepping;
 mod views;
 
