@@ -15,10 +15,10 @@ ghost use Rattle.lvdc_machine.specs.Guarded.{is_recoverable_by};
 ghost use Rattle.lvdc_machine.specs.Resumed.{state_from, StandsFrom};
 ghost use Rattle.lvdc_machine.specs.Room.{pace_of};
 ghost use Rattle.lvdc_machine.specs.Stands.{Stands, state_by, shown_by, shown_of};
-ghost use Rattle.lvdc_machine.specs.View.{bus_of_votes, registers_on, visible_of};
+ghost use Rattle.lvdc_machine.specs.View.{bus_of_votes, registers_on, visible_of, answer_of_end};
 
 use crate::laws::guarded_words;
-use crate::{Machine, Shown};
+use crate::{Machine, Mode, Shown};
 use lvdc_map::{Address, Banks, Hop};
 use lvdc_model::{Outcome, Repair};
 use lvdc_modules::Bus;
@@ -140,6 +140,23 @@ impl Machine {
     {
         let end = self.end?;
         Some(end.outcome())
+    }
+
+    /// What the calls answer by the end that has come: it, or `Done` where none has.
+    pub fn outcome(&self) -> Outcome
+        ensures { result ≡ answer_of_end self.now.end }
+    {
+        match self.ended() {
+            Some(end) => end,
+            None => Outcome::Done,
+        }
+    }
+
+    /// How it goes through its script.
+    pub fn mode(&self) -> Mode
+        ensures { result ≡ self.now.mode }
+    {
+        self.mode
     }
 
     /// Which pairs of memory modules are simplex, as it was given.

@@ -360,6 +360,16 @@ impl Plain {
         self.processor.banks
     }
 
+    /// What the calls answer by the end that has come: it, or `Done` where none has.
+    pub fn outcome(&self) -> PlainEnd
+        ensures { result ≡ answer_of_end self.now.end }
+    {
+        match self.end {
+            Some(end) => end,
+            None => PlainEnd::Done,
+        }
+    }
+
     /// The end that has come; none where every call has answered `Done`.
     pub fn end(&self) -> Option<PlainEnd>
         ensures end { result ≡ self.now.end }
