@@ -13,7 +13,7 @@ ghost use Rattle.lvdc_machine.specs.Resumed.{StandsFrom};
 ghost use Rattle.lvdc_machine.specs.Room.{exchanges_to_come};
 
 use crate::kept_end::KeptEnd;
-use crate::laws::{is_hop_constant, places_words};
+use crate::opening::{is_hop_constant, places_words};
 use crate::start::Start;
 use crate::{Mode, Order, Orders, Pace};
 use lvdc_fault::{Active, Script};

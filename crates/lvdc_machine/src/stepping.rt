@@ -11,7 +11,7 @@ ghost use Rattle.lvdc_fault.specs.Activity.{Stays};
 ghost use Rattle.lvdc_fault.specs.Script.{two_wrong};
 ghost use Rattle.lvdc_fault.specs.declared.verdict.Verdict.{Verdict};
 ghost use Rattle.lvdc_fault.specs.declared.verdict.Verdict.TheVariants.{Admissible};
-ghost use Rattle.lvdc_model.specs.Exchanges.{damages, stop_of, latches, exchanges, reading, storing, port_reading, port_writing, wished};
+ghost use Rattle.lvdc_model.specs.Exchanges.{stop_of, latches, exchanges, reading, storing, port_reading, port_writing, wished};
 ghost use Rattle.lvdc_model.specs.Runs.{own_verdict, own_memory, read_of_wish};
 ghost use Rattle.lvdc_model.specs.Trial.{Trial, devices_left};
 ghost use Rattle.lvdc_model.specs.Twins.{read_answer};
@@ -22,13 +22,13 @@ ghost use Rattle.lvdc_machine.specs.Causes.{Fails, HasCause};
 ghost use Rattle.lvdc_machine.specs.Room.{exchanges_to_come, MayExchange, MayRepair, IsDue};
 ghost use Rattle.lvdc_machine.specs.Notes.{IsNoted};
 ghost use Rattle.lvdc_machine.specs.Resumed.{StandsFrom};
-ghost use Rattle.lvdc_machine.specs.Shows.{Shows};
+ghost use Rattle.lvdc_machine.specs.Shows.{Shows, HasBegun};
 ghost use Rattle.lvdc_machine.specs.Steps.{verdict_of, repair_noted, noting, NamesPort, MayMake, IsMade};
 ghost use Rattle.lvdc_machine.specs.View.{bus_of_votes, answer_of_end, outcome_of, end_seen};
 
 use crate::answers::answer;
 use crate::kept_end::KeptEnd;
-use crate::notes::{log_line, note_repair};
+use crate::notes::note;
 use crate::{Machine, Mode, Order};
 use lvdc_fault::{Verdict, none_wrong, same_actives, wrong_now};
 use lvdc_logic::{InForce, in_force_stays};
@@ -123,10 +123,7 @@ impl Machine {
     /// Damages cells, and puts in force what is stuck and dead in this step, and what acts on the copies. Where the same events are
     /// active as in the step before, there is nothing to do.
     fn begin(&mut self)
-        ensures shows { (o : Trial) (v : Voted) (ds : List device.Device) → Shows o self.old ds v
-            → Shows o self.new ds (record v { twins = damages v.steps o.script v.twins }) }
-        ensures new { self.new ≡ record self.old { memory = self.new.memory; active = self.new.active } }
-        ensures last { self.new.active.last ≡ Some self.old.steps }
+        ensures { HasBegun self.old self.new }
     {
         if self.script.stays(self.steps, &self.active) {
             self.go_on();
@@ -138,10 +135,7 @@ impl Machine {
     /// Begins a step in which the same events are active as in the step before.
     fn go_on(&mut self)
         requires { Stays self.old.script self.old.active self.old.steps }
-        ensures shows { (o : Trial) (v : Voted) (ds : List device.Device) → Shows o self.old ds v
-            → Shows o self.new ds (record v { twins = damages v.steps o.script v.twins }) }
-        ensures new { self.new ≡ record self.old { active = self.new.active } }
-        ensures last { self.new.active.last ≡ Some self.old.steps }
+        ensures { HasBegun self.old self.new }
     {
         same_actives(&self.script, self.steps - 1);
         in_force_stays(&self.script, self.steps - 1);
@@ -151,10 +145,7 @@ impl Machine {
 
     /// Begins a step in which other events are active than in the step before.
     fn change(&mut self)
-        ensures shows { (o : Trial) (v : Voted) (ds : List device.Device) → Shows o self.old ds v
-            → Shows o self.new ds (record v { twins = damages v.steps o.script v.twins }) }
-        ensures new { self.new ≡ record self.old { memory = self.new.memory; active = self.new.active } }
-        ensures last { self.new.active.last ≡ Some self.old.steps }
+        ensures { HasBegun self.old self.new }
     {
         self.memory.release(&self.script, &self.active);
         self.script.active(self.steps, &mut self.active);
@@ -238,8 +229,8 @@ impl Machine {
         ensures made { IsMade self.old self.new }
         ensures steps { self.new.steps ≡ self.old.steps + 1 }
     {
-        log_line(&mut self.log, brought.line);
-        note_repair(&mut self.repairs, brought.repair);
+        note(&mut self.log, brought.line);
+        note(&mut self.repairs, brought.repair);
         let voted = Bus {
             memory: brought.memory,
             port: brought.port,

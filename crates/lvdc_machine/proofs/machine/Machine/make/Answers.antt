@@ -21,15 +21,15 @@ invariant_of-self c =
       differed = c.step_under.ensures.differed c.self.inside.steps c.self.invariant.differed;
       banks = c.self.invariant.banks;
       log = λ own. log-room c.self.inside.pace c.self.inside.steps c.self.inside.limit _ _ _ c.args.brought.line (c.self.invariant.log own) may.left
-          (rw (← c.self.view_is) at c.requires.line) c.log_line.ensures.length c.log_line.ensures.none;
+          (rw (← c.self.view_is) at c.requires.line) c.note.ensures.length c.note.ensures.none;
       log_room = let room = log-room c.self.inside.pace c.self.inside.steps c.self.inside.limit _ _ _ c.args.brought.line c.self.invariant.log_room may.left
-          (rw (← c.self.view_is) at c.requires.line) c.log_line.ensures.length c.log_line.ensures.none in
-          let grown = c.log_line.ensures.capacity in omega (arith, room, grown);
+          (rw (← c.self.view_is) at c.requires.line) c.note.ensures.length c.note.ensures.none in
+          let grown = c.note.ensures.capacity in omega (arith, room, grown);
       repairs = repair-room c.self.inside.pace c.self.inside.steps c.self.inside.limit _ _ _ c.args.brought.repair c.self.invariant.repairs may.left
-          (rw (← c.self.view_is) at c.requires.repair) c.note_repair.ensures.length c.note_repair.ensures.none;
+          (rw (← c.self.view_is) at c.requires.repair) c.note-2.ensures.length c.note-2.ensures.none;
       repairs_room = let room = repair-room c.self.inside.pace c.self.inside.steps c.self.inside.limit _ _ _ c.args.brought.repair c.self.invariant.repairs_room may.left
-          (rw (← c.self.view_is) at c.requires.repair) c.note_repair.ensures.length c.note_repair.ensures.none in
-          let grown = c.note_repair.ensures.capacity in omega (arith, room, grown);
+          (rw (← c.self.view_is) at c.requires.repair) c.note-2.ensures.length c.note-2.ensures.none in
+          let grown = c.note-2.ensures.capacity in omega (arith, room, grown);
       steps = omega (arith, may.left);
       limit = c.self.invariant.limit;
       judges = c.self.invariant.judges;
@@ -37,15 +37,15 @@ invariant_of-self c =
           c.args.brought.memory c.args.brought.port may.right c.self.invariant.timed);
       bus = c.bus-self-inside.ensures;
       going = λ none. rw c.bus-self-inside.ensures at (goes-on (c.bus-self-inside.result.exchange.stop % 4) c.self.inside.steps _ c.stop_of-self-inside.ensures none);
-      logged = rw c.log_line.ensures.items (log-noted c.self.inside.steps _ c.args.brought.line (rw (← c.self.view_is) at c.requires.dated) c.self.invariant.logged);
-      noted = rw c.note_repair.ensures.items (repairs-noted c.self.inside.banks c.self.inside.steps _ c.args.brought.repair (rw (← c.self.view_is) at c.requires.noted) c.self.invariant.noted);
+      logged = rw c.note.ensures.items (log-noted c.self.inside.steps _ c.args.brought.line (rw (← c.self.view_is) at c.requires.dated) c.self.invariant.logged);
+      noted = rw c.note-2.ensures.items (repairs-noted c.self.inside.banks c.self.inside.steps _ c.args.brought.repair (rw (← c.self.view_is) at c.requires.noted) c.self.invariant.noted);
     }
 
 pub returns-clause-shows : goal.returns-clause-shows
 returns-clause-shows c = λ o v ds h.
     let in_force = known_force c.self.inside.script c.self.inside.active.last c.self.inside.steps c.self.inside.force c.self.invariant.force (rw (← c.self.view_is) at c.requires.may).begun in
-    shows-made (rw (← c.self.view_is) at h) c.args.brought _ _ _ _ _ _ (latched-from c.self.inside.script c.self.inside.steps _ _ _ c.args.brought (c.step_under.ensures.copies c.self.inside.script c.self.inside.steps c.self.invariant.events in_force) c.self.invariant.bus) c.step_under.ensures.counts c.log_line.ensures.items
-    c.note_repair.ensures.items c.bus-self-inside.ensures c.stop_of-self-inside.ensures
+    shows-made (rw (← c.self.view_is) at h) c.args.brought _ _ _ _ _ _ (latched-from c.self.inside.script c.self.inside.steps _ _ _ c.args.brought (c.step_under.ensures.copies c.self.inside.script c.self.inside.steps c.self.invariant.events in_force) c.self.invariant.bus) c.step_under.ensures.counts c.note.ensures.items
+    c.note-2.ensures.items c.bus-self-inside.ensures c.stop_of-self-inside.ensures
 
 pub returns-clause-made : goal.returns-clause-made
 returns-clause-made c = rw (← c.self.view_is) (record {

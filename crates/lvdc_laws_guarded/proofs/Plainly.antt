@@ -18,7 +18,7 @@ use Rattle.lvdc_laws_voted.specs.Ends.{stop_end, IsBegun, Comes, Good, Bad}
 use Rattle.lvdc_laws_voted.specs.Relation.{Goes, Halts}
 use Rattle.lvdc_machine.specs.declared.mode.Mode.{Mode}
 use Rattle.lvdc_machine.specs.declared.mode.Mode.TheVariants.{Guarded}
-use Rattle.lvdc_machine.specs.Guarded.{IsPlain, GuardedBy, IsUnhurt, UnhurtBy, is_recoverable_by}
+use Rattle.lvdc_laws_guarded.specs.Guarded.{IsPlain, GuardedBy, IsUnhurt, UnhurtBy, is_recoverable_by}
 use Rattle.lvdc_machine.specs.Stands.{state_by, shown_by, shown_of}
 use Rattle.lvdc_machine.specs.Steps.{run_of}
 

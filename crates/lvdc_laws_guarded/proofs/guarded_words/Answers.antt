@@ -1,5 +1,5 @@
-use Rattle.lvdc_machine.proofs.Plainly.{told}
-use Rattle.lvdc_machine.proofs.laws.guarded_words.Goals as goal
+use Rattle.lvdc_laws_guarded.proofs.Plainly.{told}
+use Rattle.lvdc_laws_guarded.proofs.guarded_words.Goals as goal
 
 pub returns : goal.returns
 returns c = λ o t m ds at opens mode bank h.

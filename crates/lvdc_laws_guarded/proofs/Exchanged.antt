@@ -13,7 +13,7 @@ use Rattle.lvdc_plain.specs.Stands.{Names, request_at}
 use Rattle.lvdc_plain.specs.declared.records.Stop.{Stop}
 use Rattle.lvdc_laws_phases.specs.Exchanges.{read_wish, store_wish, exchange_wish, made, exchange_in}
 use Rattle.lvdc_model.specs.Trial.{Trial, plain_in}
-use Rattle.lvdc_machine.specs.Guarded.{IsExchanged}
+use Rattle.lvdc_laws_guarded.specs.Guarded.{IsExchanged}
 use Rattle.lvdc_machine.specs.Steps.{NamesPort}
 
 -- a read names no port

@@ -1,8 +1,11 @@
-ghost use Rattle.std.specs.Prelude.{◌≡◌, ℕ, ◌*◌, ◌<◌, ◌^◌, List, [], All, None};
+//! A guarded machine is the plain run, while faults stay admissible. These are laws over every machine that stands where its run
+//! is: each is the contract of a function that does nothing when it runs, and that a proof cites by calling it.
+#![tactic(auto)]
+
+ghost use Rattle.std.specs.Prelude.{◌≡◌, ℕ, ◌*◌, List, [], None};
 ghost use Rattle.lvdc_map.specs.Address.{Spot};
 ghost use Rattle.lvdc_map.specs.Banks.{HasBank};
 ghost use Rattle.lvdc_map.specs.Memory.{word_at};
-ghost use Rattle.lvdc_map.specs.Hop.{IsHopConstant};
 ghost use Rattle.lvdc_port.specs.Device as device;
 ghost use Rattle.lvdc_model.specs.Exchanges.{begin_step, wished};
 ghost use Rattle.lvdc_model.specs.Runs.{guarded};
@@ -10,15 +13,13 @@ ghost use Rattle.lvdc_model.specs.Trial.{Trial, plain_in};
 ghost use Rattle.lvdc_laws_phases.specs.Standing.{Standing};
 ghost use Rattle.lvdc_laws_voted.specs.Ends.{IsOpening};
 ghost use Rattle.lvdc_laws_voted.specs.Relation.{Kept};
-ghost use Rattle.lvdc_machine.specs.Guarded.{IsExchanged, GuardedBy, UnhurtBy, is_recoverable_by};
+ghost use Rattle.lvdc_laws_guarded.specs.Guarded.{IsExchanged, GuardedBy, UnhurtBy, is_recoverable_by};
 ghost use Rattle.lvdc_machine.specs.Stands.{Stands, state_by, shown_by, shown_of};
 ghost use Rattle.lvdc_machine.specs.Steps.{NamesPort};
 ghost use Rattle.lvdc_machine.specs.View.{View};
 ghost use Rattle.lvdc_machine.specs.declared.mode.Mode.TheVariants.{Guarded};
 
-use lvdc_map::{Hop, Placed};
-
-/// A law, which does nothing when it runs: a guarded machine that stands where its run is follows the plain run up to the first
+/// A guarded machine that stands where its run is follows the plain run up to the first
 /// inadmissible step, and has ended there.
 pub fn guarded_follows()
     ensures { (o : Trial) (n : ℕ) (m : View) (ds : List device.Device) → IsOpening o.opening → m.mode ≡ Guarded → Stands o n m ds
@@ -30,7 +31,7 @@ pub fn guarded_follows()
     lvdc_laws_voted::step_begun();
 }
 
-/// A law, which does nothing when it runs: as long as no end has come, a guarded machine that stands where its run is keeps the
+/// As long as no end has come, a guarded machine that stands where its run is keeps the
 /// whole relation to the plain run, step by step. The copies of a module that weren't wrong in the last step are one state, and
 /// these states stand for the plain run in the phase of the next step.
 pub fn guarded_keeps()
@@ -41,7 +42,7 @@ pub fn guarded_keeps()
     lvdc_laws_voted::judges_alone();
 }
 
-/// A law, which does nothing when it runs: where a guarded run goes on and wishes an exchange with a port, the plain run makes
+/// Where a guarded run goes on and wishes an exchange with a port, the plain run makes
 /// one with that port; also where a device then fails.
 pub fn failed_exchange()
     ensures { (o : Trial) → IsOpening o.opening → (n port : ℕ) → (guarded o n).end ≡ None
@@ -51,7 +52,7 @@ pub fn failed_exchange()
     lvdc_laws_voted::step_begun();
 }
 
-/// A law, which does nothing when it runs: under a script without events a guarded machine that stands after whole times shows
+/// Under a script without events a guarded machine that stands after whole times shows
 /// the plain run, unless a device failed.
 pub fn unhurt_follows()
     ensures { (o : Trial) (times : ℕ) (m : View) (ds : List device.Device) → IsOpening o.opening → m.mode ≡ Guarded → m.script ≡ []
@@ -63,7 +64,7 @@ pub fn unhurt_follows()
     lvdc_laws_voted::no_faults_no_verdict();
 }
 
-/// A law, which does nothing when it runs: what a guarded machine tells of a word is the plain run's word, exactly where that
+/// What a guarded machine tells of a word is the plain run's word, exactly where that
 /// can be recovered.
 pub fn guarded_words()
     ensures { (o : Trial) (t : ℕ) (m : View) (ds : List device.Device) (at : Spot) → IsOpening o.opening → m.mode ≡ Guarded
@@ -76,24 +77,3 @@ pub fn guarded_words()
     lvdc_laws_voted::judges_alone();
     lvdc_laws_voted::words_known();
 }
-
-/// What is placed is a word, by its type. The call has no effect.
-fn places_word(placed: &Placed)
-    ensures { placed.now.word < 2 ^ 26 }
-{
-    placed.word.value();
-}
-
-/// What an image places are words. The loop has no effect.
-pub(crate) fn places_words(image: &[Placed])
-    ensures { All (λ placed. placed.word < 2 ^ 26) image.now }
-{
-    for placed in image {
-        places_word(placed);
-    }
-}
-
-/// The fields of a HOP constant are in their ranges, by its type.
-pub(crate) fn is_hop_constant(start: Hop)
-    ensures { IsHopConstant start }
-{}

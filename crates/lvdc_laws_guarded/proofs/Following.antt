@@ -19,7 +19,7 @@ use Rattle.lvdc_laws_voted.specs.Ends.{ShowsTimes, IsBegun, EndsAt, Comes, Good,
 use Rattle.lvdc_laws_voted.specs.Relation.{Kept, Goes, Halts}
 use Rattle.lvdc_machine.specs.declared.mode.Mode.{Mode}
 use Rattle.lvdc_machine.specs.declared.mode.Mode.TheVariants.{Guarded}
-use Rattle.lvdc_machine.specs.Guarded.{IsPlain, IsRefused, GuardedBy}
+use Rattle.lvdc_laws_guarded.specs.Guarded.{IsPlain, IsRefused, GuardedBy}
 use Rattle.lvdc_machine.specs.Stands.{Stands, EndsAs, state_by}
 use Rattle.lvdc_machine.specs.Steps.{run_of}
 use Rattle.lvdc_machine.specs.View.{View}

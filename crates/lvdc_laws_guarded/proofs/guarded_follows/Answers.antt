@@ -1,5 +1,5 @@
-use Rattle.lvdc_machine.proofs.Following.{follows}
-use Rattle.lvdc_machine.proofs.laws.guarded_follows.Goals as goal
+use Rattle.lvdc_laws_guarded.proofs.Following.{follows}
+use Rattle.lvdc_laws_guarded.proofs.guarded_follows.Goals as goal
 
 pub returns : goal.returns
 returns c = λ o n m ds opens mode h.

@@ -1,6 +1,6 @@
 use Rattle.std.proofs.Common.{◌*◌, sym, ◌∙◌}
-use Rattle.lvdc_machine.proofs.Plainly.{unhurt}
-use Rattle.lvdc_machine.proofs.laws.unhurt_follows.Goals as goal
+use Rattle.lvdc_laws_guarded.proofs.Plainly.{unhurt}
+use Rattle.lvdc_laws_guarded.proofs.unhurt_follows.Goals as goal
 
 pub returns : goal.returns
 returns c = λ o times m ds opens mode empty h.

@@ -1,8 +1,8 @@
 use Rattle.std.proofs.Common.{◌%◌, subst, refl}
 use Rattle.lvdc_machine.specs.Steps.{NamesPort}
-use Rattle.lvdc_machine.proofs.Exchanged.{is-exchanged}
-use Rattle.lvdc_machine.proofs.Following.{going-good}
-use Rattle.lvdc_machine.proofs.laws.failed_exchange.Goals as goal
+use Rattle.lvdc_laws_guarded.proofs.Exchanged.{is-exchanged}
+use Rattle.lvdc_laws_guarded.proofs.Following.{going-good}
+use Rattle.lvdc_laws_guarded.proofs.failed_exchange.Goals as goal
 
 pub returns : goal.returns
 returns c = λ o opens n port going named.
