@@ -34,11 +34,6 @@ all-taken s old now is = record {
   devices = is ∙ ap (λ (states : List Supply). with_states states (left_of s old)) (sym (take_all (length s.states) s.states (omega arith)));
 }
 
--- there is room for the steps that are left
-pub room-left : {B : Type 0} (spare : B → ℕ) (bs : List B) (pace : Pace) (steps made limit count : ℕ) → pace ≡ ByStep → steps ≡ made → limit ≡ count
-    → HasSpare spare (exchanges_left ByStep made count) bs → HasSpare spare (exchanges_left pace steps limit) bs
-room-left spare bs pace steps made limit count p s l room = rw (p, s, l) room
-
 -- ---- the run
 
 -- its end has its cause since before it

@@ -2,9 +2,8 @@ use Rattle.std.proofs.Common.{◌+◌, ◌<◌, List, ℕ, length, sym, ap, subs
 use Rattle.std.proofs.lemmas.Result.{IfOk-weaker}
 use Rattle.lvdc_machine.specs.Resumed.{state_from}
 use Rattle.lvdc_machine.specs.declared.mode.Mode.{Mode}
-use Rattle.lvdc_report.specs.Voted.{voted_text}
+use Rattle.lvdc_report.specs.Voted.{title_of, voted_text}
 use Rattle.lvdc_report.specs.declared.report.TheConstants.{LONGEST_REPORT}
-use Rattle.lvdc_report.specs.declared.title.Title.TheVariants.{Run}
 use Rattle.lvdc_command_resume.specs.Room.{noted_size}
 use Rattle.lvdc_command_resume.proofs.reply.report.Goals as goal
 
@@ -12,8 +11,8 @@ pub returns-clause-text : goal.returns-clause-text
 returns-clause-text c =
     IfOk-weaker c.report_end.result _ _
     (λ reply text o first n ds stands.
-    text o first n ds stands ∙ ap (λ (k : Mode). voted_text Run o (state_from c.args.finished.now.machine.end k o first n)) c.requires.mode)
-    c.report_end.ensures.resumed
+    text o first n ds stands ∙ ap (λ (k : Mode). voted_text (title_of k) o (state_from c.args.machine.now.end k o first n)) c.requires.mode)
+    c.report_end.ensures.text
 
 pub returns-clause-short : goal.returns-clause-short
 returns-clause-short c =
