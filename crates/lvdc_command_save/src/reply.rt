@@ -35,7 +35,9 @@ fn save_deck(
 {
     lvdc_laws_voted::judges_alone();
     let Ready {
-        machine, orders, ..
+        machine,
+        orders,
+        ..
     } = run_times(alloc, times, deck, devices)?;
     match machine.ended() {
         None => reply_saved(alloc, &machine, orders, devices),

@@ -2,8 +2,6 @@ use Rattle.std.proofs.Common.{◌≡◌, ℕ, ◌+◌, ◌<◌, ◌++◌, [], ta
 use Rattle.std.proofs.lemmas.List.{get_or-map, length-map, take_all}
 use Rattle.lvdc_text.specs.Lines.{part_of}
 use Rattle.lvdc_model.specs.Trial.{Trial}
-use Rattle.lvdc_laws_voted.specs.Ends.{IsOpening}
-use Rattle.lvdc_machine.specs.Stands.{Stands}
 use Rattle.lvdc_debug.specs.declared.course.Course.{Course}
 use Rattle.lvdc_debug.specs.Session.{at_start, after_line, entries}
 use Rattle.lvdc_debug.specs.Standing.{command_texts, AtStart, subject_of, IsSubject, StandsAmid}

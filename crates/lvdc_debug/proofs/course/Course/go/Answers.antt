@@ -72,3 +72,29 @@ run-requires-clause-left g c =
 
 pub run-requires-clause-fit : goal.run-requires-clause-fit
 run-requires-clause-fit g c = c.loop-self.invariant.ready.fit
+
+pub returns-then-rests-clause-moves : goal.returns-then-rests-clause-moves
+returns-then-rests-clause-moves g c =
+    let before = c.loop-self.invariant in
+    let moves = run_moves (λ b. (goal.PortDevice-dyn g (b.vtable, b.value)).device_of b.value) (λ b. (goal.PortDevice-dyn g (b.vtable, b.value)).spare b.value) (λ b. (goal.PortDevice-dyn g (b.vtable, b.value)).faults b.value)
+    c.loop-self.self.asked 1 c.loop-self.machine c.run.new.self c.loop-self.devices.items c.run.new.devices.items c.run.result
+    (record { mode = before.ready.mode; limit_is = refl; few = rw before.ready.limit_is before.ready.few; made = before.ready.made; fit = before.ready.fit })
+    (omega (arith, c.loop-self-test.true, c.limit.ensures)) c.run.ensures.stands c.run.ensures.answers c.run.ensures.leaves in
+    moves_then (λ b. (goal.PortDevice-dyn g (b.vtable, b.value)).device_of b.value) (λ b. (goal.PortDevice-dyn g (b.vtable, b.value)).faults b.value)
+    c.args.self.now.asked c.loop-self.self.asked (c.loop-self.self.asked + 1) c.args.machine.now c.loop-self.machine c.run.new.self
+    c.args.devices.now.items c.loop-self.devices.items c.run.new.devices.items before.moves moves
+
+pub returns-then-rests-clause-ready : goal.returns-then-rests-clause-ready
+returns-then-rests-clause-ready g c =
+    let before = c.loop-self.invariant in
+    let ready = run_ready (λ b. (goal.PortDevice-dyn g (b.vtable, b.value)).device_of b.value) (λ b. (goal.PortDevice-dyn g (b.vtable, b.value)).spare b.value) (λ b. (goal.PortDevice-dyn g (b.vtable, b.value)).faults b.value)
+    c.loop-self.self.asked 1 c.loop-self.machine c.run.new.self c.loop-self.devices.items c.run.new.devices.items c.run.result
+    (record { mode = before.ready.mode; limit_is = refl; few = rw before.ready.limit_is before.ready.few; made = before.ready.made; fit = before.ready.fit })
+    (omega (arith, c.loop-self-test.true, c.limit.ensures)) c.run.ensures.stands c.run.ensures.answers c.run.ensures.leaves in
+    record {
+      mode = ready.mode;
+      limit_is = ready.limit_is ∙ before.ready.limit_is;
+      few = rw before.ready.limit_is at ready.few;
+      made = ready.made;
+      fit = ready.fit;
+    }

@@ -1,5 +1,4 @@
 use Rattle.std.proofs.Common.{arith}
-use Rattle.std.specs.Prelude.{min}
 use Rattle.lvdc_debug.proofs.Going.{run_moves, run_ready, run_left}
 use Rattle.lvdc_debug.proofs.course.Course.step.Goals as goal
 
