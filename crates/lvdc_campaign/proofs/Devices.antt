@@ -78,6 +78,7 @@ module _ {B : Type 0} (device_of : B → device.Device) (faults : B → ℕ) (im
       record {
         opening = subst IsOpening is_program opens;
         banks = later.shows.banks;
+        script = later.shows.script;
         mode_is = mode_is;
         stands = subst (λ (ds : List device.Device). Stands o (3 * times) m ds) empty-after later;
         unfailed = unfailed m.end (subst C is cause);

@@ -1,6 +1,7 @@
 -- Fault campaigns: what each of many scripts makes of one program.
-use Rattle.std.specs.Prelude.{ℕ, ◌*◌, ◌≤◌, Bool, List, [], All, length, map}
+use Rattle.std.specs.Prelude.{◌≡◌, ℕ, ◌*◌, ◌≤◌, Bool, true, List, [], All, length, map}
 use Rattle.lvdc_map.specs.Hop.{HopConstant}
+use Rattle.lvdc_map.specs.Memory.{are_rising, AllThere}
 use Rattle.lvdc_map.specs.declared.placed.Placed.{Placed}
 use Rattle.lvdc_plain.specs.Run.{Opening}
 use Rattle.lvdc_fault.specs.declared.event.Event.{Event}
@@ -9,13 +10,24 @@ use Rattle.lvdc_fault.specs.Events.{IsEvent}
 use Rattle.lvdc_model.specs.Judging.{first_bad}
 use Rattle.lvdc_model.specs.Runs.{through}
 use Rattle.lvdc_model.specs.Trial.{Trial, plain_at}
-use Rattle.lvdc_campaign.specs.declared.TheConstants.{MOST_EVENTS}
+use Rattle.lvdc_campaign.specs.declared.TheConstants.{MOST_TIMES, MOST_EVENTS}
+use Rattle.lvdc_campaign.specs.declared.program.Program.{Program}
 use Rattle.lvdc_campaign.specs.declared.row.Row.{Row}
 use Rattle.lvdc_campaign.specs.Same.{is_same_state}
 
 -- the program that all scripts are run against; no device is at any port
 abbrev pub program_of : List Placed → HopConstant → ℕ → Opening
 program_of image start banks = record { image = image; banks = banks; start = start; unplugs = []; devices = [] }
+
+-- that of the code's program
+abbrev pub opening_of : Program → Opening
+opening_of p = program_of p.image.now p.start p.banks
+
+-- a program that can be run: of so many times at most, and its words rise by address and stand in banks that are there
+pub record IsProgram (p : Program) : Type 0 where
+  pub count : p.count ≤ MOST_TIMES
+  pub rising : are_rising p.image.now ≡ true
+  pub there : AllThere p.banks p.image.now
 
 -- the trial of a program under a script
 abbrev pub trial_under : Opening → List Event → Trial

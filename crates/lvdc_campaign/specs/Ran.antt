@@ -42,6 +42,7 @@ verdict_in (Some (Device step port)) = Admissible
 pub record HasRun (mode : Mode) (o : Trial) (times : ℕ) (m : View) : Type 0 where
   pub opening : IsOpening o.opening
   pub banks : m.banks ≡ o.opening.banks
+  pub script : m.script ≡ o.script
   pub mode_is : m.mode ≡ mode
   pub stands : Stands o (3 * times) m []
   pub unfailed : NoneFailed m.end

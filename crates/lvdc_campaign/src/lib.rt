@@ -3,6 +3,7 @@
 #![tactic(auto)]
 
 mod laws;
+mod program;
 mod row;
 mod rows;
 mod runs;

@@ -1,31 +1,20 @@
 ghost use Rattle.std.specs.Prelude.{◌≡◌, ◌-◌, ◌^◌, ◌<◌, ◌≤◌, length, map, All, OnErr, IfOk};
 ghost use Rattle.lvdc_port.specs.Devices.{AreDistinct};
 ghost use Rattle.lvdc_text.specs.Lines.{IsWithin};
-ghost use Rattle.lvdc_machine.specs.View.{answer_of_end};
 ghost use Rattle.lvdc_reply.specs.Answer.{answer_with};
-ghost use Rattle.lvdc_command_run.specs.Accounts.{end_status};
 ghost use Rattle.lvdc_command_run.specs.Trials.{IsRunnable};
 ghost use Rattle.lvdc_debug.specs.Standing.{AreApart};
-ghost use Rattle.lvdc_command_debug.specs.Replies.{IsSession, IsAnswered, IsSessionReply, IsUnwritten, IsUnanswered};
+ghost use Rattle.lvdc_command_debug.specs.Replies.{IsSession, IsSessionReply, IsUnwritten, IsUnanswered};
 
 use lvdc_command_run::{Ready, end_status, make_ready, refuse};
 use lvdc_debug::{LONGEST_SESSION, debug};
 use lvdc_deck::{Deck, commands_are_apart, read_deck};
-use lvdc_machine::{Machine, Mode, failed_exchange, guarded_follows};
+use lvdc_laws_guarded::{failed_exchange, guarded_follows};
+use lvdc_machine::Mode;
 use lvdc_port::PortDevice;
 use lvdc_reply::Reply;
 use lvdc_word::{NoMemory, Seq};
 use std::alloc::Global;
-
-/// The status of a machine by the end that it keeps.
-fn status_of(machine: &Machine) -> u8
-    ensures { result ≡ end_status (answer_of_end machine.now.end) }
-{
-    match machine.ended() {
-        Some(end) => end_status(&end),
-        None => 0,
-    }
-}
 
 /// The reply to a deck: its session over the guarded run. The laws of guarded runs are cited here alone.
 fn debug_deck(
@@ -51,48 +40,22 @@ fn debug_deck(
     let Ready {
         mut machine,
         orders,
-        count,
         commands,
     } = make_ready(alloc, Mode::Guarded, deck, devices)?;
+    let limit = machine.limit();
     let text = debug(
         alloc,
         &mut machine,
         &orders,
         bytes,
         commands.items(),
-        count,
+        limit,
         devices,
     )?;
     Ok(Reply {
-        status: status_of(&machine),
+        status: end_status(&machine.outcome()),
         text: Seq::from_vec(text),
     })
-}
-
-/// Reads a deck and debugs it.
-fn debug_or_refuse(
-    alloc: Global,
-    bytes: &[u8],
-    devices: &mut Vec<Box<dyn PortDevice>>,
-) -> Result<Reply, NoMemory>
-    requires few { length bytes.now < 2 ^ 32 - 1 }
-    requires distinct { AreDistinct (map device_of devices.old.items) }
-    ensures reply { IfOk result (λ reply. IsAnswered device_of faults bytes.now devices.old.items devices.new.items
-        (answer_with reply.status reply.text (map device_of devices.new.items))) }
-    ensures unanswered { OnErr result (IsUnanswered device_of faults bytes.now devices.old.items devices.new.items) }
-    ensures room { IfOk result (λ reply. length bytes.now ≤ 1048576 → length reply.text ≤ LONGEST_SESSION) }
-{
-    commands_are_apart();
-    match read_deck(alloc, bytes, devices, true) {
-        Ok(deck) => {
-            let reply = debug_deck(alloc, bytes, deck, devices)?;
-            Ok(reply)
-        }
-        Err(fault) => {
-            let reply = refuse(alloc, fault)?;
-            Ok(reply)
-        }
-    }
 }
 
 /// The reply to a debugging session over these bytes and the devices at the ports.
@@ -113,6 +76,15 @@ pub fn debug_bytes(
 
     ensures room { IfOk result (λ reply. length bytes.now ≤ 1048576 → length reply.text ≤ LONGEST_SESSION) }
 {
-    let reply = debug_or_refuse(alloc, bytes, devices)?;
-    Ok(reply)
+    commands_are_apart();
+    match read_deck(alloc, bytes, devices, true) {
+        Ok(deck) => {
+            let reply = debug_deck(alloc, bytes, deck, devices)?;
+            Ok(reply)
+        }
+        Err(fault) => {
+            let reply = refuse(alloc, fault)?;
+            Ok(reply)
+        }
+    }
 }

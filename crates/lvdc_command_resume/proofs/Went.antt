@@ -3,7 +3,7 @@ use Rattle.std.proofs.Common.{◌≡◌, ℕ, ◌+◌, ◌-◌, ◌*◌, ◌/◌
 use Rattle.std.proofs.lemmas.List.{take_all}
 use Rattle.lvdc_port.specs.Causes.{Rose}
 use Rattle.lvdc_port.specs.Device as device
-use Rattle.lvdc_port.specs.Devices.{has_port, count_at, HasSpare}
+use Rattle.lvdc_port.specs.Devices.{has_port, count_at}
 use Rattle.lvdc_port.specs.declared.requests.Supply.{Supply}
 use Rattle.lvdc_port.proofs.Lists.{rose-has}
 use Rattle.lvdc_plain.specs.Lists.{Since}
@@ -14,12 +14,9 @@ use Rattle.lvdc_model.specs.declared.outcome.Outcome.{Outcome}
 use Rattle.lvdc_model.specs.declared.outcome.Outcome.TheVariants.{Done, Stopped, Inadmissible, Device}
 use Rattle.lvdc_machine.specs.Causes.{HasCause}
 use Rattle.lvdc_machine.specs.Resumed.{StandsFrom}
-use Rattle.lvdc_machine.specs.Room.{exchanges_left}
 use Rattle.lvdc_machine.specs.Snapshot.{Means}
 use Rattle.lvdc_machine.specs.View.{View, answer_of_end}
 use Rattle.lvdc_machine.specs.declared.mode.Mode.TheVariants.{Guarded}
-use Rattle.lvdc_machine.specs.declared.mode.Pace.{Pace}
-use Rattle.lvdc_machine.specs.declared.mode.Pace.TheVariants.{ByStep}
 use Rattle.lvdc_save.specs.declared.saved.Saved.{Saved}
 use Rattle.lvdc_command_resume.specs.Finished.{HasRun}
 use Rattle.lvdc_command_resume.specs.Restore.{left_of, with_states, devices_of, HaveTaken}
@@ -33,11 +30,6 @@ all-taken s old now is = record {
   count = length s.states;
   devices = is ∙ ap (λ (states : List Supply). with_states states (left_of s old)) (sym (take_all (length s.states) s.states (omega arith)));
 }
-
--- there is room for the steps that are left
-pub room-left : {B : Type 0} (spare : B → ℕ) (bs : List B) (pace : Pace) (steps made limit count : ℕ) → pace ≡ ByStep → steps ≡ made → limit ≡ count
-    → HasSpare spare (exchanges_left ByStep made count) bs → HasSpare spare (exchanges_left pace steps limit) bs
-room-left spare bs pace steps made limit count p s l room = rw (p, s, l) room
 
 -- ---- the run
 

@@ -21,10 +21,10 @@ ghost use Rattle.lvdc_command_resume.specs.Replies.{IsResumed, IsResumeReply, Is
 ghost use Rattle.lvdc_command_resume.specs.Runs.{IsRunnable};
 
 use crate::restore::Unrestored;
-use crate::run::{Finished, run_saved};
+use crate::run::run_saved;
 use lvdc_command_run::{guarded_is_answered, report_end};
 use lvdc_laws_voted::judges_alone;
-use lvdc_machine::{Mode, resumed_goes_on};
+use lvdc_machine::{Machine, resumed_goes_on};
 use lvdc_port::PortDevice;
 use lvdc_reply::{Reply, refusal};
 use lvdc_save::{SaveFault, Saved};
@@ -40,16 +40,15 @@ pub const LIMIT: usize = 134_217_728;
 pub const ROOM: usize = 268_435_456;
 
 /// Reports a run, with the status of its end.
-fn report(alloc: Global, finished: &Finished) -> Result<Reply, NoMemory>
-    requires mode { finished.now.machine.mode ≡ Guarded }
-    requires end { finished.now.end ≡ answer_of_end finished.now.machine.end }
-    ensures status { IfOk result (λ reply. reply.status ≡ end_status finished.now.end) }
-    ensures text { IfOk result (λ reply. (o : Trial) (first : Voted) (n : ℕ) (ds : List Device) → StandsFrom o first n finished.now.machine ds
-        → reply.text ≡ voted_text Run o (state_from finished.now.machine.end Guarded o first n)) }
-    ensures short { IfOk result (λ reply. (o : Trial) (first : Voted) (n : ℕ) (ds : List Device) → StandsFrom o first n finished.now.machine ds
+fn report(alloc: Global, machine: &Machine) -> Result<Reply, NoMemory>
+    requires mode { machine.now.mode ≡ Guarded }
+    ensures status { IfOk result (λ reply. reply.status ≡ end_status (answer_of_end machine.now.end)) }
+    ensures text { IfOk result (λ reply. (o : Trial) (first : Voted) (n : ℕ) (ds : List Device) → StandsFrom o first n machine.now ds
+        → reply.text ≡ voted_text Run o (state_from machine.now.end Guarded o first n)) }
+    ensures short { IfOk result (λ reply. (o : Trial) (first : Voted) (n : ℕ) (ds : List Device) → StandsFrom o first n machine.now ds
         → All (λ repair. repair.step < first.steps) first.repairs → length reply.text < LONGEST_REPORT + noted_size first.log first.repairs) }
 {
-    report_end(alloc, &finished.machine, Mode::Guarded, finished.end)
+    report_end(alloc, machine)
 }
 
 /// The reply where the device at this port fails at a word of its state.
@@ -87,7 +86,7 @@ fn resume(
     judges_alone();
     guarded_is_answered();
     match run_saved(alloc, saved, devices) {
-        Ok(finished) => report(alloc, &finished),
+        Ok(machine) => report(alloc, &machine),
         Err(Unrestored::NoMemory) => Err(NoMemory),
         Err(Unrestored::Failed(port)) => refuse_device(alloc, port),
     }

@@ -1,35 +1,26 @@
 //! The run that goes on from a saved state.
 
-ghost use Rattle.std.specs.Prelude.{◌≡◌, map, IfOk, IfErr};
+ghost use Rattle.std.specs.Prelude.{map, IfOk, IfErr};
 ghost use Rattle.lvdc_port.specs.Devices.{AreDistinct};
-ghost use Rattle.lvdc_machine.specs.View.{answer_of_end};
 ghost use Rattle.lvdc_command_resume.specs.Finished.{HasRun};
 ghost use Rattle.lvdc_command_resume.specs.Restore.{left_of, HaveRefused};
 ghost use Rattle.lvdc_command_resume.specs.Runs.{IsRunnable};
 
 use crate::restore::{Unrestored, restore_devices};
-use lvdc_machine::{Machine, Outcome};
+use lvdc_machine::Machine;
 use lvdc_port::PortDevice;
 use lvdc_save::Saved;
 use std::alloc::Global;
-
-/// A machine after its run, and the end that it has come to.
-#[derive(Drop)]
-pub(crate) struct Finished {
-    pub(crate) machine: Machine,
-    pub(crate) end: Outcome,
-}
 
 /// Gives the devices their states, and runs the machine of a saved state up to the count.
 pub(crate) fn run_saved(
     alloc: Global,
     saved: Saved,
     devices: &mut Vec<Box<dyn PortDevice>>,
-) -> Result<Finished, Unrestored>
+) -> Result<Machine, Unrestored>
     requires runnable { IsRunnable saved }
     requires distinct { AreDistinct (map device_of devices.old.items) }
-    ensures run { IfOk result (λ f. HasRun device_of faults saved devices.old.items devices.new.items f.machine) }
-    ensures end { IfOk result (λ f. f.end ≡ answer_of_end f.machine.end) }
+    ensures run { IfOk result (λ machine. HasRun device_of faults saved devices.old.items devices.new.items machine) }
     ensures refused { IfErr result (λ e. HaveRefused device_of faults saved.states (left_of saved (map device_of devices.old.items)) e
         devices.old.items devices.new.items) }
 {
@@ -51,6 +42,6 @@ pub(crate) fn run_saved(
         count,
         devices,
     )?;
-    let end = machine.run(&orders, times, devices);
-    Ok(Finished { machine, end })
+    machine.run(&orders, times, devices);
+    Ok(machine)
 }

@@ -2,6 +2,7 @@
 use Rattle.std.proofs.Common.{◌≡◌, ℕ, ◌+◌, ◌-◌, ◌*◌, ◌/◌, List, map, None, Some, refl, sym, ap, subst, ◌∙◌, arith}
 use Rattle.std.specs.declared.option.Option.{Option}
 use Rattle.lvdc_port.specs.Device as device
+use Rattle.lvdc_plain.specs.Calls as plain_calls
 use Rattle.lvdc_plain.specs.Plain.{PlainState}
 use Rattle.lvdc_plain.specs.Run.{run}
 use Rattle.lvdc_plain.specs.Stands.{Shows, HasFailed, EndsAs}
@@ -19,7 +20,7 @@ use Rattle.lvdc_deck.specs.declared.deck.Deck.{Deck}
 use Rattle.lvdc_reply.specs.Answer.{Answer, answer_with}
 use Rattle.lvdc_command_run.specs.Answers.{begun_world, run_answer, failed_answer}
 use Rattle.lvdc_command_run.specs.Trials.{trial_of}
-use Rattle.lvdc_command_run.specs.Finished.{HasPlainCause, HasRunPlainly}
+use Rattle.lvdc_command_run.specs.Finished.{HasRunPlainly}
 use Rattle.lvdc_command_run.specs.Runs.{ExchangesPlainly}
 use Rattle.lvdc_reply.specs.Replies.{Quiet}
 use Rattle.lvdc_command_run.specs.Replies.{IsRun, made, failed, IsUnreported, reporting}
@@ -75,7 +76,7 @@ module _ {B : Type 0} (device_of : B → device.Device) (faults : B → ℕ) (o 
 
   -- by the end that was kept
   by_kept : (kept : Option PlainEnd) → EndsAs o.opening n m (map device_of new) kept
-      → HasPlainCause device_of faults (answer_of_end kept) old new
+      → plain_calls.HasCause device_of faults (answer_of_end kept) old new
       → Comes device_of faults o n old new m (answer_of_end kept)
   by_kept None r quiet = by_run Done (ap (λ (stop : Option Stop). end_by stop (run o.opening n).plain.times) r.stop) r.shows r.left quiet
   by_kept (Some (Stopped step stop)) r quiet =

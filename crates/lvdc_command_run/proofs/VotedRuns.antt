@@ -11,7 +11,7 @@ use Rattle.lvdc_machine.specs.Stands.{EndsAs, state_by}
 use Rattle.lvdc_machine.specs.View.{View, answer_of_end}
 use Rattle.lvdc_machine.specs.declared.mode.Mode.{Mode}
 use Rattle.lvdc_machine.specs.declared.mode.Mode.TheVariants as modes
-use Rattle.lvdc_report.specs.Voted.{voted_text, soak_text}
+use Rattle.lvdc_report.specs.Voted.{title_of, voted_text, soak_text}
 use Rattle.lvdc_report.specs.declared.title.Title.TheVariants as title
 use Rattle.lvdc_deck.specs.declared.deck.Deck.{Deck}
 use Rattle.lvdc_command_run.specs.declared.job.Job.{Job}
@@ -108,11 +108,12 @@ through-ends device_of faults o n old new m h = subst (λ (k : Mode). EndsAs m.e
 
 pub ran_through : {B : Type 0} (device_of : B → device.Device) (faults : B → ℕ) (o : Trial) (n : ℕ) (old new : List B) (m : View) (end : Outcome)
     (status : ℕ) (written : List ℕ) → HasRun device_of faults modes.Through o n old new m → end ≡ answer_of_end m.end → status ≡ end_status end
-    → written ≡ voted_text title.Through o (state_by m.end m.mode o (3 * n))
+    → written ≡ voted_text (title_of m.mode) o (state_by m.end m.mode o (3 * n))
     → IsRun device_of faults (job.Deck engine.Through) o n old new (answer_with status written (map device_of new))
 ran_through device_of faults o n old new m end status written h is s t =
     ran_by device_of faults (job.Deck engine.Through) o n old new modes.Through (λ v. voted_text title.Through o v) m h
-    (through-answers o n m.steps m.end (through-ends device_of faults o n old new m h)) end status written is s t
+    (through-answers o n m.steps m.end (through-ends device_of faults o n old new m h)) end status written is s
+    (t ∙ ap (λ (k : Mode). voted_text (title_of k) o (state_by m.end m.mode o (3 * n))) h.mode_is)
 
 pub through_unreported : {B : Type 0} (device_of : B → device.Device) (faults : B → ℕ) (deck : Deck) (old new : List B) (m : View)
     → HasRun device_of faults modes.Through (trial_of (map device_of old) deck) deck.count old new m
@@ -143,11 +144,12 @@ guarded-answers o n v (Some (Device step port)) (exchanges, t) =
 
 pub ran_guarded : {B : Type 0} (device_of : B → device.Device) (faults : B → ℕ) (o : Trial) (n : ℕ) (old new : List B) (m : View) (end : Outcome)
     (status : ℕ) (written : List ℕ) → HasJudged device_of faults o n old new m → end ≡ answer_of_end m.end
-    → status ≡ end_status end → written ≡ voted_text title.Run o (state_by m.end m.mode o (3 * n))
+    → status ≡ end_status end → written ≡ voted_text (title_of m.mode) o (state_by m.end m.mode o (3 * n))
     → IsRun device_of faults (job.Deck engine.Guarded) o n old new (answer_with status written (map device_of new))
 ran_guarded device_of faults o n old new m end status written h is s t =
     ran_by device_of faults (job.Deck engine.Guarded) o n old new modes.Guarded (λ v. voted_text title.Run o v) m h.run
-    (guarded-answers o n (state_by m.end modes.Guarded o (3 * n)) m.end h.tells) end status written is s t
+    (guarded-answers o n (state_by m.end modes.Guarded o (3 * n)) m.end h.tells) end status written is s
+    (t ∙ ap (λ (k : Mode). voted_text (title_of k) o (state_by m.end m.mode o (3 * n))) h.run.mode_is)
 
 pub guarded_unreported : {B : Type 0} (device_of : B → device.Device) (faults : B → ℕ) (deck : Deck) (old new : List B) (m : View)
     → HasJudged device_of faults (trial_of (map device_of old) deck) deck.count old new m

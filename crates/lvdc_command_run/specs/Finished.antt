@@ -5,10 +5,9 @@ use Rattle.std.specs.declared.option.Option.TheVariants.{Some}
 use Rattle.lvdc_map.specs.Address.{Spot}
 use Rattle.lvdc_map.specs.Banks.{HasBank}
 use Rattle.lvdc_port.specs.Device as device
-use Rattle.lvdc_port.specs.Devices.{has_port, count_at}
+use Rattle.lvdc_plain.specs.Calls as plain_calls
 use Rattle.lvdc_plain.specs.Stands as plain
 use Rattle.lvdc_plain.specs.View as plain_view
-use Rattle.lvdc_plain.specs.declared.records.PlainEnd.{PlainEnd}
 use Rattle.lvdc_model.specs.declared.outcome.Outcome.{Outcome}
 use Rattle.lvdc_model.specs.declared.outcome.Outcome.TheVariants.{Device}
 use Rattle.lvdc_model.specs.Known.{is_known}
@@ -26,12 +25,6 @@ use Rattle.lvdc_report.specs.Voted.{visible_of}
 use Rattle.lvdc_command_run.specs.Accounts.{Account, account, begun_account}
 use Rattle.lvdc_command_run.specs.Runs.{ExchangesAdmitted}
 
--- an end of the plain machine has its cause in the devices' counts of faults, before and after: a failure in the device that it
--- names, and in it alone; with every other end no count has grown of a device that is left
-abbrev pub HasPlainCause : {B : Type 0} → (B → device.Device) → (B → ℕ) → PlainEnd → List B → List B → Type 0
-HasPlainCause device_of faults end old new =
-    plain.Caused end (λ port. count_at device_of faults port old) (λ port. count_at device_of faults port new) (λ port. has_port device_of port new)
-
 -- a machine of this mode has run a trial of so many times, over an opening of words; its end has its cause
 pub record HasRun {B : Type 0} (device_of : B → device.Device) (faults : B → ℕ) (mode : Mode) (o : Trial) (n : ℕ) (old new : List B) (m : View) : Type 0 where
   pub opening : IsOpening o.opening
@@ -42,7 +35,7 @@ pub record HasRun {B : Type 0} (device_of : B → device.Device) (faults : B →
 -- the plain machine has run a trial of so many times; its end has its cause
 pub record HasRunPlainly {B : Type 0} (device_of : B → device.Device) (faults : B → ℕ) (o : Trial) (n : ℕ) (old new : List B) (m : plain_view.View) : Type 0 where
   pub stands : plain.Stands o.opening n m (map device_of new)
-  pub cause : HasPlainCause device_of faults (plain_view.answer_of_end m.end) old new
+  pub cause : plain_calls.HasCause device_of faults (plain_view.answer_of_end m.end) old new
 
 -- a state of the voted machine tells an account: its parts are those of the account, and what the redundancy did stands in this
 -- other state

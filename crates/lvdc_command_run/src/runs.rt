@@ -3,11 +3,10 @@
 ghost use Rattle.std.specs.Prelude.{◌≡◌, ◌+◌, ◌<◌, ◌≤◌, List, ℕ, All, length, map, OnErr, IfOk};
 ghost use Rattle.lvdc_port.specs.Device.{Device};
 ghost use Rattle.lvdc_port.specs.Devices.{AreDistinct};
-ghost use Rattle.lvdc_plain.specs.View.{answer_of_end as plain_answer_of_end};
 ghost use Rattle.lvdc_model.specs.Trial.{Trial};
 ghost use Rattle.lvdc_model.specs.Voted.{Voted};
 ghost use Rattle.lvdc_machine.specs.Resumed.{state_from, StandsFrom};
-ghost use Rattle.lvdc_machine.specs.Stands.{Stands, state_by};
+ghost use Rattle.lvdc_machine.specs.Stands.{Stands};
 ghost use Rattle.lvdc_machine.specs.View.{answer_of_end};
 ghost use Rattle.lvdc_report.specs.Report.{outcome_of};
 ghost use Rattle.lvdc_report.specs.Voted.{title_of, noted_size, voted_text};
@@ -20,30 +19,17 @@ ghost use Rattle.lvdc_command_run.specs.declared.job.Job.{Job as Asked};
 ghost use Rattle.lvdc_command_run.specs.declared.job.Job.TheVariants as jobs;
 ghost use Rattle.lvdc_command_run.specs.declared.job.Engine.TheVariants as engines;
 
-use crate::ready::{Ready, make_ready, supply_tapes};
+use crate::ready::{Ready, make_ready};
 use lvdc_deck::Deck;
-use lvdc_machine::{Machine, Mode, Outcome, failed_exchange, guarded_follows};
+use lvdc_laws_guarded::{failed_exchange, guarded_follows};
+use lvdc_machine::{Machine, Mode, Outcome};
 use lvdc_plain::{Plain, PlainEnd};
-use lvdc_port::PortDevice;
+use lvdc_port::{PortDevice, supply_all};
 use lvdc_reply::Reply;
 use lvdc_report::{LONGEST_REPORT, report_plain, report_run, report_soak};
 use lvdc_soak_deck::soak_deck;
 use lvdc_word::{NoMemory, Seq};
 use std::alloc::Global;
-
-/// A voted machine after its run, and the end that it has come to.
-#[derive(Drop)]
-struct Finished {
-    machine: Machine,
-    end: Outcome,
-}
-
-/// The same of the plain machine.
-#[derive(Drop)]
-struct FinishedPlain {
-    machine: Plain,
-    end: PlainEnd,
-}
 
 /// The status of an end.
 pub fn end_status(end: &Outcome) -> u8
@@ -68,23 +54,13 @@ fn plain_status(end: &PlainEnd) -> u8
     }
 }
 
-/// The reply of a voted machine after its run: the status of its end, and the report of its mode. The end is the one that the
-/// machine keeps, or `Done` where it keeps none.
-pub fn report_end(
-    alloc: Global,
-    machine: &Machine,
-    mode: Mode,
-    end: Outcome,
-) -> Result<Reply, NoMemory>
-    requires mode { mode ≡ machine.now.mode }
-    requires end { end ≡ answer_of_end machine.now.end }
-    ensures status { IfOk result (λ reply. reply.status ≡ end_status end) }
-    ensures text { IfOk result (λ reply. (o : Trial) (t : ℕ) (ds : List Device) → Stands o t machine.now ds
-        → reply.text ≡ voted_text (title_of mode) o (state_by machine.now.end machine.now.mode o t)) }
+/// The reply of a voted machine after its run: the status of the end that it keeps, and its report.
+pub fn report_end(alloc: Global, machine: &Machine) -> Result<Reply, NoMemory>
+    ensures status { IfOk result (λ reply. reply.status ≡ end_status (answer_of_end machine.now.end)) }
 
-    // The same of a run from a given state.
-    ensures resumed { IfOk result (λ reply. (o : Trial) (first : Voted) (n : ℕ) (ds : List Device) → StandsFrom o first n machine.now ds
-        → reply.text ≡ voted_text (title_of mode) o (state_from machine.now.end machine.now.mode o first n)) }
+    // It is that of the state where the machine stands, in a run from any state; `Stands` is the case of a trial's start.
+    ensures text { IfOk result (λ reply. (o : Trial) (first : Voted) (n : ℕ) (ds : List Device) → StandsFrom o first n machine.now ds
+        → reply.text ≡ voted_text (title_of machine.now.mode) o (state_from machine.now.end machine.now.mode o first n)) }
     ensures room { IfOk result (λ reply. (o : Trial) (t : ℕ) (ds : List Device) → Stands o t machine.now ds
         → length reply.text ≤ LONGEST_REPORT) }
 
@@ -92,9 +68,9 @@ pub fn report_end(
     ensures short { IfOk result (λ reply. (o : Trial) (first : Voted) (n : ℕ) (ds : List Device) → StandsFrom o first n machine.now ds
         → All (λ repair. repair.step < first.steps) first.repairs → length reply.text < LONGEST_REPORT + noted_size first.log first.repairs) }
 {
-    let text = report_run(alloc, machine, mode, end)?;
+    let text = report_run(alloc, machine)?;
     Ok(Reply {
-        status: end_status(&end),
+        status: end_status(&machine.outcome()),
         text: Seq::from_vec(text),
     })
 }
@@ -105,22 +81,21 @@ fn run_machine(
     mode: Mode,
     deck: Deck,
     devices: &mut Vec<Box<dyn PortDevice>>,
-) -> Result<Finished, NoMemory>
+) -> Result<Machine, NoMemory>
     requires runnable { IsRunnable deck }
     requires distinct { AreDistinct (map device_of devices.old.items) }
-    ensures run { IfOk result (λ f. HasRun device_of faults mode (trial_of (map device_of devices.old.items) deck) deck.count
-        devices.old.items devices.new.items f.machine) }
-    ensures end { IfOk result (λ f. f.end ≡ answer_of_end f.machine.end) }
+    ensures run { IfOk result (λ m. HasRun device_of faults mode (trial_of (map device_of devices.old.items) deck) deck.count
+        devices.old.items devices.new.items m) }
     ensures unmade { OnErr result ((job : Asked) → IsUnreported device_of faults job deck devices.old.items devices.new.items) }
 {
     let Ready {
         mut machine,
         orders,
-        count,
         ..
     } = make_ready(alloc, mode, deck, devices)?;
-    let end = machine.run(&orders, count, devices);
-    Ok(Finished { machine, end })
+    let count = machine.limit();
+    machine.run(&orders, count, devices);
+    Ok(machine)
 }
 
 /// The same up to the first inadmissible step. The laws of guarded runs are cited here alone, for `run` and for `soak`.
@@ -128,12 +103,11 @@ fn run_judged(
     alloc: Global,
     deck: Deck,
     devices: &mut Vec<Box<dyn PortDevice>>,
-) -> Result<Finished, NoMemory>
+) -> Result<Machine, NoMemory>
     requires runnable { IsRunnable deck }
     requires distinct { AreDistinct (map device_of devices.old.items) }
-    ensures run { IfOk result (λ f. HasJudged device_of faults (trial_of (map device_of devices.old.items) deck) deck.count
-        devices.old.items devices.new.items f.machine) }
-    ensures end { IfOk result (λ f. f.end ≡ answer_of_end f.machine.end) }
+    ensures run { IfOk result (λ m. HasJudged device_of faults (trial_of (map device_of devices.old.items) deck) deck.count
+        devices.old.items devices.new.items m) }
     ensures unmade { OnErr result ((job : Asked) → IsUnreported device_of faults job deck devices.old.items devices.new.items) }
 {
     guarded_follows();
@@ -160,8 +134,8 @@ pub(crate) fn run_guarded(
     ensures unreported { OnErr result (IsUnreported device_of faults (jobs.Deck engines.Guarded) deck devices.old.items devices.new.items) }
     ensures room { IfOk result (λ reply. length reply.text ≤ LONGEST_REPORT) }
 {
-    let finished = run_judged(alloc, deck, devices)?;
-    report_end(alloc, &finished.machine, Mode::Guarded, finished.end)
+    let machine = run_judged(alloc, deck, devices)?;
+    report_end(alloc, &machine)
 }
 
 /// Runs a deck by the voted machine through every fault, and reports the run.
@@ -177,8 +151,8 @@ pub(crate) fn run_through(
     ensures unreported { OnErr result (IsUnreported device_of faults (jobs.Deck engines.Through) deck devices.old.items devices.new.items) }
     ensures room { IfOk result (λ reply. length reply.text ≤ LONGEST_REPORT) }
 {
-    let finished = run_machine(alloc, Mode::Through, deck, devices)?;
-    report_end(alloc, &finished.machine, Mode::Through, finished.end)
+    let machine = run_machine(alloc, Mode::Through, deck, devices)?;
+    report_end(alloc, &machine)
 }
 
 /// Makes the plain machine of a deck, and runs it.
@@ -186,15 +160,14 @@ fn run_plain_machine(
     alloc: Global,
     deck: Deck,
     devices: &mut Vec<Box<dyn PortDevice>>,
-) -> Result<FinishedPlain, NoMemory>
+) -> Result<Plain, NoMemory>
     requires runnable { IsRunnable deck }
     requires distinct { AreDistinct (map device_of devices.old.items) }
-    ensures run { IfOk result (λ f. HasRunPlainly device_of faults (trial_of (map device_of devices.old.items) deck) deck.count
-        devices.old.items devices.new.items f.machine) }
-    ensures end { IfOk result (λ f. f.end ≡ plain_answer_of_end f.machine.end) }
+    ensures run { IfOk result (λ m. HasRunPlainly device_of faults (trial_of (map device_of devices.old.items) deck) deck.count
+        devices.old.items devices.new.items m) }
     ensures unmade { OnErr result ((job : Asked) → IsUnreported device_of faults job deck devices.old.items devices.new.items) }
 {
-    supply_tapes(devices, &deck)?;
+    supply_all(devices, deck.supplies.items())?;
     let Deck {
         image,
         start,
@@ -212,8 +185,8 @@ fn run_plain_machine(
         count,
         devices,
     )?;
-    let end = machine.run(count, devices);
-    Ok(FinishedPlain { machine, end })
+    machine.run(count, devices);
+    Ok(machine)
 }
 
 /// Runs a deck by the plain machine, and reports the run.
@@ -229,11 +202,11 @@ pub(crate) fn run_plain(
     ensures unreported { OnErr result (IsUnreported device_of faults (jobs.Deck engines.Plain) deck devices.old.items devices.new.items) }
     ensures room { IfOk result (λ reply. length reply.text ≤ LONGEST_REPORT) }
 {
-    let finished = run_plain_machine(alloc, deck, devices)?;
-    let status = plain_status(&finished.end);
-    let text = report_plain(alloc, &finished.machine, finished.end)?;
+    let machine = run_plain_machine(alloc, deck, devices)?;
+    let end = machine.outcome();
+    let text = report_plain(alloc, &machine, end)?;
     Ok(Reply {
-        status,
+        status: plain_status(&end),
         text: Seq::from_vec(text),
     })
 }
@@ -251,11 +224,11 @@ pub(crate) fn run_soak(
     ensures room { IfOk result (λ reply. length reply.text ≤ LONGEST_REPORT) }
 {
     let deck = soak_deck(alloc, number)?;
-    let finished = run_judged(alloc, deck, devices)?;
-    let status = end_status(&finished.end);
-    let text = report_soak(alloc, &finished.machine, number, finished.end)?;
+    let machine = run_judged(alloc, deck, devices)?;
+    let end = machine.outcome();
+    let text = report_soak(alloc, &machine, number, end)?;
     Ok(Reply {
-        status,
+        status: end_status(&end),
         text: Seq::from_vec(text),
     })
 }

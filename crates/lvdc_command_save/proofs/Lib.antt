@@ -4,7 +4,6 @@ pub mod Words
 pub mod Listed
 pub mod Taken
 pub mod HeldWords
-pub mod Again
 pub mod Stops
 pub mod Answering
 pub mod Statuses

@@ -16,7 +16,7 @@ use Rattle.lvdc_machine.specs.View.{View, answer_of_end}
 use Rattle.lvdc_machine.specs.declared.mode.Mode.{Mode}
 use Rattle.lvdc_machine.specs.declared.mode.Mode.TheVariants as modes
 use Rattle.lvdc_deck.specs.declared.deck.Deck.{Deck}
-use Rattle.lvdc_report.specs.Voted.{voted_text}
+use Rattle.lvdc_report.specs.Voted.{title_of, voted_text}
 use Rattle.lvdc_report.specs.declared.title.Title.TheVariants as title
 use Rattle.lvdc_save.specs.Saved.{saved_text}
 use Rattle.lvdc_reply.specs.Answer.{Answer, answer_with}
@@ -138,10 +138,11 @@ module _ {B : Type 0} (device_of : B → device.Device) (faults : B → ℕ) (n 
         told_answer o (begun_account o step (Device step port)) v (guarded o step) end status text (map device_of new) (tells_as (Some (Device step port)) is).1 kept s t shows.left
 
     pub reported_due : (end : Outcome) → m.end ≡ Some end → (status : ℕ) (text : List ℕ) → status ≡ end_status end
-        → text ≡ voted_text title.Run o (state_by m.end m.mode o (3 * n))
+        → text ≡ voted_text (title_of m.mode) o (state_by m.end m.mode o (3 * n))
         → IsStop device_of faults n deck old new (answer_with status text (map device_of new))
     reported_due end is status text s t =
-        let due = reported_by m.end refl end is status text s (t ∙ ap (λ (v : Voted). voted_text title.Run o v) as_mode) in
+        let due = reported_by m.end refl end is status text s
+        (t ∙ ap (λ (k : Mode). voted_text (title_of k) o (state_by m.end m.mode o (3 * n))) h.run.mode_is ∙ ap (λ (v : Voted). voted_text title.Run o v) as_mode) in
         subst (λ (a : Answer). IsStop device_of faults n deck old new a) (sym due) is_stop
 
     -- ---- want of memory for the text

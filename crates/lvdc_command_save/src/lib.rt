@@ -1,7 +1,6 @@
 //! The command `save`: a deck is run for so many times, and what the run then is becomes the text of `lvdc_save`.
 #![tactic(auto)]
 
-mod kept;
 mod laws;
 mod places;
 mod reply;

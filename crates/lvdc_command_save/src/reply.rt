@@ -8,12 +8,10 @@ ghost use Rattle.lvdc_command_save.specs.Answers.{deck_for};
 ghost use Rattle.lvdc_command_save.specs.Halves.{IsSavedRun, IsSaveOf};
 ghost use Rattle.lvdc_command_save.specs.Replies.{IsStop, IsAnswered, IsSaveReply, IsUnwritten, IsUnanswered};
 
-use crate::kept::keep;
-use crate::runs::{Stopped, run_times};
+use crate::runs::run_times;
 use crate::saving::reply_saved;
-use lvdc_command_run::{refuse, report_end};
+use lvdc_command_run::{Ready, refuse, report_end};
 use lvdc_deck::{Deck, DeckFault, read_deck, run_line};
-use lvdc_machine::Mode;
 use lvdc_port::PortDevice;
 use lvdc_reply::Reply;
 use lvdc_save_print::LONGEST_SAVED;
@@ -36,15 +34,14 @@ fn save_deck(
     ensures unwritten { OnErr result (IsUnwritten device_of faults times deck devices.old.items devices.new.items) }
 {
     lvdc_laws_voted::judges_alone();
-    let kept = keep(alloc, &deck)?;
-    let Stopped {
+    let Ready {
         machine,
         orders,
-        count,
+        ..
     } = run_times(alloc, times, deck, devices)?;
     match machine.ended() {
-        None => reply_saved(alloc, &machine, kept, count, orders, devices),
-        Some(end) => report_end(alloc, &machine, Mode::Guarded, end),
+        None => reply_saved(alloc, &machine, orders, devices),
+        Some(_end) => report_end(alloc, &machine),
     }
 }
 

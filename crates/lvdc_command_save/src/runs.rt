@@ -1,4 +1,4 @@
-//! Runs of a deck for so many times.
+//! Runs of a deck for so many times: what is made ready has then run.
 
 ghost use Rattle.std.specs.Prelude.{◌≡◌, ◌≤◌, map, OnErr, IfOk};
 ghost use Rattle.lvdc_port.specs.Devices.{AreDistinct};
@@ -9,19 +9,11 @@ ghost use Rattle.lvdc_command_save.specs.Replies.{IsUnwritten};
 
 use lvdc_command_run::{Ready, make_ready};
 use lvdc_deck::Deck;
-use lvdc_machine::{Machine, Mode, failed_exchange, guarded_follows};
-use lvdc_orders::Orders;
+use lvdc_laws_guarded::{failed_exchange, guarded_follows};
+use lvdc_machine::Mode;
 use lvdc_port::PortDevice;
 use lvdc_word::NoMemory;
 use std::alloc::Global;
-
-/// A machine after so many times, and what its deck asks of it.
-#[derive(Drop)]
-pub(crate) struct Stopped {
-    pub(crate) machine: Machine,
-    pub(crate) orders: Orders,
-    pub(crate) count: u64,
-}
 
 /// Makes the machine of a deck, and runs it for so many times.
 fn run_machine(
@@ -29,27 +21,26 @@ fn run_machine(
     times: u64,
     deck: Deck,
     devices: &mut Vec<Box<dyn PortDevice>>,
-) -> Result<Stopped, NoMemory>
+) -> Result<Ready, NoMemory>
     requires runnable { IsRunnable deck }
     requires within { times ≤ deck.count }
     requires distinct { AreDistinct (map device_of devices.old.items) }
-    ensures run { IfOk result (λ s. HasRun device_of faults modes.Guarded (trial_of (map device_of devices.old.items) deck) times
-        devices.old.items devices.new.items s.machine) }
-    ensures orders { IfOk result (λ s. s.orders ≡ deck.orders) }
-    ensures count { IfOk result (λ s. s.count ≡ deck.count) }
+    ensures run { IfOk result (λ ready. HasRun device_of faults modes.Guarded (trial_of (map device_of devices.old.items) deck) times
+        devices.old.items devices.new.items ready.machine) }
+    ensures orders { IfOk result (λ ready. ready.orders ≡ deck.orders) }
+    ensures limit { IfOk result (λ ready. ready.machine.limit ≡ deck.count) }
     ensures unmade { OnErr result (IsUnwritten device_of faults times deck devices.old.items devices.new.items) }
 {
     let Ready {
         mut machine,
         orders,
-        count,
-        ..
+        commands,
     } = make_ready(alloc, Mode::Guarded, deck, devices)?;
     machine.run(&orders, times, devices);
-    Ok(Stopped {
+    Ok(Ready {
         machine,
         orders,
-        count,
+        commands,
     })
 }
 
@@ -59,14 +50,14 @@ pub(crate) fn run_times(
     times: u64,
     deck: Deck,
     devices: &mut Vec<Box<dyn PortDevice>>,
-) -> Result<Stopped, NoMemory>
+) -> Result<Ready, NoMemory>
     requires runnable { IsRunnable deck }
     requires within { times ≤ deck.count }
     requires distinct { AreDistinct (map device_of devices.old.items) }
-    ensures run { IfOk result (λ s. HasJudged device_of faults (trial_of (map device_of devices.old.items) deck) times
-        devices.old.items devices.new.items s.machine) }
-    ensures orders { IfOk result (λ s. s.orders ≡ deck.orders) }
-    ensures count { IfOk result (λ s. s.count ≡ deck.count) }
+    ensures run { IfOk result (λ ready. HasJudged device_of faults (trial_of (map device_of devices.old.items) deck) times
+        devices.old.items devices.new.items ready.machine) }
+    ensures orders { IfOk result (λ ready. ready.orders ≡ deck.orders) }
+    ensures limit { IfOk result (λ ready. ready.machine.limit ≡ deck.count) }
     ensures unmade { OnErr result (IsUnwritten device_of faults times deck devices.old.items devices.new.items) }
 {
     guarded_follows();

@@ -12,7 +12,6 @@ ghost use Rattle.lvdc_command_save.specs.Answers.{saved_by};
 ghost use Rattle.lvdc_command_save.specs.Halves.{IsTaken};
 ghost use Rattle.lvdc_command_save.specs.Snapshots.{snapshot_of};
 
-use crate::kept::Kept;
 use crate::places::stand_at_addresses;
 use crate::states::states_of;
 use lvdc_machine::{Machine, Snapshot};
@@ -38,12 +37,10 @@ fn snapshot(alloc: Global, machine: &Machine) -> Result<Snapshot, NoMemory>
     Ok(snapshot)
 }
 
-/// The saved text of a machine and its devices, with what was kept of the deck.
+/// The saved text of a machine and its devices. What a deck asks for but for its orders, the machine has.
 fn save_machine(
     alloc: Global,
     machine: &Machine,
-    kept: Kept,
-    count: u64,
     orders: Orders,
     devices: &[Box<dyn PortDevice>],
 ) -> Result<Vec<u8>, NoMemory>
@@ -51,17 +48,20 @@ fn save_machine(
     requires going { machine.now.end ≡ None }
     requires times { machine.now.steps % 3 ≡ 0 }
     ensures text { IfOk result (λ text. (o : Trial) (v : Voted) → Shows o machine.now (map device_of devices.now) v
-        → text.items ≡ saved_text (saved_by o.opening.banks v count kept.unplugs kept.script orders)) }
+        → text.items ≡ saved_text (saved_by o.opening.banks v machine.now.limit machine.now.unplugs machine.now.script orders)) }
     ensures taken { IfOk result (λ _. (o : Trial) (v : Voted) → Shows o machine.now (map device_of devices.now) v
-        → IsTaken (saved_by o.opening.banks v count kept.unplugs kept.script orders) v) }
+        → IsTaken (saved_by o.opening.banks v machine.now.limit machine.now.unplugs machine.now.script orders) v) }
 {
     let states = states_of(alloc, devices)?;
+    let snapshot = snapshot(alloc, machine)?;
+    let unplugs = machine.unplugs(alloc)?;
+    let script = machine.script(alloc)?;
     let saved = Saved {
-        snapshot: snapshot(alloc, machine)?,
-        count,
+        snapshot,
+        count: machine.limit(),
         states: Seq::from_vec(states),
-        unplugs: kept.unplugs,
-        script: kept.script,
+        unplugs,
+        script,
         orders,
     };
     print_saved(alloc, &saved)
@@ -71,8 +71,6 @@ fn save_machine(
 pub(crate) fn reply_saved(
     alloc: Global,
     machine: &Machine,
-    kept: Kept,
-    count: u64,
     orders: Orders,
     devices: &[Box<dyn PortDevice>],
 ) -> Result<Reply, NoMemory>
@@ -81,11 +79,11 @@ pub(crate) fn reply_saved(
     requires times { machine.now.steps % 3 ≡ 0 }
     ensures status { IfOk result (λ reply. reply.status ≡ 0) }
     ensures text { IfOk result (λ reply. (o : Trial) (v : Voted) → Shows o machine.now (map device_of devices.now) v
-        → reply.text ≡ saved_text (saved_by o.opening.banks v count kept.unplugs kept.script orders)) }
+        → reply.text ≡ saved_text (saved_by o.opening.banks v machine.now.limit machine.now.unplugs machine.now.script orders)) }
     ensures taken { IfOk result (λ _. (o : Trial) (v : Voted) → Shows o machine.now (map device_of devices.now) v
-        → IsTaken (saved_by o.opening.banks v count kept.unplugs kept.script orders) v) }
+        → IsTaken (saved_by o.opening.banks v machine.now.limit machine.now.unplugs machine.now.script orders) v) }
 {
-    let text = save_machine(alloc, machine, kept, count, orders, devices)?;
+    let text = save_machine(alloc, machine, orders, devices)?;
     Ok(Reply {
         status: 0,
         text: Seq::from_vec(text),

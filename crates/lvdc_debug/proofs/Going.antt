@@ -1,5 +1,5 @@
 -- A machine that goes on: where it then stands, and that what it had run before is the same.
-use Rattle.std.proofs.Common.{◌≡◌, ℕ, zero, suc, ◌+◌, ◌*◌, ◌≤◌, List, [], ◌∷◌, Bool, true, false, None, Some, IsSome, IsNone, Result, Ok, Err, OnErr, refl, sym, ap, subst, ◌∙◌, arith}
+use Rattle.std.proofs.Common.{◌≡◌, ℕ, zero, suc, ◌+◌, ◌*◌, ◌≤◌, List, [], ◌∷◌, map, Bool, true, false, None, Some, IsSome, IsNone, Result, Ok, Err, OnErr, refl, sym, ap, subst, ◌∙◌, arith}
 use Rattle.std.specs.Prelude.{nat_lt, ◌==◌, if◌then◌else◌}
 use Rattle.std.specs.declared.option.Option.{Option}
 use Rattle.std.proofs.lemmas.Bool.Decides.{nat_tests}
@@ -8,9 +8,10 @@ use Rattle.lvdc_port.specs.Device as device
 use Rattle.lvdc_port.specs.Devices.{has_port, count_at}
 use Rattle.lvdc_model.specs.Runs.{guarded}
 use Rattle.lvdc_model.specs.Trial.{Trial}
-use Rattle.lvdc_model.specs.Voted.{Voted}
+use Rattle.lvdc_model.specs.Voted.{Voted, voted_start}
 use Rattle.lvdc_model.specs.declared.outcome.Outcome.{Outcome}
 use Rattle.lvdc_model.specs.declared.outcome.Outcome.TheVariants.{Done, Stopped, Inadmissible, Device}
+use Rattle.lvdc_machine.specs.Calls.{Leaves, Answers}
 use Rattle.lvdc_machine.specs.Causes.{Caused}
 use Rattle.lvdc_machine.specs.Resumed.{StandsFrom, EndsFrom, state_from, steps_after}
 use Rattle.lvdc_machine.specs.Shows.{Shows}
@@ -19,7 +20,7 @@ use Rattle.lvdc_machine.specs.View.{View, answer_of_end}
 use Rattle.lvdc_machine.specs.declared.mode.Mode.{Mode}
 use Rattle.lvdc_debug.specs.Session.{state_after}
 use Rattle.lvdc_debug.specs.Session.{Subject}
-use Rattle.lvdc_debug.specs.Standing.{failure_of, CausedSince, GoesOn, Moves, IsSubject}
+use Rattle.lvdc_debug.specs.Standing.{failure_of, CausedSince, IsReady, GoesOn, Moves, IsSubject}
 
 -- ---- where no end has come, a machine stands at its state
 
@@ -174,6 +175,36 @@ cause_on {B} device_of faults first (Some e) after old new left kept cause h =
     let same = kept refl in
     subst (λ (x : Option Outcome). CausedSince device_of faults first x new) (sym same.0)
     (subst (λ (ds : List B). CausedSince device_of faults first (Some e) ds) (sym same.1) h)
+
+-- ---- times that are made
+
+-- so many times more than were asked for are left
+pub run_left : (asked times limit steps : ℕ) → asked ≤ limit → steps ≤ 3 * asked → asked + times ≤ limit → steps + 3 * times ≤ 3 * limit
+run_left asked times limit steps few made within = omega (arith, made, within)
+
+-- a run of so many times more than were asked for moves the machine on, and leaves it ready
+module _ {B : Type 0} (device_of : B → device.Device) (spare faults : B → ℕ) (asked times : ℕ) (before after : View) (old new : List B) (end : Outcome)
+    (ready : IsReady device_of spare asked before.limit before old) (within : asked + times ≤ before.limit)
+    (stands : (o : Trial) (first : Voted) (n : ℕ) → StandsFrom o first n before (map device_of old) → StandsFrom o first (n + 3 * times) after (map device_of new))
+    (answers : Answers device_of faults end before after old new) (leaves : Leaves device_of spare (3 * times) before after old new) where
+  pub run_moves : Moves device_of faults asked (asked + times) before after old new
+  run_moves = record {
+    forward = omega arith;
+    goes = λ o s. goes_on o asked times before after _ _ s (stands o (voted_start o) (3 * asked) s) stands (λ some. (answers.kept some).0);
+    cause = λ first h.
+        cause_on device_of faults first before.end after.end old new leaves.left
+        (λ some. let kept = answers.kept some in (ap (λ (v : View). v.end) kept.0, kept.1))
+        (λ none. rw answers.answer at (answers.cause none)) h;
+  }
+
+  pub run_ready : IsReady device_of spare (asked + times) before.limit after new
+  run_ready = record {
+    mode = leaves.keeps.mode ∙ ready.mode;
+    limit_is = leaves.keeps.limit;
+    few = within;
+    made = let made = ready.made in let more = leaves.most in omega (arith, made, more);
+    fit = leaves.fit;
+  }
 
 -- a fact of every error
 pub on_err : {A E P : Type 0} (result : Result A E) → P → OnErr result P

@@ -1,14 +1,16 @@
 -- When a machine and its devices stand where a session is.
 use Rattle.std.specs.Prelude.{◌≡◌, ℕ, ◌*◌, ◌≤◌, ◌<◌, List, length, map, take, AllPairs, Option, None, Some}
 use Rattle.lvdc_port.specs.Device as device
-use Rattle.lvdc_port.specs.Devices.{has_port, count_at, HasSpare, AreDistinct}
+use Rattle.lvdc_port.specs.Devices.{has_port, count_at}
+use Rattle.lvdc_plain.specs.Lists.{AreFit}
+use Rattle.lvdc_laws_voted.specs.Ends.{IsOpening}
 use Rattle.lvdc_text.specs.Lines.{part_of}
 use Rattle.lvdc_text.specs.declared.cutting.Line.{Line}
 use Rattle.lvdc_model.specs.declared.outcome.Outcome.{Outcome}
 use Rattle.lvdc_model.specs.declared.outcome.Outcome.TheVariants.{Device}
 use Rattle.lvdc_model.specs.Trial.{Trial}
 use Rattle.lvdc_machine.specs.Causes.{Caused}
-use Rattle.lvdc_machine.specs.Room.{exchanges_left}
+use Rattle.lvdc_machine.specs.Room.{exchanges_to_come}
 use Rattle.lvdc_machine.specs.Stands.{Stands}
 use Rattle.lvdc_machine.specs.View.{View, answer_of_end}
 use Rattle.lvdc_machine.specs.declared.mode.Mode.TheVariants.{Guarded}
@@ -42,14 +44,18 @@ abbrev pub CausedSince : {B : Type 0} → (B → device.Device) → (B → ℕ) 
 CausedSince device_of faults first end devices =
     Caused (answer_of_end end) first (λ port. count_at device_of faults port devices) (λ port. has_port device_of port devices)
 
--- a guarded machine of this limit that has made no more than so many times, and devices that are ready for it
+-- a machine stands at the start of a trial whose opening is one of words
+pub record AtStart (o : Trial) (m : View) (devices : List device.Device) : Type 0 where
+  pub opening : IsOpening o.opening
+  pub stands : Stands o 0 m devices
+
+-- a guarded machine of this limit that has made no more than so many times, and devices that are fit for it
 pub record IsReady {B : Type 0} (device_of : B → device.Device) (spare : B → ℕ) (asked limit : ℕ) (m : View) (devices : List B) : Type 0 where
   pub mode : m.mode ≡ Guarded
   pub limit_is : m.limit ≡ limit
   pub few : asked ≤ limit
   pub made : m.steps ≤ 3 * asked
-  pub distinct : AreDistinct (map device_of devices)
-  pub room : HasSpare spare (exchanges_left m.pace m.steps m.limit) devices
+  pub fit : AreFit device_of spare (exchanges_to_come m) devices
 
 -- a machine that went on from so many times to so many stands there, and what it had run before is the same
 pub record GoesOn (o : Trial) (from to : ℕ) (before after : View) (devices : List device.Device) : Type 0 where

@@ -41,23 +41,6 @@ fn rests(machine: &Machine, breaks: &Breaks) -> bool
     machine.ended().is_some() || !machine.holding() && breaks.has(&place_of(machine))
 }
 
-/// Makes so many times more than were asked for, or fewer where an end comes. It stands for its clauses alone, which
-/// proofs cite.
-fn make(
-    asked: u64,
-    times: u64,
-    machine: &mut Machine,
-    orders: &Orders,
-    devices: &mut Vec<Box<dyn PortDevice>>,
-)
-    requires ready { IsReady device_of spare asked machine.old.limit machine.old devices.old.items }
-    requires left { asked + times ≤ machine.old.limit }
-    ensures moves { Moves device_of faults asked (asked + times) machine.old machine.new devices.old.items devices.new.items }
-    ensures ready { IsReady device_of spare (asked + times) machine.old.limit machine.new devices.new.items }
-{
-    machine.run(orders, times, devices);
-}
-
 impl Course {
     /// Before the first command.
     pub(crate) fn new() -> Course
@@ -86,7 +69,7 @@ impl Course {
     {
         let left = machine.limit() - self.asked;
         let made = times.min(left);
-        make(self.asked, made, machine, orders, devices);
+        machine.run(orders, made, devices);
         self.asked += made;
         times <= left
     }
@@ -108,7 +91,7 @@ impl Course {
     {
         judges_alone();
         while self.asked < machine.limit() {
-            make(self.asked, 1, machine, orders, devices);
+            machine.run(orders, 1, devices);
             self.asked += 1;
             if rests(machine, &self.breaks) {
                 return true;

@@ -1,15 +1,17 @@
 //! A whole session.
 
-ghost use Rattle.std.specs.Prelude.{◌≡◌, ◌+◌, ◌*◌, ◌-◌, ◌^◌, ◌<◌, ◌≤◌, ◌++◌, length, map, None, All, IfOk, OnOk, OnErr};
-ghost use Rattle.lvdc_port.specs.Devices.{HasSpare, AreDistinct, count_at};
+ghost use Rattle.std.specs.Prelude.{◌≡◌, ◌+◌, ◌*◌, ◌-◌, ◌^◌, ◌<◌, ◌≤◌, ◌++◌, length, map, All, IfOk, OnOk, OnErr};
+ghost use Rattle.lvdc_port.specs.Devices.{AreDistinct, count_at};
+ghost use Rattle.lvdc_plain.specs.Lists.{AreFit};
+ghost use Rattle.lvdc_machine.specs.Calls.{IsFresh};
 ghost use Rattle.lvdc_text.specs.Lines.{IsWithin};
 ghost use Rattle.lvdc_model.specs.Trial.{Trial};
 ghost use Rattle.lvdc_laws_voted.specs.Ends.{IsOpening};
-ghost use Rattle.lvdc_machine.specs.Room.{exchanges_left};
+ghost use Rattle.lvdc_machine.specs.Room.{exchanges_to_come};
 ghost use Rattle.lvdc_machine.specs.Stands.{Stands};
 ghost use Rattle.lvdc_machine.specs.declared.mode.Mode.TheVariants.{Guarded};
 ghost use Rattle.lvdc_debug.specs.Session.{Subject, after_line, entry, session_text};
-ghost use Rattle.lvdc_debug.specs.Standing.{command_texts, AreApart, CausedSince, IsReady, Moves, IsSubject, subject_of, StandsAfter, StandsAmid};
+ghost use Rattle.lvdc_debug.specs.Standing.{command_texts, AtStart, AreApart, CausedSince, IsReady, Moves, IsSubject, subject_of, StandsAfter, StandsAmid};
 
 use crate::course::Course;
 use crate::echo::put_echo;
@@ -73,26 +75,22 @@ pub fn debug(
     limit: u64,
     devices: &mut Vec<Box<dyn PortDevice>>,
 ) -> Result<Vec<u8>, NoMemory>
-    requires mode { machine.old.mode ≡ Guarded }
-    requires steps { machine.old.steps ≡ 0 }
-    requires end { machine.old.end ≡ None }
-    requires limit { machine.old.limit ≡ limit }
+    requires fresh { IsFresh Guarded machine.old.pace limit 0 machine.old }
     requires size { length bytes.now < 2 ^ 32 - 1 }
     requires within { All (IsWithin bytes.now) commands.now }
-    requires distinct { AreDistinct (map device_of devices.old.items) }
-    requires room { HasSpare spare (exchanges_left machine.old.pace machine.old.steps machine.old.limit) devices.old.items }
+    requires fit { AreFit device_of spare (exchanges_to_come machine.old) devices.old.items }
 
     // The session of the definition, over the run of each trial at whose start the machine stood. Where a device fails, it is that
     // of the run in which this device fails in this exchange.
-    ensures text { IfOk result (λ text. (o : Trial) → IsOpening o.opening → Stands o 0 machine.old (map device_of devices.old.items)
+    ensures text { IfOk result (λ text. (o : Trial) → AtStart o machine.old (map device_of devices.old.items)
         → text.items ≡ session_text (subject_of o machine.new) (command_texts bytes.now commands.now)) }
 
     // The run has gone on by the times that the commands ask for.
-    ensures stands { OnOk result ((o : Trial) → IsOpening o.opening → Stands o 0 machine.old (map device_of devices.old.items)
+    ensures stands { OnOk result ((o : Trial) → AtStart o machine.old (map device_of devices.old.items)
         → StandsAfter o (command_texts bytes.now commands.now) machine.new (map device_of devices.new.items)) }
 
     // After a want of memory it has gone on by the times for which the first so many ask.
-    ensures amid { OnErr result ((o : Trial) → IsOpening o.opening → Stands o 0 machine.old (map device_of devices.old.items)
+    ensures amid { OnErr result ((o : Trial) → AtStart o machine.old (map device_of devices.old.items)
         → StandsAmid o (command_texts bytes.now commands.now) machine.new (map device_of devices.new.items)) }
 
     // A failed device has failed in this call, and no other that is left has; every other end, or none, comes only where no device

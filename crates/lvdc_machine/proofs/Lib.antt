@@ -12,7 +12,5 @@ pub mod Ports
 pub mod Frames
 pub mod Telling
 pub mod Starting
-pub mod Following
-pub mod Exchanged
-pub mod Plainly
+pub mod Calls
 mod Rows

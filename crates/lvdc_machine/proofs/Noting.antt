@@ -1,9 +1,11 @@
 -- What is noted of a step comes after what was noted before.
-use Rattle.std.proofs.Common.{◌≡◌, ℕ, zero, suc, ◌+◌, ◌/◌, ◌≤◌, ◌<◌, Bool, true, List, [], ◌∷◌, ◌++◌, All, refl, arith}
+use Rattle.std.proofs.Common.{◌≡◌, ℕ, zero, suc, ◌+◌, ◌/◌, ◌≤◌, ◌<◌, Bool, true, List, [], ◌∷◌, ◌++◌, All, drop, slice_get, refl, sym, ap, ◌∙◌, append_assoc, arith}
 use Rattle.std.specs.Prelude.{AllPairs, IfSome}
 use Rattle.std.specs.declared.option.Option.{Option}
 use Rattle.std.specs.declared.option.Option.TheVariants.{None, Some}
+use Rattle.std.proofs.lemmas.List.{drop_more}
 use Rattle.std.proofs.lemmas.List.Elements.{All-nil, All-push}
+use Rattle.std.proofs.lemmas.Option.{slice_get_within, get_or_from_slice_get}
 use Rattle.std.proofs.lemmas.List.Kept.{AllPairs-cons}
 use Rattle.lvdc_map.specs.Address.{Spot}
 use Rattle.lvdc_map.specs.Banks.{is_there}
@@ -75,3 +77,11 @@ no-repairs banks steps = record {
   twins = All-nil (λ r. r.twin < 2);
   there = All-nil (λ r. is_there banks r.at ≡ true);
 }
+
+-- one more item of the list
+pub again-more : {A : Type 0} (whole so_far next : List A) (at : ℕ) (item : A) → slice_get whole at ≡ Some item → next ≡ so_far ++ item ∷ []
+    → so_far ++ drop at whole ≡ whole → next ++ drop (at + 1) whole ≡ whole
+again-more whole so_far next at item is made e =
+    let front : drop at whole ≡ item ∷ drop (at + 1) whole =
+    drop_more whole at item (slice_get_within whole at item is) ∙ ap (λ x. x ∷ drop (at + 1) whole) (get_or_from_slice_get whole at item item is) in
+    ap (λ t. t ++ drop (at + 1) whole) made ∙ append_assoc so_far (item ∷ []) (drop (at + 1) whole) ∙ ap (λ t. so_far ++ t) (sym front) ∙ e

@@ -5,7 +5,7 @@ pub mod Steps
 pub mod Stands
 pub mod Causes
 pub mod Sound
-pub mod Guarded
 pub mod Resumed
 pub mod Snapshot
 pub mod Notes
+pub mod Calls

@@ -7,6 +7,7 @@ use Rattle.lvdc_machine.specs.declared.mode.Mode.{Mode}
 use Rattle.lvdc_machine.specs.declared.mode.Mode.TheVariants.{Guarded, Through}
 use Rattle.lvdc_machine.specs.declared.mode.Pace.{Pace}
 use Rattle.lvdc_machine.specs.declared.mode.Pace.TheVariants.{ByTime, ByStep}
+use Rattle.lvdc_machine.specs.View.{View}
 
 -- a machine that judges makes one port exchange in a time at most; through every fault each step may make one
 abbrev pub pace_of : Mode → Pace
@@ -17,6 +18,10 @@ pace_of Through = ByStep
 abbrev pub exchanges_left : Pace → ℕ → ℕ → ℕ
 exchanges_left ByTime steps limit = limit - steps / 3
 exchanges_left ByStep steps limit = 3 * limit - steps
+
+-- those that a machine may still make
+abbrev pub exchanges_to_come : View → ℕ
+exchanges_to_come m = exchanges_left m.pace m.steps m.limit
 
 -- the repairs that may still be noted: two in a time, or one in each step
 abbrev pub repairs_left : Pace → ℕ → ℕ → ℕ

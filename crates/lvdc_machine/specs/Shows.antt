@@ -1,6 +1,8 @@
--- When a machine and its devices are in a state of the voted machine.
+-- When a machine and its devices are in a state of the voted machine, and when a step of theirs is begun.
 use Rattle.std.specs.Prelude.{◌≡◌, List}
+use Rattle.std.specs.declared.option.Option.TheVariants.{Some}
 use Rattle.lvdc_port.specs.Device as device
+use Rattle.lvdc_model.specs.Exchanges.{damages}
 use Rattle.lvdc_model.specs.Trial.{Trial}
 use Rattle.lvdc_model.specs.Voted.{Voted}
 use Rattle.lvdc_memory.specs.Holds.{Holds}
@@ -20,3 +22,11 @@ pub record Shows (o : Trial) (m : View) (devices : List device.Device) (v : Vote
   pub counts : m.counts ≡ v.counts
   pub steps : m.steps ≡ v.steps
   pub end : m.end ≡ v.end
+
+-- the step that is next has begun: its damage is done, in each state that is shown, what is active is that of this step, and nothing
+-- else has changed
+pub record HasBegun (before after : View) : Type 0 where
+  pub shows : (o : Trial) (v : Voted) (devices : List device.Device) → Shows o before devices v
+      → Shows o after devices (record v { twins = damages v.steps o.script v.twins })
+  pub new : after ≡ record before { memory = after.memory; active = after.active }
+  pub last : after.active.last ≡ Some before.steps

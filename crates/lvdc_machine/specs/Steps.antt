@@ -1,11 +1,12 @@
 -- One step of either mode, and what it leaves of the machine.
-use Rattle.std.specs.Prelude.{◌≡◌, ℕ, ◌+◌, ◌≤◌, Bool, List, ◌∷◌, [], ◌++◌}
+use Rattle.std.specs.Prelude.{◌≡◌, ℕ, ◌+◌, ◌*◌, ◌≤◌, ◌<◌, Bool, false, List, ◌∷◌, [], ◌++◌}
 use Rattle.lvdc_map.specs.Address.{Spot}
 use Rattle.lvdc_model.specs.declared.repair.Repair.{Repair}
 use Rattle.std.specs.declared.option.Option.{Option}
 use Rattle.std.specs.declared.option.Option.TheVariants.{None, Some}
 use Rattle.lvdc_modules.specs.declared.wanted.Wanted.{Wanted}
 use Rattle.lvdc_modules.specs.declared.wanted.Wanted.TheVariants.{Nothing, Fetch, Operand, Store, PortRead, PortWrite}
+use Rattle.lvdc_fault.specs.Script.{two_wrong}
 use Rattle.lvdc_fault.specs.declared.verdict.Verdict.{Verdict}
 use Rattle.lvdc_fault.specs.declared.verdict.Verdict.TheVariants.{Admissible}
 use Rattle.lvdc_model.specs.declared.outcome.Outcome.{Outcome}
@@ -59,6 +60,13 @@ NamesPort (Operand at) port = ⊥
 NamesPort (Store at word) port = ⊥
 NamesPort (PortRead named) port = named ≡ port
 NamesPort (PortWrite named word) port = named ≡ port
+
+-- a step may be made: it was begun, it is one of those that are left, and of a machine that judges no module has two wrong copies
+-- in it
+pub record MayMake (m : View) : Type 0 where
+  pub begun : m.active.last ≡ Some m.steps
+  pub left : m.steps < 3 * m.limit
+  pub right : m.mode ≡ Guarded → two_wrong m.script m.steps 1 ≡ false
 
 -- what no call changes
 pub record Keeps (before after : View) : Type 0 where

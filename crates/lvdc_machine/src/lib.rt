@@ -4,17 +4,17 @@
 
 mod answers;
 mod kept_end;
-mod laws;
 mod machine;
 mod mode;
 mod notes;
+mod opening;
 mod resumed;
 mod shown;
 mod snapshot;
+mod start;
 mod stepping;
 mod views;
 
-pub use laws::{failed_exchange, guarded_follows, guarded_keeps, guarded_words, unhurt_follows};
 pub use lvdc_model::{Outcome, Repair};
 pub use lvdc_orders::{Order, Orders, OrdersFull};
 pub use machine::Machine;

@@ -1,28 +1,20 @@
 //! The voted machine.
 
-ghost use Rattle.std.specs.Prelude.{◌≡◌, ℕ, ◌+◌, ◌-◌, ◌*◌, ◌≤◌, ◌<◌, List, length, map, All, true, IsSome, IsNone, OnOk, IfOk, Option, Some, None, [], ◌≢◌, vec_capacity};
+ghost use Rattle.std.specs.Prelude.{◌≡◌, ℕ, ◌+◌, ◌*◌, ◌≤◌, ◌<◌, List, length, map, All, true, IfOk, [], vec_capacity};
 ghost use Rattle.lvdc_map.specs.Memory.{are_rising, AllThere};
 ghost use Rattle.lvdc_port.specs.Device as device;
-ghost use Rattle.lvdc_port.specs.Devices.{has_port, HasSpare, AreDistinct};
-ghost use Rattle.lvdc_fault.specs.declared.verdict.Verdict.{Verdict};
+ghost use Rattle.lvdc_port.specs.Devices.{AreDistinct, HoldWords};
+ghost use Rattle.lvdc_plain.specs.Lists.{AreFit};
 ghost use Rattle.lvdc_model.specs.Trial.{Trial};
 ghost use Rattle.lvdc_model.specs.Voted.{Voted};
-ghost use Rattle.lvdc_model.specs.declared.outcome.Outcome.TheVariants.{Inadmissible};
 ghost use Rattle.lvdc_fault.specs.Events.{IsEvent};
-ghost use Rattle.lvdc_laws_phases.specs.Standing.{Standing};
-ghost use Rattle.lvdc_laws_voted.specs.Ends.{IsOpening};
-ghost use Rattle.lvdc_laws_voted.specs.Relation.{Kept};
-ghost use Rattle.lvdc_machine.specs.declared.mode.Mode.TheVariants.{Guarded, Through};
-ghost use Rattle.lvdc_machine.specs.Guarded.{GuardedBy, UnhurtBy};
-ghost use Rattle.lvdc_machine.specs.Causes.{HasCause};
+ghost use Rattle.lvdc_machine.specs.Calls.{trial_of, Begins, Leaves, Answers};
 ghost use Rattle.lvdc_machine.specs.Resumed.{StandsFrom};
-ghost use Rattle.lvdc_machine.specs.Room.{pace_of, exchanges_left};
-ghost use Rattle.lvdc_machine.specs.Stands.{Stands, state_by};
-ghost use Rattle.lvdc_machine.specs.Steps.{Keeps};
-ghost use Rattle.lvdc_machine.specs.View.{answer_of_end};
+ghost use Rattle.lvdc_machine.specs.Room.{exchanges_to_come};
 
 use crate::kept_end::KeptEnd;
-use crate::laws::{guarded_follows, guarded_keeps, is_hop_constant, places_words, unhurt_follows};
+use crate::opening::{is_hop_constant, places_words};
+use crate::start::Start;
 use crate::{Mode, Order, Orders, Pace};
 use lvdc_fault::{Active, Script};
 use lvdc_logic::{InForce, Logic};
@@ -136,64 +128,53 @@ impl Machine {
         requires events { All IsEvent script }
         requires distinct { AreDistinct (map device_of devices.old.items) }
 
-        // It stands at the start of the trial that these arguments are.
-        ensures stands { IfOk result (λ machine. Stands
+        // It stands at the start of the trial that these arguments are, and the devices are fit for all its exchanges.
+        ensures begins { IfOk result (λ machine. Begins
             (record {
               opening = record { image = image.now; banks = banks; start = start; unplugs = unplugs.items; devices = map device_of devices.old.items };
               script = script;
             })
-            0 machine (map device_of devices.new.items)) }
-        ensures opening { OnOk result (IsOpening
-            (record { image = image.now; banks = banks; start = start; unplugs = unplugs.items; devices = map device_of devices.old.items })) }
-        ensures banks { IfOk result (λ machine. machine.banks ≡ banks) }
-        ensures script { IfOk result (λ machine. machine.script ≡ script) }
-        ensures unplugs { IfOk result (λ machine. machine.unplugs ≡ unplugs.items) }
-        ensures limit { IfOk result (λ machine. machine.limit ≡ limit) }
-        ensures mode { IfOk result (λ machine. machine.mode ≡ mode) }
-        ensures pace { IfOk result (λ machine. machine.pace ≡ pace_of mode) }
-        ensures steps { IfOk result (λ machine. machine.steps ≡ 0) }
-        ensures end { IfOk result (λ machine. machine.end ≡ None) }
-        ensures room { OnOk result (HasSpare spare (exchanges_left (pace_of mode) 0 limit) devices.new.items) }
+            mode limit machine (map device_of devices.new.items)) }
+        ensures fit { IfOk result (λ machine. AreFit device_of spare (exchanges_to_come machine) devices.new.items) }
 
         // In every case.
         ensures devices { map device_of devices.new.items ≡ map device_of devices.old.items }
         ensures faults { map faults devices.new.items ≡ map faults devices.old.items }
     {
-        places_words(image);
-        is_hop_constant(start);
         prepare_all(devices, Pace::of(mode).exchanges(limit))?;
-        Machine::at_start(alloc, image, banks, start, script, unplugs, mode, limit)
+        Machine::at_start(
+            alloc,
+            Start {
+                image,
+                banks,
+                start,
+                script,
+                unplugs,
+                mode,
+                limit,
+            },
+        )
     }
 
-    /// A machine before its first step, of the trial with these arguments and whatever devices.
-    fn at_start(
-        alloc: Global,
-        image: &[Placed],
-        banks: Banks,
-        start: Hop,
-        script: Script,
-        unplugs: Vec<Unplug>,
-        mode: Mode,
-        limit: u64,
-    ) -> Result<Machine, NoMemory>
-        requires limit { limit ≤ Self.LIMIT }
-        requires there { AllThere banks image.now }
-        requires events { All IsEvent script }
-        ensures stands { (devices : List device.Device) → IfOk result (λ machine. Stands
-            (record {
-              opening = record { image = image.now; banks = banks; start = start; unplugs = unplugs.items; devices = devices };
-              script = script;
-            })
-            0 machine devices) }
-        ensures banks { IfOk result (λ machine. machine.banks ≡ banks) }
-        ensures script { IfOk result (λ machine. machine.script ≡ script) }
-        ensures unplugs { IfOk result (λ machine. machine.unplugs ≡ unplugs.items) }
-        ensures limit { IfOk result (λ machine. machine.limit ≡ limit) }
-        ensures mode { IfOk result (λ machine. machine.mode ≡ mode) }
-        ensures pace { IfOk result (λ machine. machine.pace ≡ pace_of mode) }
-        ensures steps { IfOk result (λ machine. machine.steps ≡ 0) }
-        ensures end { IfOk result (λ machine. machine.end ≡ None) }
+    /// A machine before its first step, with whatever devices.
+    fn at_start(alloc: Global, start: Start<'_>) -> Result<Machine, NoMemory>
+        requires limit { start.limit ≤ Self.LIMIT }
+        requires there { AllThere start.banks start.image.now }
+        requires events { All IsEvent start.script }
+        ensures begins { (devices : List device.Device) → HoldWords devices
+            → IfOk result (λ machine. Begins (trial_of start.entry devices) start.entry.mode start.entry.limit machine devices) }
     {
+        let Start {
+            image,
+            banks,
+            start,
+            script,
+            unplugs,
+            mode,
+            limit,
+        } = start;
+        places_words(image);
+        is_hop_constant(start);
         let pace = Pace::of(mode);
         let memory = VotedMemory::new(alloc, image, banks)?;
         let active = Active::for_script(alloc, &script)?;
@@ -222,51 +203,22 @@ impl Machine {
     /// Makes one step, in which the copies latch in this order, or answers the end that has come. It takes no memory.
     pub fn phase(&mut self, order: &Order, devices: &mut Vec<Box<dyn PortDevice>>) -> Outcome
         requires left { self.old.steps < 3 * self.old.limit }
-        requires distinct { AreDistinct (map device_of devices.old.items) }
-        requires room { HasSpare spare (exchanges_left self.old.pace self.old.steps self.old.limit) devices.old.items }
+        requires fit { AreFit device_of spare (exchanges_to_come self.old) devices.old.items }
 
-        // It goes on by one step of its mode's run, for each trial for which it stood, and answers the end that it keeps. The
-        // order doesn't matter.
-        ensures stands { (o : Trial) (t : ℕ) → Stands o t self.old (map device_of devices.old.items)
-            → Stands o (t + 1) self.new (map device_of devices.new.items) }
-        ensures answer { result ≡ answer_of_end self.new.end }
-
-        // So it does of the run from a state, for each from which it stood.
-        ensures resumes { (o : Trial) (first : Voted) (n : ℕ) → StandsFrom o first n self.old (map device_of devices.old.items)
+        // It goes on by one step of its mode's run, from each state of each trial from which it stood; `Stands` is the case of a trial's
+        // start. The order doesn't matter. What that run is beside the plain run, `guarded_follows` and `guarded_keeps` say of every
+        // machine that stands.
+        ensures stands { (o : Trial) (first : Voted) (n : ℕ) → StandsFrom o first n self.old (map device_of devices.old.items)
             → StandsFrom o first (n + 1) self.new (map device_of devices.new.items) }
 
-        // A guarded machine follows the plain run up to the first inadmissible step, and has ended there.
-        ensures guarded { self.old.mode ≡ Guarded → (o : Trial) (t : ℕ) → IsOpening o.opening
-            → Stands o t self.old (map device_of devices.old.items)
-            → GuardedBy self.new.end o (t + 1) (state_by self.new.end self.new.mode o (t + 1)) }
-
-        // As long as no end has come it keeps the whole relation to the plain run: the copies of a module that weren't wrong in this
-        // step are one state, these states stand for the plain run in the phase of the next step, and cells, intended words, log and
-        // devices are the plain run's.
-        ensures relation { self.old.mode ≡ Guarded → self.new.end ≡ None → (o : Trial) (t : ℕ) → IsOpening o.opening
-            → Stands o t self.old (map device_of devices.old.items)
-            → Kept Standing o (t + 1) (state_by self.new.end self.new.mode o (t + 1)) }
-
-        // Through every fault no step is judged.
-        ensures through { self.old.mode ≡ Through → IsNone self.old.end → (verdict : Verdict) → result ≢ Inadmissible verdict }
-
-        // An end that has come is kept, and nothing is changed.
-        ensures kept { IsSome self.old.end → (self.new ≡ self.old) × (devices.new.items ≡ devices.old.items) }
-
-        // A failed device has failed in this call, and no other that is left has; every other end comes only where no device
-        // that is left has failed.
-        ensures cause { IsNone self.old.end → HasCause device_of faults result devices.old.items devices.new.items }
+        // It answers the end that it keeps. One that had come is kept, and nothing is changed; a failed device has failed in this
+        // call, and no other that is left has; every other end comes only where no device that is left has failed. Through every
+        // fault no step is judged.
+        ensures answers { Answers device_of faults result self.old self.new devices.old.items devices.new.items }
 
         // What stays, and what the next call asks for.
-        ensures keeps { Keeps self.old self.new }
-        ensures steps { self.new.steps ≤ self.old.steps + 1 }
-        ensures distinct { AreDistinct (map device_of devices.new.items) }
-        ensures room { HasSpare spare (exchanges_left self.new.pace self.new.steps self.new.limit) devices.new.items }
-        ensures left { (port : ℕ) → has_port device_of port devices.new.items ≡ true
-            → has_port device_of port devices.old.items ≡ true }
+        ensures leaves { Leaves device_of spare 1 self.old self.new devices.old.items devices.new.items }
     {
-        guarded_follows();
-        guarded_keeps();
         if let Some(end) = self.ended() {
             return end;
         }
@@ -285,49 +237,22 @@ impl Machine {
         devices: &mut Vec<Box<dyn PortDevice>>,
     ) -> Outcome
         requires left { self.old.steps + 3 * times ≤ 3 * self.old.limit }
-        requires distinct { AreDistinct (map device_of devices.old.items) }
-        requires room { HasSpare spare (exchanges_left self.old.pace self.old.steps self.old.limit) devices.old.items }
+        requires fit { AreFit device_of spare (exchanges_to_come self.old) devices.old.items }
 
-        // It goes on by so many times of its mode's run, for each trial for which it stood, and answers the end that it keeps.
-        // The orders don't matter.
-        ensures stands { (o : Trial) (t : ℕ) → Stands o t self.old (map device_of devices.old.items)
-            → Stands o (t + 3 * times) self.new (map device_of devices.new.items) }
-        ensures answer { result ≡ answer_of_end self.new.end }
-
-        // So it does of the run from a state, for each from which it stood.
-        ensures resumes { (o : Trial) (first : Voted) (n : ℕ) → StandsFrom o first n self.old (map device_of devices.old.items)
+        // It goes on by so many times of its mode's run, from each state of each trial from which it stood; `Stands` is the case of a
+        // trial's start. The orders don't matter. What that run is beside the plain run, `guarded_follows` and `unhurt_follows` say
+        // of every machine that stands.
+        ensures stands { (o : Trial) (first : Voted) (n : ℕ) → StandsFrom o first n self.old (map device_of devices.old.items)
             → StandsFrom o first (n + 3 * times) self.new (map device_of devices.new.items) }
 
-        // A guarded machine follows the plain run up to the first inadmissible step, and has ended there.
-        ensures guarded { self.old.mode ≡ Guarded → (o : Trial) (t : ℕ) → IsOpening o.opening
-            → Stands o t self.old (map device_of devices.old.items)
-            → GuardedBy self.new.end o (t + 3 * times) (state_by self.new.end self.new.mode o (t + 3 * times)) }
-
-        // Without events in its script it is the plain run after so many whole times, unless a device fails.
-        ensures unhurt { self.old.mode ≡ Guarded → self.old.script ≡ [] → (o : Trial) (t : ℕ) → IsOpening o.opening
-            → Stands o (3 * t) self.old (map device_of devices.old.items)
-            → UnhurtBy self.new.end o (t + times) (state_by self.new.end self.new.mode o (3 * (t + times))) }
-
-        // Through every fault no step is judged.
-        ensures through { self.old.mode ≡ Through → IsNone self.old.end → (verdict : Verdict) → result ≢ Inadmissible verdict }
-
-        // An end that has come is kept, and nothing is changed.
-        ensures kept { IsSome self.old.end → (self.new ≡ self.old) × (devices.new.items ≡ devices.old.items) }
-
-        // A failed device has failed in this call, and no other that is left has; every other end comes only where no device
-        // that is left has failed.
-        ensures cause { IsNone self.old.end → HasCause device_of faults result devices.old.items devices.new.items }
+        // It answers the end that it keeps. One that had come is kept, and nothing is changed; a failed device has failed in this
+        // call, and no other that is left has; every other end comes only where no device that is left has failed. Through every
+        // fault no step is judged.
+        ensures answers { Answers device_of faults result self.old self.new devices.old.items devices.new.items }
 
         // What stays, and what the next call asks for.
-        ensures keeps { Keeps self.old self.new }
-        ensures steps { self.new.steps ≤ self.old.steps + 3 * times }
-        ensures distinct { AreDistinct (map device_of devices.new.items) }
-        ensures room { HasSpare spare (exchanges_left self.new.pace self.new.steps self.new.limit) devices.new.items }
-        ensures left { (port : ℕ) → has_port device_of port devices.new.items ≡ true
-            → has_port device_of port devices.old.items ≡ true }
+        ensures leaves { Leaves device_of spare (3 * times) self.old self.new devices.old.items devices.new.items }
     {
-        guarded_follows();
-        unhurt_follows();
         if let Some(end) = self.ended() {
             return end;
         }

@@ -1,9 +1,10 @@
 //! A machine that goes on from a snapshot.
 
-ghost use Rattle.std.specs.Prelude.{◌≡◌, ℕ, ◌+◌, ◌-◌, ◌*◌, ◌≤◌, ◌<◌, List, All, length, map, IfOk, OnOk, None, vec_len, vec_capacity};
+ghost use Rattle.std.specs.Prelude.{◌≡◌, ℕ, ◌+◌, ◌-◌, ◌*◌, ◌≤◌, ◌<◌, List, All, length, map, IfOk, None, vec_len, vec_capacity};
 ghost use Rattle.lvdc_map.specs.Memory.{Memory};
 ghost use Rattle.lvdc_port.specs.Device as device;
-ghost use Rattle.lvdc_port.specs.Devices.{HasSpare, AreDistinct};
+ghost use Rattle.lvdc_port.specs.Devices.{AreDistinct};
+ghost use Rattle.lvdc_plain.specs.Lists.{AreFit};
 ghost use Rattle.lvdc_fault.specs.Activity.{Fits};
 ghost use Rattle.lvdc_model.specs.Known.{last_made};
 ghost use Rattle.lvdc_model.specs.Trial.{Trial};
@@ -14,7 +15,8 @@ ghost use Rattle.lvdc_memory.specs.Holds.{Holds};
 ghost use Rattle.lvdc_machine.specs.declared.mode.Mode.TheVariants.{Guarded};
 ghost use Rattle.lvdc_machine.specs.declared.mode.Pace.TheVariants.{ByStep};
 ghost use Rattle.lvdc_machine.specs.Resumed.{StandsFrom};
-ghost use Rattle.lvdc_machine.specs.Room.{exchanges_left};
+ghost use Rattle.lvdc_machine.specs.Calls.{IsFresh};
+ghost use Rattle.lvdc_machine.specs.Room.{exchanges_to_come};
 ghost use Rattle.lvdc_machine.specs.Snapshot.{IsWhole, Means, meant};
 ghost use Rattle.lvdc_machine.specs.Sound.{KnowsForce, KnowsWrong};
 ghost use Rattle.lvdc_machine.specs.Stands.{Stands};
@@ -54,15 +56,8 @@ impl Machine {
         ensures stands { IfOk result (λ machine. (o : Trial) (v : Voted) → o.script ≡ script → o.opening.unplugs ≡ unplugs.items
             → o.opening.banks ≡ snapshot.banks → Means snapshot v → v.devices ≡ map device_of devices.old.items
             → StandsFrom o v 0 machine (map device_of devices.new.items)) }
-        ensures banks { IfOk result (λ machine. machine.banks ≡ snapshot.banks) }
-        ensures script { IfOk result (λ machine. machine.script ≡ script) }
-        ensures unplugs { IfOk result (λ machine. machine.unplugs ≡ unplugs.items) }
-        ensures limit { IfOk result (λ machine. machine.limit ≡ limit) }
-        ensures mode { IfOk result (λ machine. machine.mode ≡ Guarded) }
-        ensures pace { IfOk result (λ machine. machine.pace ≡ ByStep) }
-        ensures made { IfOk result (λ machine. machine.steps ≡ snapshot.steps) }
-        ensures end { IfOk result (λ machine. machine.end ≡ None) }
-        ensures room { OnOk result (HasSpare spare (exchanges_left ByStep snapshot.steps limit) devices.new.items) }
+        ensures fresh { IfOk result (IsFresh Guarded ByStep limit snapshot.steps) }
+        ensures fit { IfOk result (λ machine. AreFit device_of spare (exchanges_to_come machine) devices.new.items) }
 
         // In every case.
         ensures devices { map device_of devices.new.items ≡ map device_of devices.old.items }
@@ -87,14 +82,7 @@ impl Machine {
         ensures stands { (devices : List device.Device) → IfOk result (λ machine. (o : Trial) (v : Voted) → o.script ≡ script
             → o.opening.unplugs ≡ unplugs.items → o.opening.banks ≡ snapshot.banks → Means snapshot v → v.devices ≡ devices
             → StandsFrom o v 0 machine devices) }
-        ensures banks { IfOk result (λ machine. machine.banks ≡ snapshot.banks) }
-        ensures script { IfOk result (λ machine. machine.script ≡ script) }
-        ensures unplugs { IfOk result (λ machine. machine.unplugs ≡ unplugs.items) }
-        ensures limit { IfOk result (λ machine. machine.limit ≡ limit) }
-        ensures mode { IfOk result (λ machine. machine.mode ≡ Guarded) }
-        ensures pace { IfOk result (λ machine. machine.pace ≡ ByStep) }
-        ensures made { IfOk result (λ machine. machine.steps ≡ snapshot.steps) }
-        ensures end { IfOk result (λ machine. machine.end ≡ None) }
+        ensures fresh { IfOk result (IsFresh Guarded ByStep limit snapshot.steps) }
     {
         let steps = snapshot.steps;
         let banks = snapshot.banks;

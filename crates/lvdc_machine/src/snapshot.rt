@@ -14,11 +14,12 @@ ghost use Rattle.lvdc_machine.specs.declared.mode.Mode.TheVariants.{Guarded};
 ghost use Rattle.lvdc_machine.specs.Snapshot.{IsWhole, Means};
 
 use crate::Machine;
+use lvdc_fault::Script;
 use lvdc_logic::Logic;
 use lvdc_map::{Banks, Placed};
 use lvdc_memory::VotedMemory;
 use lvdc_model::Repair;
-use lvdc_plain::Exchange;
+use lvdc_plain::{Exchange, Unplug};
 use lvdc_twin::Held;
 use lvdc_word::{NoMemory, Seq, Word};
 use std::alloc::Global;
@@ -70,6 +71,25 @@ impl Machine {
             banks: self.banks,
         })
     }
+
+    /// The script that it was made with, once more.
+    pub fn script(&self, alloc: Global) -> Result<Script, NoMemory>
+        ensures { IfOk result (λ script. script ≡ self.now.script) }
+    {
+        let mut script = Script::new(alloc);
+        for at in 0..self.script.len() {
+            script.push(*self.script.event(at))?;
+        }
+        Ok(script)
+    }
+
+    /// The UNPLUG lines that it was made with, once more.
+    pub fn unplugs(&self, alloc: Global) -> Result<Seq<Unplug>, NoMemory>
+        ensures { IfOk result (λ unplugs. unplugs ≡ self.now.unplugs) }
+    {
+        let unplugs = Vec::from_slice(alloc, &self.unplugs)?;
+        Ok(Seq::from_vec(unplugs))
+    }
 }
 
 /// The latches of the logic, and in how many steps each copy differed.
@@ -120,25 +140,7 @@ fn noted_lists(
     ensures log { IfOk result (λ lists. lists.0 ≡ log.now) }
     ensures repairs { IfOk result (λ lists. lists.1 ≡ noted.now) }
 {
-    let lines = lines_of(alloc, log)?;
-    let repairs = repairs_of(alloc, noted)?;
+    let lines = Vec::from_slice(alloc, log)?;
+    let repairs = Vec::from_slice(alloc, noted)?;
     Ok((Seq::from_vec(lines), Seq::from_vec(repairs)))
-}
-
-/// The same lines.
-fn lines_of(alloc: Global, log: &[Exchange]) -> Result<Vec<Exchange>, NoMemory>
-    ensures { IfOk result (λ lines. lines.items ≡ log.now) }
-{
-    let mut lines = Vec::with_capacity(alloc, log.len())?;
-    lines.extend_from_slice(log)?;
-    Ok(lines)
-}
-
-/// The same repairs.
-fn repairs_of(alloc: Global, noted: &[Repair]) -> Result<Vec<Repair>, NoMemory>
-    ensures { IfOk result (λ repairs. repairs.items ≡ noted.now) }
-{
-    let mut repairs = Vec::with_capacity(alloc, noted.len())?;
-    repairs.extend_from_slice(noted)?;
-    Ok(repairs)
 }

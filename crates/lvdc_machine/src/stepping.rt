@@ -3,14 +3,15 @@
 ghost use Rattle.std.specs.Prelude.{◌≡◌, ℕ, ◌+◌, ◌-◌, ◌*◌, ◌/◌, ◌%◌, ◌≤◌, ◌<◌, ◌==◌, ◌≢◌, List, map, true, false, IsSome, OnOk, OnErr, IfErr, IfSome, Option, Some, None};
 ghost use Rattle.lvdc_map.specs.Banks.{is_there};
 ghost use Rattle.lvdc_port.specs.Device as device;
-ghost use Rattle.lvdc_port.specs.Devices.{has_port, HasSpare, AreDistinct};
+ghost use Rattle.lvdc_port.specs.Devices.{HasSpare, AreDistinct};
 ghost use Rattle.lvdc_modules.specs.Wish.{wish, IsThereFor};
-ghost use Rattle.lvdc_plain.specs.Lists.{Since};
+ghost use Rattle.lvdc_plain.specs.Lists.{Since, AreFit};
+ghost use Rattle.lvdc_machine.specs.Calls.{Leaves};
 ghost use Rattle.lvdc_fault.specs.Activity.{Stays};
 ghost use Rattle.lvdc_fault.specs.Script.{two_wrong};
 ghost use Rattle.lvdc_fault.specs.declared.verdict.Verdict.{Verdict};
 ghost use Rattle.lvdc_fault.specs.declared.verdict.Verdict.TheVariants.{Admissible};
-ghost use Rattle.lvdc_model.specs.Exchanges.{damages, stop_of, latches, exchanges, reading, storing, port_reading, port_writing, wished};
+ghost use Rattle.lvdc_model.specs.Exchanges.{stop_of, latches, exchanges, reading, storing, port_reading, port_writing, wished};
 ghost use Rattle.lvdc_model.specs.Runs.{own_verdict, own_memory, read_of_wish};
 ghost use Rattle.lvdc_model.specs.Trial.{Trial, devices_left};
 ghost use Rattle.lvdc_model.specs.Twins.{read_answer};
@@ -18,16 +19,16 @@ ghost use Rattle.lvdc_model.specs.Voted.{Voted};
 ghost use Rattle.lvdc_model.specs.declared.outcome.Outcome.TheVariants.{Inadmissible, Device};
 ghost use Rattle.lvdc_machine.specs.declared.mode.Mode.TheVariants.{Guarded, Through};
 ghost use Rattle.lvdc_machine.specs.Causes.{Fails, HasCause};
-ghost use Rattle.lvdc_machine.specs.Room.{exchanges_left, MayExchange, MayRepair, IsDue};
+ghost use Rattle.lvdc_machine.specs.Room.{exchanges_to_come, MayExchange, MayRepair, IsDue};
 ghost use Rattle.lvdc_machine.specs.Notes.{IsNoted};
 ghost use Rattle.lvdc_machine.specs.Resumed.{StandsFrom};
-ghost use Rattle.lvdc_machine.specs.Shows.{Shows};
-ghost use Rattle.lvdc_machine.specs.Steps.{verdict_of, repair_noted, noting, NamesPort, Keeps, IsMade};
+ghost use Rattle.lvdc_machine.specs.Shows.{Shows, HasBegun};
+ghost use Rattle.lvdc_machine.specs.Steps.{verdict_of, repair_noted, noting, NamesPort, MayMake, IsMade};
 ghost use Rattle.lvdc_machine.specs.View.{bus_of_votes, answer_of_end, outcome_of, end_seen};
 
 use crate::answers::answer;
 use crate::kept_end::KeptEnd;
-use crate::notes::{log_line, note_repair};
+use crate::notes::note;
 use crate::{Machine, Mode, Order};
 use lvdc_fault::{Verdict, none_wrong, same_actives, wrong_now};
 use lvdc_logic::{InForce, in_force_stays};
@@ -122,10 +123,7 @@ impl Machine {
     /// Damages cells, and puts in force what is stuck and dead in this step, and what acts on the copies. Where the same events are
     /// active as in the step before, there is nothing to do.
     fn begin(&mut self)
-        ensures shows { (o : Trial) (v : Voted) (ds : List device.Device) → Shows o self.old ds v
-            → Shows o self.new ds (record v { twins = damages v.steps o.script v.twins }) }
-        ensures new { self.new ≡ record self.old { memory = self.new.memory; active = self.new.active } }
-        ensures last { self.new.active.last ≡ Some self.old.steps }
+        ensures { HasBegun self.old self.new }
     {
         if self.script.stays(self.steps, &self.active) {
             self.go_on();
@@ -137,10 +135,7 @@ impl Machine {
     /// Begins a step in which the same events are active as in the step before.
     fn go_on(&mut self)
         requires { Stays self.old.script self.old.active self.old.steps }
-        ensures shows { (o : Trial) (v : Voted) (ds : List device.Device) → Shows o self.old ds v
-            → Shows o self.new ds (record v { twins = damages v.steps o.script v.twins }) }
-        ensures new { self.new ≡ record self.old { active = self.new.active } }
-        ensures last { self.new.active.last ≡ Some self.old.steps }
+        ensures { HasBegun self.old self.new }
     {
         same_actives(&self.script, self.steps - 1);
         in_force_stays(&self.script, self.steps - 1);
@@ -150,10 +145,7 @@ impl Machine {
 
     /// Begins a step in which other events are active than in the step before.
     fn change(&mut self)
-        ensures shows { (o : Trial) (v : Voted) (ds : List device.Device) → Shows o self.old ds v
-            → Shows o self.new ds (record v { twins = damages v.steps o.script v.twins }) }
-        ensures new { self.new ≡ record self.old { memory = self.new.memory; active = self.new.active } }
-        ensures last { self.new.active.last ≡ Some self.old.steps }
+        ensures { HasBegun self.old self.new }
     {
         self.memory.release(&self.script, &self.active);
         self.script.active(self.steps, &mut self.active);
@@ -227,9 +219,7 @@ impl Machine {
 
     /// Notes what an exchange brought, and lets all copies latch.
     fn make(&mut self, order: &Order, brought: Brought)
-        requires begun { self.old.active.last ≡ Some self.old.steps }
-        requires left { self.old.steps < 3 * self.old.limit }
-        requires right { self.old.mode ≡ Guarded → two_wrong self.old.script self.old.steps 1 ≡ false }
+        requires may { MayMake self.old }
         requires line { IsSome brought.line → MayExchange self.old.pace self.old.steps }
         requires repair { IsSome brought.repair → MayRepair self.old.pace self.old.steps }
         requires dated { IfSome brought.line (λ line. line.time ≡ self.old.steps / 3) }
@@ -239,8 +229,8 @@ impl Machine {
         ensures made { IsMade self.old self.new }
         ensures steps { self.new.steps ≡ self.old.steps + 1 }
     {
-        log_line(&mut self.log, brought.line);
-        note_repair(&mut self.repairs, brought.repair);
+        note(&mut self.log, brought.line);
+        note(&mut self.repairs, brought.repair);
         let voted = Bus {
             memory: brought.memory,
             port: brought.port,
@@ -254,9 +244,7 @@ impl Machine {
 
     /// Reads an address. Where no twin shows a good cell there the machine stops, and the step isn't made.
     fn read(&mut self, order: &Order, at: Address)
-        requires begun { self.old.active.last ≡ Some self.old.steps }
-        requires left { self.old.steps < 3 * self.old.limit }
-        requires right { self.old.mode ≡ Guarded → two_wrong self.old.script self.old.steps 1 ≡ false }
+        requires may { MayMake self.old }
         requires there { is_there self.old.banks at ≡ true }
         requires due { MayRepair self.old.pace self.old.steps }
         ensures shows { (o : Trial) (v : Voted) (ds : List device.Device) → Shows o self.old ds v
@@ -287,9 +275,7 @@ impl Machine {
 
     /// Stores a word.
     fn store(&mut self, order: &Order, at: Address, word: Word)
-        requires begun { self.old.active.last ≡ Some self.old.steps }
-        requires left { self.old.steps < 3 * self.old.limit }
-        requires right { self.old.mode ≡ Guarded → two_wrong self.old.script self.old.steps 1 ≡ false }
+        requires may { MayMake self.old }
         requires there { is_there self.old.banks at ≡ true }
         ensures shows { (o : Trial) (v : Voted) (ds : List device.Device) → Shows o self.old ds v
             → Shows o self.new ds (storing o v at word) }
@@ -306,12 +292,9 @@ impl Machine {
         port: u8,
         devices: &mut Vec<Box<dyn PortDevice>>,
     ) -> Result<(), u8>
-        requires begun { self.old.active.last ≡ Some self.old.steps }
-        requires left { self.old.steps < 3 * self.old.limit }
-        requires right { self.old.mode ≡ Guarded → two_wrong self.old.script self.old.steps 1 ≡ false }
+        requires may { MayMake self.old }
         requires due { MayExchange self.old.pace self.old.steps }
-        requires distinct { AreDistinct (map device_of devices.old.items) }
-        requires room { HasSpare spare (exchanges_left self.old.pace self.old.steps self.old.limit) devices.old.items }
+        requires fit { AreFit device_of spare (exchanges_to_come self.old) devices.old.items }
         ensures shows { OnOk result ((o : Trial) (v : Voted) → Shows o self.old (map device_of devices.old.items) v
             → Shows o self.new (map device_of devices.new.items) (port_reading o v port)) }
         ensures made { OnOk result (IsMade self.old self.new) }
@@ -319,8 +302,7 @@ impl Machine {
         ensures named { IfErr result (λ failed. port ≡ failed) }
         ensures fails { IfErr result (λ failed. Fails device_of faults failed devices.old.items devices.new.items) }
         ensures unchanged { OnErr result (self.new ≡ self.old) }
-        ensures distinct { AreDistinct (map device_of devices.new.items) }
-        ensures room { HasSpare spare (exchanges_left self.new.pace self.new.steps self.new.limit) devices.new.items }
+        ensures fit { AreFit device_of spare (exchanges_to_come self.new) devices.new.items }
     {
         let time = self.steps / 3;
         match answer(devices, time, PortRequest::Read { port }) {
@@ -354,12 +336,9 @@ impl Machine {
         word: Word,
         devices: &mut Vec<Box<dyn PortDevice>>,
     ) -> Result<(), u8>
-        requires begun { self.old.active.last ≡ Some self.old.steps }
-        requires left { self.old.steps < 3 * self.old.limit }
-        requires right { self.old.mode ≡ Guarded → two_wrong self.old.script self.old.steps 1 ≡ false }
+        requires may { MayMake self.old }
         requires due { MayExchange self.old.pace self.old.steps }
-        requires distinct { AreDistinct (map device_of devices.old.items) }
-        requires room { HasSpare spare (exchanges_left self.old.pace self.old.steps self.old.limit) devices.old.items }
+        requires fit { AreFit device_of spare (exchanges_to_come self.old) devices.old.items }
         ensures shows { OnOk result ((o : Trial) (v : Voted) → Shows o self.old (map device_of devices.old.items) v
             → Shows o self.new (map device_of devices.new.items) (port_writing o v port word)) }
         ensures made { OnOk result (IsMade self.old self.new) }
@@ -367,8 +346,7 @@ impl Machine {
         ensures named { IfErr result (λ failed. port ≡ failed) }
         ensures fails { IfErr result (λ failed. Fails device_of faults failed devices.old.items devices.new.items) }
         ensures unchanged { OnErr result (self.new ≡ self.old) }
-        ensures distinct { AreDistinct (map device_of devices.new.items) }
-        ensures room { HasSpare spare (exchanges_left self.new.pace self.new.steps self.new.limit) devices.new.items }
+        ensures fit { AreFit device_of spare (exchanges_to_come self.new) devices.new.items }
     {
         let time = self.steps / 3;
         match answer(devices, time, PortRequest::Write { port, word }) {
@@ -401,13 +379,10 @@ impl Machine {
         wanted: Wanted,
         devices: &mut Vec<Box<dyn PortDevice>>,
     ) -> Result<(), u8>
-        requires begun { self.old.active.last ≡ Some self.old.steps }
-        requires left { self.old.steps < 3 * self.old.limit }
-        requires right { self.old.mode ≡ Guarded → two_wrong self.old.script self.old.steps 1 ≡ false }
+        requires may { MayMake self.old }
         requires there { IsThereFor self.old.banks wanted }
         requires due { IsDue self.old.pace self.old.steps wanted }
-        requires distinct { AreDistinct (map device_of devices.old.items) }
-        requires room { HasSpare spare (exchanges_left self.old.pace self.old.steps self.old.limit) devices.old.items }
+        requires fit { AreFit device_of spare (exchanges_to_come self.old) devices.old.items }
         ensures shows { OnOk result ((o : Trial) (v : Voted) → Shows o self.old (map device_of devices.old.items) v
             → Shows o self.new (map device_of devices.new.items) (exchanges o v wanted)) }
         ensures made { OnOk result (IsMade self.old self.new) }
@@ -415,8 +390,7 @@ impl Machine {
         ensures named { IfErr result (λ failed. NamesPort wanted failed) }
         ensures fails { IfErr result (λ failed. Fails device_of faults failed devices.old.items devices.new.items) }
         ensures unchanged { OnErr result (self.new ≡ self.old) }
-        ensures distinct { AreDistinct (map device_of devices.new.items) }
-        ensures room { HasSpare spare (exchanges_left self.new.pace self.new.steps self.new.limit) devices.new.items }
+        ensures fit { AreFit device_of spare (exchanges_to_come self.new) devices.new.items }
     {
         match wanted {
             Wanted::Nothing => {
@@ -464,19 +438,13 @@ impl Machine {
     ) -> Option<Outcome>
         requires running { self.old.end ≡ None }
         requires left { self.old.steps < 3 * self.old.limit }
-        requires distinct { AreDistinct (map device_of devices.old.items) }
-        requires room { HasSpare spare (exchanges_left self.old.pace self.old.steps self.old.limit) devices.old.items }
+        requires fit { AreFit device_of spare (exchanges_to_come self.old) devices.old.items }
         ensures stands { (o : Trial) (first : Voted) (n : ℕ) → StandsFrom o first n self.old (map device_of devices.old.items)
             → StandsFrom o first (n + 1) self.new (map device_of devices.new.items) }
         ensures answer { result ≡ self.new.end }
         ensures through { self.old.mode ≡ Through → (verdict : Verdict) → self.new.end ≢ Some (Inadmissible verdict) }
-        ensures keeps { Keeps self.old self.new }
-        ensures steps { self.new.steps ≤ self.old.steps + 1 }
-        ensures distinct { AreDistinct (map device_of devices.new.items) }
-        ensures room { HasSpare spare (exchanges_left self.new.pace self.new.steps self.new.limit) devices.new.items }
-        ensures left { (port : ℕ) → has_port device_of port devices.new.items ≡ true
-            → has_port device_of port devices.old.items ≡ true }
         ensures cause { HasCause device_of faults (answer_of_end self.new.end) devices.old.items devices.new.items }
+        ensures leaves { Leaves device_of spare 1 self.old self.new devices.old.items devices.new.items }
     {
         self.unplug_due(devices);
         self.begin();

@@ -6,19 +6,15 @@ ghost use Rattle.lvdc_map.specs.Memory.{word_at};
 ghost use Rattle.lvdc_port.specs.Device as device;
 ghost use Rattle.lvdc_modules.specs.Seen.{hold};
 ghost use Rattle.lvdc_vote.specs.Numbers.{latches_of};
-ghost use Rattle.lvdc_model.specs.Trial.{Trial, plain_in};
+ghost use Rattle.lvdc_model.specs.Trial.{Trial};
 ghost use Rattle.lvdc_model.specs.Voted.{Voted};
 ghost use Rattle.lvdc_logic.specs.Logic.{latch_of, count_of};
-ghost use Rattle.lvdc_laws_voted.specs.Ends.{IsOpening};
-ghost use Rattle.lvdc_machine.specs.declared.mode.Mode.TheVariants.{Guarded};
-ghost use Rattle.lvdc_machine.specs.Guarded.{is_recoverable_by};
 ghost use Rattle.lvdc_machine.specs.Resumed.{state_from, StandsFrom};
 ghost use Rattle.lvdc_machine.specs.Room.{pace_of};
-ghost use Rattle.lvdc_machine.specs.Stands.{Stands, state_by, shown_by, shown_of};
-ghost use Rattle.lvdc_machine.specs.View.{bus_of_votes, registers_on, visible_of};
+ghost use Rattle.lvdc_machine.specs.Stands.{shown_of};
+ghost use Rattle.lvdc_machine.specs.View.{bus_of_votes, registers_on, visible_of, answer_of_end};
 
-use crate::laws::guarded_words;
-use crate::{Machine, Shown};
+use crate::{Machine, Mode, Shown};
 use lvdc_map::{Address, Banks, Hop};
 use lvdc_model::{Outcome, Repair};
 use lvdc_modules::Bus;
@@ -54,20 +50,12 @@ impl Machine {
         registers_on(&self.bus, self.steps)
     }
 
-    /// The intended word of an address whose bank is there, where it can be recovered.
+    /// The intended word of an address whose bank is there, where it can be recovered: told of the state where the machine stands.
     pub fn shown(&self, at: Address) -> Shown
         requires { is_there self.now.banks at ≡ true }
-        ensures told { (o : Trial) (t : ℕ) (ds : List device.Device) → Stands o t self.now ds
-            → result ≡ shown_of o (state_by self.now.end self.now.mode o t) at }
-        ensures resumed { (o : Trial) (first : Voted) (n : ℕ) (ds : List device.Device) → StandsFrom o first n self.now ds
+        ensures told { (o : Trial) (first : Voted) (n : ℕ) (ds : List device.Device) → StandsFrom o first n self.now ds
             → result ≡ shown_of o (state_from self.now.end self.now.mode o first n) at }
-
-        // Of a guarded machine it is the plain run's word, known exactly where script and plain run say that it can be recovered.
-        ensures guarded { self.now.mode ≡ Guarded → (o : Trial) (t : ℕ) (ds : List device.Device) → IsOpening o.opening
-            → Stands o t self.now ds
-            → result ≡ shown_by (is_recoverable_by self.now.end o self.now.steps at) (word_at (plain_in o self.now.steps).memory at) }
     {
-        guarded_words();
         if self.memory.recoverable(at) {
             Shown::Known(self.memory.intended(at))
         } else {
@@ -79,9 +67,7 @@ impl Machine {
     /// image's, else 0.
     pub fn intended(&self, at: Address) -> Word
         requires { is_there self.now.banks at ≡ true }
-        ensures told { (o : Trial) (t : ℕ) (ds : List device.Device) → Stands o t self.now ds
-            → result ≡ word_at (state_by self.now.end self.now.mode o t).intended at }
-        ensures resumed { (o : Trial) (first : Voted) (n : ℕ) (ds : List device.Device) → StandsFrom o first n self.now ds
+        ensures told { (o : Trial) (first : Voted) (n : ℕ) (ds : List device.Device) → StandsFrom o first n self.now ds
             → result ≡ word_at (state_from self.now.end self.now.mode o first n).intended at }
     {
         self.memory.intended(at)
@@ -140,6 +126,23 @@ impl Machine {
     {
         let end = self.end?;
         Some(end.outcome())
+    }
+
+    /// What the calls answer by the end that has come: it, or `Done` where none has.
+    pub fn outcome(&self) -> Outcome
+        ensures { result ≡ answer_of_end self.now.end }
+    {
+        match self.ended() {
+            Some(end) => end,
+            None => Outcome::Done,
+        }
+    }
+
+    /// How it goes through its script.
+    pub fn mode(&self) -> Mode
+        ensures { result ≡ self.now.mode }
+    {
+        self.mode
     }
 
     /// Which pairs of memory modules are simplex, as it was given.

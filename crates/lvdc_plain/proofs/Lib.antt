@@ -5,3 +5,4 @@ pub mod Instructions
 pub mod Lefts
 pub mod Causes
 pub mod Steps
+mod Calls

@@ -6,3 +6,4 @@ pub mod View
 pub mod Stands
 pub mod Processor
 pub mod Lists
+pub mod Calls

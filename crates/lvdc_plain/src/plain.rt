@@ -6,11 +6,13 @@ ghost use Rattle.lvdc_map.specs.Banks.{is_there};
 ghost use Rattle.lvdc_map.specs.Memory.{Memory, word_at, IsMemory, are_rising, AllThere};
 ghost use Rattle.lvdc_port.specs.Causes.{Rose};
 ghost use Rattle.lvdc_port.specs.Device.{word_of_time};
-ghost use Rattle.lvdc_port.specs.Devices.{has_port, count_at, HasSpare, HoldWords, AreDistinct};
+ghost use Rattle.lvdc_port.specs.Devices.{count_at, HasSpare, HoldWords, AreDistinct};
+ghost use Rattle.lvdc_plain.specs.Calls.{times_left, Begins, Keeps, Leaves, HasCause, Answers};
+ghost use Rattle.lvdc_plain.specs.Lists.{AreFit};
 ghost use Rattle.lvdc_plain.specs.Plain.{PlainState};
 ghost use Rattle.lvdc_plain.specs.Processor.{end_of};
 ghost use Rattle.lvdc_plain.specs.Run.{Opening};
-ghost use Rattle.lvdc_plain.specs.Stands.{Shows, Names, Stands, Caused};
+ghost use Rattle.lvdc_plain.specs.Stands.{Shows, Names, Stands};
 ghost use Rattle.lvdc_plain.specs.Table.{answered, exchanged, logged, makes, waits};
 ghost use Rattle.lvdc_plain.specs.View.{visible_of, answer_of_end, ByInstruction, IsPlainEnd};
 ghost use Rattle.lvdc_plain.specs.declared.records.PlainEnd.TheVariants.{Device};
@@ -165,15 +167,11 @@ impl Plain {
         requires there { AllThere banks image.now }
         requires distinct { AreDistinct (map device_of devices.old.items) }
 
-        // It stands at the start of the opening that these arguments are.
-        ensures stands { IfOk result (λ plain. Stands
+        // It stands at the start of the opening that these arguments are, and the devices are fit for all times.
+        ensures begins { IfOk result (λ plain. Begins
             (record { image = image.now; banks = banks; start = start; unplugs = unplugs.items; devices = map device_of devices.old.items })
-            0 plain (map device_of devices.new.items)) }
-        ensures banks { IfOk result (λ plain. plain.banks ≡ banks) }
-        ensures limit { IfOk result (λ plain. plain.limit ≡ limit) }
-        ensures times { IfOk result (λ plain. plain.times ≡ 0) }
-        ensures end { IfOk result (λ plain. plain.end ≡ None) }
-        ensures room { OnOk result (HasSpare spare limit devices.new.items) }
+            limit plain (map device_of devices.new.items)) }
+        ensures fit { IfOk result (λ plain. AreFit device_of spare (times_left plain) devices.new.items) }
         ensures words { OnOk result (HoldWords (map device_of devices.new.items)) }
 
         // In every case.
@@ -200,9 +198,7 @@ impl Plain {
         ensures shows { (p : PlainState) → Shows self.old p
             → Shows self.new (waits (self.old.hold - 1) p) }
         ensures times { self.new.times ≡ self.old.times + 1 }
-        ensures banks { self.new.banks ≡ self.old.banks }
-        ensures limit { self.new.limit ≡ self.old.limit }
-        ensures unplugs { self.new.unplugs ≡ self.old.unplugs }
+        ensures keeps { Keeps self.old self.new }
         ensures end { self.new.end ≡ self.old.end }
     {
         self.processor.wait();
@@ -220,9 +216,7 @@ impl Plain {
         ensures answer { result ≡ self.new.end }
         ensures plain { IsPlainEnd (answer_of_end result) }
         ensures times { self.new.times ≡ self.old.times + 1 }
-        ensures banks { self.new.banks ≡ self.old.banks }
-        ensures limit { self.new.limit ≡ self.old.limit }
-        ensures unplugs { self.new.unplugs ≡ self.old.unplugs }
+        ensures keeps { Keeps self.old self.new }
     {
         log_exchange(&mut self.log, instr, self.times, self.processor.a, m);
         let stop = self.processor.execute(instr, m);
@@ -250,25 +244,14 @@ impl Plain {
     fn advance(&mut self, devices: &mut Vec<Box<dyn PortDevice>>) -> Option<PlainEnd>
         requires running { self.old.end ≡ None }
         requires left { self.old.times < self.old.limit }
-        requires distinct { AreDistinct (map device_of devices.old.items) }
-        requires room { HasSpare spare (self.old.limit - self.old.times) devices.old.items }
+        requires fit { AreFit device_of spare (times_left self.old) devices.old.items }
         ensures stands { (o : Opening) (t : ℕ)
             → Stands o t self.old (map device_of devices.old.items)
             → Stands o (t + 1) self.new (map device_of devices.new.items) }
         ensures answer { result ≡ self.new.end }
         ensures plain { IsPlainEnd (answer_of_end result) }
-        ensures banks { self.new.banks ≡ self.old.banks }
-        ensures limit { self.new.limit ≡ self.old.limit }
-        ensures unplugs { self.new.unplugs ≡ self.old.unplugs }
-        ensures times { self.new.times ≤ self.old.times + 1 }
-        ensures distinct { AreDistinct (map device_of devices.new.items) }
-        ensures room { HasSpare spare (self.new.limit - self.new.times) devices.new.items }
-        ensures left { (port : ℕ) → has_port device_of port devices.new.items ≡ true
-            → has_port device_of port devices.old.items ≡ true }
-        ensures cause { Caused (answer_of_end self.new.end)
-            (λ port. count_at device_of faults port devices.old.items)
-            (λ port. count_at device_of faults port devices.new.items)
-            (λ port. has_port device_of port devices.new.items) }
+        ensures cause { HasCause device_of faults (answer_of_end self.new.end) devices.old.items devices.new.items }
+        ensures leaves { Leaves device_of spare 1 self.old self.new devices.old.items devices.new.items }
     {
         unplug_all(&self.unplugs, self.times, devices);
         if self.processor.hold > 0 {
@@ -289,36 +272,19 @@ impl Plain {
     /// Makes one instruction time, or answers the end that has come.
     pub fn step(&mut self, devices: &mut Vec<Box<dyn PortDevice>>) -> PlainEnd
         requires left { self.old.times < self.old.limit }
-        requires distinct { AreDistinct (map device_of devices.old.items) }
-        requires room { HasSpare spare (self.old.limit - self.old.times) devices.old.items }
+        requires fit { AreFit device_of spare (times_left self.old) devices.old.items }
 
-        // It goes on by one time of the plain run, for each opening for which it stood, and answers the end that it keeps.
+        // It goes on by one time of the plain run, for each opening for which it stood.
         ensures stands { (o : Opening) (t : ℕ)
             → Stands o t self.old (map device_of devices.old.items)
             → Stands o (t + 1) self.new (map device_of devices.new.items) }
-        ensures answer { result ≡ answer_of_end self.new.end }
-        ensures plain { IsPlainEnd result }
 
-        // An end that has come is kept, and nothing is changed.
-        ensures kept { IsSome self.old.end
-            → (self.new ≡ self.old) × (devices.new.items ≡ devices.old.items) }
-
-        // A failed device has failed in this call, and no other that is left has; every other end comes only where no device
-        // that is left has failed.
-        ensures cause { IsNone self.old.end → Caused result
-            (λ port. count_at device_of faults port devices.old.items)
-            (λ port. count_at device_of faults port devices.new.items)
-            (λ port. has_port device_of port devices.new.items) }
+        // It answers the end that it keeps. One that had come is kept, and nothing is changed; a failed device has failed in this
+        // call, and no other that is left has; every other end comes only where no device that is left has failed.
+        ensures answers { Answers device_of faults result self.old self.new devices.old.items devices.new.items }
 
         // What stays, and what the next call asks for.
-        ensures banks { self.new.banks ≡ self.old.banks }
-        ensures limit { self.new.limit ≡ self.old.limit }
-        ensures unplugs { self.new.unplugs ≡ self.old.unplugs }
-        ensures times { self.new.times ≤ self.old.times + 1 }
-        ensures distinct { AreDistinct (map device_of devices.new.items) }
-        ensures room { HasSpare spare (self.new.limit - self.new.times) devices.new.items }
-        ensures left { (port : ℕ) → has_port device_of port devices.new.items ≡ true
-            → has_port device_of port devices.old.items ≡ true }
+        ensures leaves { Leaves device_of spare 1 self.old self.new devices.old.items devices.new.items }
     {
         if let Some(end) = self.end {
             return end;
@@ -332,37 +298,19 @@ impl Plain {
     /// Makes so many instruction times, or fewer where an end comes. It takes no memory.
     pub fn run(&mut self, times: u64, devices: &mut Vec<Box<dyn PortDevice>>) -> PlainEnd
         requires left { self.old.times + times ≤ self.old.limit }
-        requires distinct { AreDistinct (map device_of devices.old.items) }
-        requires room { HasSpare spare (self.old.limit - self.old.times) devices.old.items }
+        requires fit { AreFit device_of spare (times_left self.old) devices.old.items }
 
-        // It goes on by so many times of the plain run, for each opening for which it stood, and answers the end that it
-        // keeps.
+        // It goes on by so many times of the plain run, for each opening for which it stood.
         ensures stands { (o : Opening) (t : ℕ)
             → Stands o t self.old (map device_of devices.old.items)
             → Stands o (t + times) self.new (map device_of devices.new.items) }
-        ensures answer { result ≡ answer_of_end self.new.end }
-        ensures plain { IsPlainEnd result }
 
-        // An end that has come is kept, and nothing is changed.
-        ensures kept { IsSome self.old.end
-            → (self.new ≡ self.old) × (devices.new.items ≡ devices.old.items) }
-
-        // A failed device has failed in this call, and no other that is left has; every other end comes only where no device
-        // that is left has failed.
-        ensures cause { IsNone self.old.end → Caused result
-            (λ port. count_at device_of faults port devices.old.items)
-            (λ port. count_at device_of faults port devices.new.items)
-            (λ port. has_port device_of port devices.new.items) }
+        // It answers the end that it keeps. One that had come is kept, and nothing is changed; a failed device has failed in this
+        // call, and no other that is left has; every other end comes only where no device that is left has failed.
+        ensures answers { Answers device_of faults result self.old self.new devices.old.items devices.new.items }
 
         // What stays, and what the next call asks for.
-        ensures banks { self.new.banks ≡ self.old.banks }
-        ensures limit { self.new.limit ≡ self.old.limit }
-        ensures unplugs { self.new.unplugs ≡ self.old.unplugs }
-        ensures times { self.new.times ≤ self.old.times + times }
-        ensures distinct { AreDistinct (map device_of devices.new.items) }
-        ensures room { HasSpare spare (self.new.limit - self.new.times) devices.new.items }
-        ensures left { (port : ℕ) → has_port device_of port devices.new.items ≡ true
-            → has_port device_of port devices.old.items ≡ true }
+        ensures leaves { Leaves device_of spare times self.old self.new devices.old.items devices.new.items }
     {
         if let Some(end) = self.end {
             return end;
@@ -410,6 +358,16 @@ impl Plain {
         ensures { result ≡ self.now.banks }
     {
         self.processor.banks
+    }
+
+    /// What the calls answer by the end that has come: it, or `Done` where none has.
+    pub fn outcome(&self) -> PlainEnd
+        ensures { result ≡ answer_of_end self.now.end }
+    {
+        match self.end {
+            Some(end) => end,
+            None => PlainEnd::Done,
+        }
     }
 
     /// The end that has come; none where every call has answered `Done`.

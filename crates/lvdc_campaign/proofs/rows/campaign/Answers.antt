@@ -18,3 +18,9 @@ loop-named-preserved c =
       admissible = subst (All Kept) (sym c.in_ok-push.ensures.items)
           (All-push Kept c.loop-named.rows.items c.in_ok-row.row c.loop-named.invariant.admissible c.in_ok-row.ensures.admissible);
     }
+
+pub run_plain-requires : goal.run_plain-requires
+run_plain-requires c = record { program = record { count = c.requires.count; rising = c.requires.rising; there = c.requires.there } }
+
+pub make_row-requires-clause-program : goal.make_row-requires-clause-program
+make_row-requires-clause-program c = record { count = c.requires.count; rising = c.requires.rising; there = c.requires.there }

@@ -4,8 +4,9 @@ use Rattle.lvdc_campaign.proofs.runs.run_plain.Goals as goal
 
 pub returns : goal.returns
 returns c =
-    has_run_plainly _ _ c.args.image.now c.args.start c.args.banks c.new.result.items c.new-devices.result.items c.new-2.new.devices.items c.run.new.devices.items
-    c.new.ensures.items c.new-devices.ensures.items c.new-2.ensures.devices c.run.ensures.left
-    c.args.count c.run.new.self c.run.result (c.run.ensures.banks ∙ c.in_ok-plain.ensures.banks)
-    (c.run.ensures.stands _ 0 c.in_ok-plain.ensures.stands) c.run.ensures.answer
-    (c.run.ensures.cause (rw c.in_ok-plain.ensures.end refl))
+    let begins = c.in_ok-plain.ensures.begins in
+    let answers = c.run.ensures.answers in
+    has_run_plainly _ _ c.args.program.now.image.now c.args.program.now.start c.args.program.now.banks c.new.result.items c.new-devices.result.items c.new-2.new.devices.items c.run.new.devices.items
+    c.new.ensures.items c.new-devices.ensures.items c.new-2.ensures.devices c.run.ensures.leaves.left
+    c.args.program.now.count c.run.new.self c.run.result (c.run.ensures.leaves.keeps.banks ∙ begins.banks)
+    (c.run.ensures.stands _ 0 begins.stands) answers.answer (answers.cause (rw begins.end refl))

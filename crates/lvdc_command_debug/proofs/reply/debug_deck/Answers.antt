@@ -1,7 +1,8 @@
-use Rattle.std.proofs.Common.{◌≤◌, ◌∙◌, ℕ, List, length, map, sym, ap, subst}
+use Rattle.std.proofs.Common.{◌≤◌, ◌∙◌, ℕ, List, length, map, refl, sym, ap, subst}
 use Rattle.lvdc_text.specs.declared.cutting.Line.{Line}
 use Rattle.lvdc_laws_voted.specs.Ends.{IsOpening}
 use Rattle.lvdc_model.specs.Trial.{Trial}
+use Rattle.lvdc_command_run.specs.Accounts.{end_status}
 use Rattle.lvdc_command_run.specs.Trials.{trial_of}
 use Rattle.lvdc_debug.specs.Session.{session_text}
 use Rattle.lvdc_debug.specs.Standing.{command_texts, subject_of, StandsAfter, StandsAmid, AreApart}
@@ -19,13 +20,13 @@ returns-in_err-machine-clause-unwritten g c =
 pub returns-in_err-text-clause-unwritten : goal.returns-in_err-text-clause-unwritten
 returns-in_err-text-clause-unwritten g c =
     let o : Trial = trial_of (map (λ b. (goal.PortDevice-dyn g (b.vtable, b.value)).device_of b.value) c.args.devices.now.items) c.args.deck in
-    let opens : IsOpening o.opening = c.in_ok-machine.ensures.opening in
+    let opens : IsOpening o.opening = c.in_ok-machine.ensures.begins.opening in
     let same = c.items.ensures ∙ c.in_ok-machine.ensures.commands in
     let amid : StandsAmid o (command_texts c.args.bytes.now c.args.deck.commands) c.debug.new.machine (map (λ b. (goal.PortDevice-dyn g (b.vtable, b.value)).device_of b.value) c.debug.new.devices.items) =
     subst (λ (lines : List Line). StandsAmid o (command_texts c.args.bytes.now lines) c.debug.new.machine
-    (map (λ b. (goal.PortDevice-dyn g (b.vtable, b.value)).device_of b.value) c.debug.new.devices.items)) same (c.in_err-text.ensures.amid o opens c.in_ok-machine.ensures.stands) in
+    (map (λ b. (goal.PortDevice-dyn g (b.vtable, b.value)).device_of b.value) c.debug.new.devices.items)) same (c.in_err-text.ensures.amid o (record { opening = opens; stands = c.in_ok-machine.ensures.begins.stands })) in
     on_err _ (session_amid (λ b. (goal.PortDevice-dyn g (b.vtable, b.value)).device_of b.value) (λ b. (goal.PortDevice-dyn g (b.vtable, b.value)).faults b.value)
-    c.args.bytes.now c.args.deck c.args.devices.now.items c.debug.new.devices.items c.debug.new.machine (c.in_err-text.ensures.limit ∙ c.in_ok-machine.ensures.count)
+    c.args.bytes.now c.args.deck c.args.devices.now.items c.debug.new.devices.items c.debug.new.machine (c.in_err-text.ensures.limit ∙ c.limit-limit.ensures ∙ c.in_ok-machine.ensures.begins.fresh.limit_is)
     (cause_before (λ b. (goal.PortDevice-dyn g (b.vtable, b.value)).device_of b.value) (λ b. (goal.PortDevice-dyn g (b.vtable, b.value)).faults b.value)
     c.args.devices.now.items c.make_ready.new.devices.items c.in_ok-machine.ensures.counts c.debug.new.machine.end c.debug.new.devices.items c.in_err-text.ensures.cause)
     amid)
@@ -33,7 +34,7 @@ returns-in_err-text-clause-unwritten g c =
 pub returns-clause-session : goal.returns-clause-session
 returns-clause-session g c =
     let o : Trial = trial_of (map (λ b. (goal.PortDevice-dyn g (b.vtable, b.value)).device_of b.value) c.args.devices.now.items) c.args.deck in
-    let opens : IsOpening o.opening = c.in_ok-machine.ensures.opening in
+    let opens : IsOpening o.opening = c.in_ok-machine.ensures.begins.opening in
     let same = c.items.ensures ∙ c.in_ok-machine.ensures.commands in
     let law : GuardedLaws o = record {
       same = c.judges_alone.ensures o opens;
@@ -44,16 +45,21 @@ returns-clause-session g c =
     } in
     let after : StandsAfter o (command_texts c.args.bytes.now c.args.deck.commands) c.debug.new.machine (map (λ b. (goal.PortDevice-dyn g (b.vtable, b.value)).device_of b.value) c.debug.new.devices.items) =
     subst (λ (lines : List Line). StandsAfter o (command_texts c.args.bytes.now lines) c.debug.new.machine
-    (map (λ b. (goal.PortDevice-dyn g (b.vtable, b.value)).device_of b.value) c.debug.new.devices.items)) same (c.in_ok-text.ensures.stands o opens c.in_ok-machine.ensures.stands) in
+    (map (λ b. (goal.PortDevice-dyn g (b.vtable, b.value)).device_of b.value) c.debug.new.devices.items)) same (c.in_ok-text.ensures.stands o (record { opening = opens; stands = c.in_ok-machine.ensures.begins.stands })) in
     session_is (λ b. (goal.PortDevice-dyn g (b.vtable, b.value)).device_of b.value) (λ b. (goal.PortDevice-dyn g (b.vtable, b.value)).faults b.value)
-    c.args.bytes.now c.args.deck c.args.devices.now.items c.debug.new.devices.items c.debug.new.machine (c.in_ok-text.ensures.limit ∙ c.in_ok-machine.ensures.count)
+    c.args.bytes.now c.args.deck c.args.devices.now.items c.debug.new.devices.items c.debug.new.machine (c.in_ok-text.ensures.limit ∙ c.limit-limit.ensures ∙ c.in_ok-machine.ensures.begins.fresh.limit_is)
     (cause_before (λ b. (goal.PortDevice-dyn g (b.vtable, b.value)).device_of b.value) (λ b. (goal.PortDevice-dyn g (b.vtable, b.value)).faults b.value)
     c.args.devices.now.items c.make_ready.new.devices.items c.in_ok-machine.ensures.counts c.debug.new.machine.end c.debug.new.devices.items c.in_ok-text.ensures.cause)
-    law c.in_ok-text.ensures.mode after c.status_of.result c.from_vec.result c.status_of.ensures
-    (c.from_vec.ensures ∙ c.in_ok-text.ensures.text o opens c.in_ok-machine.ensures.stands
+    law c.in_ok-text.ensures.mode after c.end_status.result c.from_vec.result (c.end_status.ensures ∙ ap end_status c.outcome.ensures)
+    (c.from_vec.ensures ∙ c.in_ok-text.ensures.text o (record { opening = opens; stands = c.in_ok-machine.ensures.begins.stands })
     ∙ ap (λ (lines : List Line). session_text (subject_of o c.debug.new.machine) (command_texts c.args.bytes.now lines)) same)
 
 pub returns-clause-room : goal.returns-clause-room
 returns-clause-room g c = λ apart small.
     let few = c.in_ok-text.ensures.size (subst AreApart (sym (c.items.ensures ∙ c.in_ok-machine.ensures.commands)) apart) small in
     subst (λ (text : List ℕ). length text ≤ 536870912) (sym c.from_vec.ensures) few
+
+pub debug-requires-clause-fresh : goal.debug-requires-clause-fresh
+debug-requires-clause-fresh g c =
+    let fresh = c.in_ok-machine.ensures.begins.fresh in
+    record { mode_is = fresh.mode_is; pace_is = refl; limit_is = sym c.limit-limit.ensures; steps_are = fresh.steps_are; end = fresh.end }

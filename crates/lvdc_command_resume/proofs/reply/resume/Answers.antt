@@ -1,7 +1,6 @@
-use Rattle.std.proofs.Common.{ap, ◌∙◌}
+use Rattle.std.proofs.Common.{◌∙◌}
 use Rattle.std.proofs.lemmas.Result.{IfOk-weaker}
 use Rattle.lvdc_model.specs.Runs.{guarded}
-use Rattle.lvdc_command_run.specs.Accounts.{end_status}
 use Rattle.lvdc_command_resume.specs.Runs.{steps_left}
 use Rattle.lvdc_reply.proofs.Statuses.{on_err, if_ok_both}
 use Rattle.lvdc_command_resume.proofs.Resumed.{run-resumed, run-stands, run-unreported, failed-resumed, refused-unreported}
@@ -12,22 +11,22 @@ pub returns-in-Ok-clause-run : goal.returns-in-Ok-clause-run
 returns-in-Ok-clause-run g c =
     if_ok_both c.report.result _ _ _
     (λ reply status text.
-    run-resumed _ _ c.args.saved c.args.devices.now.items c.run_saved.new.devices.items c.in-Ok.finished.machine c.in-Ok.ensures.run
-    (c.resumed_goes_on.ensures.meant c.args.saved.snapshot _) reply.status reply.text (status ∙ ap end_status c.in-Ok.ensures.end)
-    (text _ _ _ _ (run-stands _ _ c.args.saved c.args.devices.now.items c.run_saved.new.devices.items c.in-Ok.finished.machine c.in-Ok.ensures.run
+    run-resumed _ _ c.args.saved c.args.devices.now.items c.run_saved.new.devices.items c.in-Ok.machine c.in-Ok.ensures.run
+    (c.resumed_goes_on.ensures.meant c.args.saved.snapshot _) reply.status reply.text status
+    (text _ _ _ _ (run-stands _ _ c.args.saved c.args.devices.now.items c.run_saved.new.devices.items c.in-Ok.machine c.in-Ok.ensures.run
     (c.resumed_goes_on.ensures.meant c.args.saved.snapshot _))))
     c.report.ensures.status c.report.ensures.text
 
 pub returns-in-Ok-clause-unreported : goal.returns-in-Ok-clause-unreported
 returns-in-Ok-clause-unreported g c =
     on_err c.report.result
-    (run-unreported _ _ c.args.saved c.args.devices.now.items c.run_saved.new.devices.items c.in-Ok.finished.machine c.in-Ok.ensures.run
+    (run-unreported _ _ c.args.saved c.args.devices.now.items c.run_saved.new.devices.items c.in-Ok.machine c.in-Ok.ensures.run
     (c.resumed_goes_on.ensures.meant c.args.saved.snapshot _))
 
 pub returns-in-Ok-clause-short : goal.returns-in-Ok-clause-short
 returns-in-Ok-clause-short g c =
     IfOk-weaker c.report.result _ _
-    (λ reply short. short _ _ _ _ (run-stands _ _ c.args.saved c.args.devices.now.items c.run_saved.new.devices.items c.in-Ok.finished.machine c.in-Ok.ensures.run
+    (λ reply short. short _ _ _ _ (run-stands _ _ c.args.saved c.args.devices.now.items c.run_saved.new.devices.items c.in-Ok.machine c.in-Ok.ensures.run
     (c.resumed_goes_on.ensures.meant c.args.saved.snapshot _)) c.requires.runnable.whole.repairs.below)
     c.report.ensures.short
 
@@ -47,8 +46,8 @@ pub returns-in-Ok-clause-goes_on : goal.returns-in-Ok-clause-goes_on
 returns-in-Ok-clause-goes_on g c =
     if_ok_both c.report.result _ _ _
     (λ reply status text. λ o opens means unfailed.
-    onward _ _ c.args.saved c.args.devices.now.items c.run_saved.new.devices.items c.in-Ok.finished.machine c.in-Ok.ensures.run o
-    (c.judges_alone.ensures o opens) c.requires.runnable.steps means reply.status reply.text unfailed (status ∙ ap end_status c.in-Ok.ensures.end)
+    onward _ _ c.args.saved c.args.devices.now.items c.run_saved.new.devices.items c.in-Ok.machine c.in-Ok.ensures.run o
+    (c.judges_alone.ensures o opens) c.requires.runnable.steps means reply.status reply.text unfailed status
     (text o (guarded o c.args.saved.snapshot.steps) (steps_left c.args.saved) _
     (c.in-Ok.ensures.run.stands o (guarded o c.args.saved.snapshot.steps) means))
     ∙ c.guarded_is_answered.ensures o c.args.saved.count opens)

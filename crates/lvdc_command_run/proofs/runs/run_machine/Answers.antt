@@ -6,11 +6,12 @@ use Rattle.lvdc_command_run.proofs.runs.run_machine.Goals as goal
 
 pub returns-clause-run : goal.returns-clause-run
 returns-clause-run g c =
-    has_run _ _ c.args.deck c.args.devices.now.items c.make_ready.new.devices.items c.run-end.new.devices.items c.in_ok-machine.ensures.counts
-    c.args.mode c.run-end.new.self c.run-end.result _ c.in_ok-machine.ensures.count c.in_ok-machine.ensures.opening
-    (c.run-end.ensures.keeps.mode ∙ c.in_ok-machine.ensures.mode)
-    (c.run-end.ensures.stands _ 0 c.in_ok-machine.ensures.stands) c.run-end.ensures.answer
-    (c.run-end.ensures.cause (rw c.in_ok-machine.ensures.end refl))
+    let begins = c.in_ok-machine.ensures.begins in
+    let answers = c.run.ensures.answers in
+    has_run _ _ c.args.deck c.args.devices.now.items c.make_ready.new.devices.items c.run.new.devices.items c.in_ok-machine.ensures.counts
+    c.args.mode c.run.new.self c.run.result _ (c.limit-count.ensures ∙ begins.fresh.limit_is) begins.opening
+    (c.run.ensures.leaves.keeps.mode ∙ begins.fresh.mode_is)
+    (c.run.ensures.stands _ _ 0 begins.stands) answers.answer (answers.cause (rw begins.fresh.end refl))
 
 pub returns-in_err-machine-clause-unmade : goal.returns-in_err-machine-clause-unmade
 returns-in_err-machine-clause-unmade g c =

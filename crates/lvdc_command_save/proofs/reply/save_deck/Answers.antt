@@ -16,8 +16,8 @@ returns-in-None-clause-unwritten g c =
     on_err c.reply_saved.result (unwritten (λ b. (goal.PortDevice-dyn g (b.vtable, b.value)).device_of b.value) (λ b. (goal.PortDevice-dyn g (b.vtable, b.value)).faults b.value)
     c.args.times c.args.deck c.args.devices.now.items c.run_times.new.devices.items c.in_ok-machine.field-0.machine h (c.judges_alone.ensures _ h.run.opening))
 
-pub returns-in-Some-clause-unwritten : goal.returns-in-Some-clause-unwritten
-returns-in-Some-clause-unwritten g c =
+pub returns-clause-unwritten : goal.returns-clause-unwritten
+returns-clause-unwritten g c =
     let h = c.in_ok-machine.ensures.run in
     on_err c.report_end.result (unwritten (λ b. (goal.PortDevice-dyn g (b.vtable, b.value)).device_of b.value) (λ b. (goal.PortDevice-dyn g (b.vtable, b.value)).faults b.value)
     c.args.times c.args.deck c.args.devices.now.items c.run_times.new.devices.items c.in_ok-machine.field-0.machine h (c.judges_alone.ensures _ h.run.opening))
@@ -30,18 +30,19 @@ returns-in-None-clause-stop g c =
     (answer_with status reply.text (map (λ b. (goal.PortDevice-dyn g (b.vtable, b.value)).device_of b.value) c.run_times.new.devices.items))) (sym zero)
     (saved_from (λ b. (goal.PortDevice-dyn g (b.vtable, b.value)).device_of b.value) (λ b. (goal.PortDevice-dyn g (b.vtable, b.value)).faults b.value)
     c.args.times c.args.deck c.args.devices.now.items c.run_times.new.devices.items c.in_ok-machine.field-0.machine h (c.judges_alone.ensures _ h.run.opening)
-    c.deref.result.now c.in_ok-machine.field-0.count c.in_ok-kept.kept.unplugs c.in_ok-kept.kept.script c.in_ok-machine.field-0.orders
-    reply.text reply.text c.deref.ensures.value (sym c.ended.ensures ∙ c.in-None.is) c.in_ok-machine.ensures.count
-    c.in_ok-kept.ensures.unplugs c.in_ok-kept.ensures.script c.in_ok-machine.ensures.orders refl text))
+    c.deref.result.now _ _ _ c.in_ok-machine.field-0.orders
+    reply.text reply.text c.deref.ensures.value (sym c.ended.ensures ∙ c.in-None.is) c.in_ok-machine.ensures.limit
+    h.run.stands.shows.unplugs h.run.stands.shows.script c.in_ok-machine.ensures.orders refl text))
     c.reply_saved.ensures.status c.reply_saved.ensures.text
 
-pub returns-in-Some-clause-stop : goal.returns-in-Some-clause-stop
-returns-in-Some-clause-stop g c =
+pub returns-clause-stop : goal.returns-clause-stop
+returns-clause-stop g c =
     let h = c.in_ok-machine.ensures.run in
     if_ok_both c.report_end.result _ _ _ (λ reply status text.
     reported_due (λ b. (goal.PortDevice-dyn g (b.vtable, b.value)).device_of b.value) (λ b. (goal.PortDevice-dyn g (b.vtable, b.value)).faults b.value)
     c.args.times c.args.deck c.args.devices.now.items c.run_times.new.devices.items c.in_ok-machine.field-0.machine h (c.judges_alone.ensures _ h.run.opening)
-    c.in-Some.end (sym c.ended.ensures ∙ c.in-Some.is) reply.status reply.text status (text _ _ _ h.run.stands))
+    c.in-Some._end (sym c.ended.ensures ∙ c.in-Some.is) reply.status reply.text
+    (rw (sym c.ended.ensures ∙ c.in-Some.is) at status) (text _ _ _ _ h.run.stands))
     c.report_end.ensures.status c.report_end.ensures.text
 
 pub returns-in-None-clause-saved : goal.returns-in-None-clause-saved
@@ -50,16 +51,17 @@ returns-in-None-clause-saved g c =
     if_ok_both c.reply_saved.result _ _ _ (λ reply text taken zero.
     saved_run (λ b. (goal.PortDevice-dyn g (b.vtable, b.value)).device_of b.value) (λ b. (goal.PortDevice-dyn g (b.vtable, b.value)).faults b.value)
     c.args.times c.args.deck c.args.devices.now.items c.run_times.new.devices.items c.in_ok-machine.field-0.machine h (c.judges_alone.ensures _ h.run.opening)
-    c.deref.result.now c.in_ok-machine.field-0.count c.in_ok-kept.kept.unplugs c.in_ok-kept.kept.script c.in_ok-machine.field-0.orders
-    reply.text reply.text c.deref.ensures.value (sym c.ended.ensures ∙ c.in-None.is) c.in_ok-machine.ensures.count
-    c.in_ok-kept.ensures.unplugs c.in_ok-kept.ensures.script c.in_ok-machine.ensures.orders refl text taken)
+    c.deref.result.now _ _ _ c.in_ok-machine.field-0.orders
+    reply.text reply.text c.deref.ensures.value (sym c.ended.ensures ∙ c.in-None.is) c.in_ok-machine.ensures.limit
+    h.run.stands.shows.unplugs h.run.stands.shows.script c.in_ok-machine.ensures.orders refl text taken)
     c.reply_saved.ensures.text c.reply_saved.ensures.taken
 
-pub returns-in-Some-clause-saved : goal.returns-in-Some-clause-saved
-returns-in-Some-clause-saved g c =
+pub returns-clause-saved : goal.returns-clause-saved
+returns-clause-saved g c =
     let h = c.in_ok-machine.ensures.run in
     IfOk-weaker c.report_end.result _ _ (λ reply status zero.
     ended_run (λ b. (goal.PortDevice-dyn g (b.vtable, b.value)).device_of b.value) (λ b. (goal.PortDevice-dyn g (b.vtable, b.value)).faults b.value)
     c.args.times c.args.deck c.args.devices.now.items c.run_times.new.devices.items c.in_ok-machine.field-0.machine h (c.judges_alone.ensures _ h.run.opening)
-    c.in-Some.end (sym c.ended.ensures ∙ c.in-Some.is) reply.status status reply.text zero)
+    c.in-Some._end (sym c.ended.ensures ∙ c.in-Some.is) reply.status
+    (rw (sym c.ended.ensures ∙ c.in-Some.is) at status) reply.text zero)
     c.report_end.ensures.status

@@ -15,10 +15,10 @@ returns g c = record {
       let states = c.from_vec.ensures ∙ c.in_ok-states.ensures ∙ ap states_of shows.left in
       e ∙ ap saved_text (λ i. record {
         snapshot = snapshot i;
-        count = c.args.count;
+        count = c.limit.ensures i;
         states = states i;
-        unplugs = c.args.kept.unplugs;
-        script = c.args.kept.script;
+        unplugs = c.in_ok-unplugs.ensures i;
+        script = c.in_ok-script.ensures i;
         orders = c.args.orders;
       }))
       c.print_saved.ensures.text;
@@ -28,10 +28,10 @@ returns g c = record {
       let states = c.from_vec.ensures ∙ c.in_ok-states.ensures ∙ ap states_of shows.left in
       subst (λ (s : Saved). IsTaken s v) (λ i. record {
         snapshot = snapshot i;
-        count = c.args.count;
+        count = c.limit.ensures i;
         states = states i;
-        unplugs = c.args.kept.unplugs;
-        script = c.args.kept.script;
+        unplugs = c.in_ok-unplugs.ensures i;
+        script = c.in_ok-script.ensures i;
         orders = c.args.orders;
       })
       (record { whole = c.in_ok-snapshot.ensures.whole; state = c.in_ok-snapshot.ensures.means o v _ shows; printed = printed }))

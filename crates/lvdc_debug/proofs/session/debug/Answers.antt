@@ -2,11 +2,9 @@ use Rattle.std.proofs.Common.{◌≡◌, ℕ, ◌+◌, ◌<◌, ◌++◌, [], ta
 use Rattle.std.proofs.lemmas.List.{get_or-map, length-map, take_all}
 use Rattle.lvdc_text.specs.Lines.{part_of}
 use Rattle.lvdc_model.specs.Trial.{Trial}
-use Rattle.lvdc_laws_voted.specs.Ends.{IsOpening}
-use Rattle.lvdc_machine.specs.Stands.{Stands}
 use Rattle.lvdc_debug.specs.declared.course.Course.{Course}
 use Rattle.lvdc_debug.specs.Session.{at_start, after_line, entries}
-use Rattle.lvdc_debug.specs.Standing.{command_texts, subject_of, IsSubject, StandsAmid}
+use Rattle.lvdc_debug.specs.Standing.{command_texts, AtStart, subject_of, IsSubject, StandsAmid}
 use Rattle.lvdc_debug.proofs.Entries.{course_more, entries_more, entries_none}
 use Rattle.lvdc_debug.proofs.Going.{moves_then, moves_not, subject_before, on_err}
 use Rattle.lvdc_debug.proofs.Showing.{stands_after}
@@ -16,14 +14,13 @@ use Rattle.lvdc_debug.proofs.session.debug.Goals as goal
 pub loop-line-init : goal.loop-line-init
 loop-line-init g c = record {
   ready =
-      let start = c.requires.steps in
+      let start = c.requires.fresh.steps_are in
       rw c.new-course.ensures (record {
-        mode = c.requires.mode;
+        mode = c.requires.fresh.mode_is;
         limit_is = refl;
         few = omega arith;
         made = omega (arith, start);
-        distinct = c.requires.distinct;
-        room = c.requires.room;
+        fit = c.requires.fit;
       });
   moves =
       rw c.new-course.ensures (moves_not (λ b. (goal.PortDevice-dyn g (b.vtable, b.value)).device_of b.value) (λ b. (goal.PortDevice-dyn g (b.vtable, b.value)).faults b.value)
@@ -47,8 +44,7 @@ loop-line-preserved g c =
         limit_is = took.ready.limit_is ∙ before.ready.limit_is;
         few = rw before.ready.limit_is at took.ready.few;
         made = took.ready.made;
-        distinct = took.ready.distinct;
-        room = took.ready.room;
+        fit = took.ready.fit;
       };
       moves =
           moves_then (λ b. (goal.PortDevice-dyn g (b.vtable, b.value)).device_of b.value) (λ b. (goal.PortDevice-dyn g (b.vtable, b.value)).faults b.value)
@@ -79,10 +75,12 @@ returns-in_err-take_line-clause-amid g c =
     let within : c.loop-line.line-index < length c.args.commands.now = c.loop-line-test.true in
     let few : c.loop-line.line-index < length texts = omega (arith, within, length-map c.args.commands.now (part_of c.args.bytes.now)) in
     let text = c.part.ensures ∙ sym (get_or-map (part_of c.args.bytes.now) c.args.commands.now c.loop-line.line-index no_line [] within) in
-    let amid : (o : Trial) → IsOpening o.opening
-    → Stands o 0 c.args.machine.now (map (λ b. (goal.PortDevice-dyn g (b.vtable, b.value)).device_of b.value) c.args.devices.now.items)
+    let amid : (o : Trial)
+    → AtStart o c.args.machine.now (map (λ b. (goal.PortDevice-dyn g (b.vtable, b.value)).device_of b.value) c.args.devices.now.items)
     → StandsAmid o texts c.take_line.new.machine (map (λ b. (goal.PortDevice-dyn g (b.vtable, b.value)).device_of b.value) c.take_line.new.devices.items) =
-    λ o opens st.
+    λ o at.
+    let opens = at.opening in
+    let st = at.stands in
     let s = subject_of o c.take_line.new.machine in
     let is : IsSubject o c.take_line.new.machine c.take_line.new.self.asked s = record { trial = refl; limit = refl; state = λ k h. refl } in
     let stands = (before.moves.goes o st).stands in
@@ -99,7 +97,9 @@ returns-in_err-take_line-clause-amid g c =
     on_err _ amid
 
 pub returns-clause-text : goal.returns-clause-text
-returns-clause-text g c = λ o opens st.
+returns-clause-text g c = λ o at.
+    let opens = at.opening in
+    let st = at.stands in
     let before = c.loop-line.invariant in
     let texts = command_texts c.args.bytes.now c.args.commands.now in
     let all : take c.loop-line.line-index texts ≡ texts =
@@ -108,7 +108,9 @@ returns-clause-text g c = λ o opens st.
     before.text o s opens st (record { trial = refl; limit = refl; state = λ k h. refl }) ∙ ap (λ x. codes "LVDC DEBUG\n" ++ entries s at_start x) all
 
 pub returns-clause-stands : goal.returns-clause-stands
-returns-clause-stands g c = λ o opens st.
+returns-clause-stands g c = λ o at.
+    let opens = at.opening in
+    let st = at.stands in
     let before = c.loop-line.invariant in
     let texts = command_texts c.args.bytes.now c.args.commands.now in
     let all : take c.loop-line.line-index texts ≡ texts =
@@ -117,3 +119,9 @@ returns-clause-stands g c = λ o opens st.
     let course = before.course o s opens st (record { trial = refl; limit = refl; state = λ k h. refl }) ∙ ap (fold (after_line s) at_start) all in
     stands_after o texts c.loop-line.course.asked c.loop-line.machine _ (c.judges_alone.ensures o opens) before.ready.mode (ap (λ (x : Course). x.asked) course)
     (before.moves.goes o st).stands
+
+pub returns-clause-distinct : goal.returns-clause-distinct
+returns-clause-distinct g c = c.loop-line.invariant.ready.fit.distinct
+
+pub returns-in_err-take_line-clause-distinct : goal.returns-in_err-take_line-clause-distinct
+returns-in_err-take_line-clause-distinct g c = c.in_err-take_line.ensures.ready.fit.distinct

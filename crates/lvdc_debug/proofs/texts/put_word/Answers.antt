@@ -5,4 +5,4 @@ use Rattle.lvdc_debug.proofs.texts.put_word.Goals as goal
 
 pub returns-clause-line : goal.returns-clause-line
 returns-clause-line c = λ o t ds s.
-    c.in_ok-put_word_line.ensures.line ∙ ap (λ (x : Shown). c.args.out.now.items ++ word_shown c.args.at x) (c.shown.ensures.told o t ds s)
+    c.in_ok-put_word_line.ensures.line ∙ ap (λ (x : Shown). c.args.out.now.items ++ word_shown c.args.at x) (c.shown.ensures.told o _ t ds s)

@@ -1,24 +1,23 @@
 use Rattle.std.proofs.Common.{ℕ, ◌++◌, All, ap, ◌∙◌, subst, length, [], arith, length-append}
 use Rattle.lvdc_plain.specs.declared.records.Visible.{Visible}
 use Rattle.lvdc_model.specs.Known.{is_known}
-use Rattle.lvdc_model.specs.Voted.{voted_start}
 use Rattle.lvdc_machine.specs.Resumed.{state_from}
 use Rattle.lvdc_machine.specs.View.{answer_of_end, visible_of}
 use Rattle.lvdc_report.specs.Report.{title_line, end_text, registers_text, log_text, memory_text}
 use Rattle.lvdc_report.specs.Voted.{title_of, wrong_text, repairs_text}
 use Rattle.lvdc_report.proofs.Lines.{onward}
 use Rattle.lvdc_report.proofs.Behind.{state_from_behind}
-use Rattle.lvdc_report.proofs.Noted.{state_from_noted, start_below}
+use Rattle.lvdc_report.proofs.Noted.{state_from_noted}
 use Rattle.lvdc_report.proofs.NotedLines.{IsShortExchange, IsShortRepair, noted-short}
 use Rattle.lvdc_report.proofs.Shown.{voted_text_shown}
-use Rattle.lvdc_report.proofs.Sizes.{length-title_line, none-noted}
+use Rattle.lvdc_report.proofs.Sizes.{length-title_line}
 use Rattle.lvdc_report.proofs.voted.report_run.Goals as goal
 
-pub returns-clause-resumed : goal.returns-clause-resumed
-returns-clause-resumed c = λ o first n ds s.
+pub returns-clause-text : goal.returns-clause-text
+returns-clause-text c = λ o first n ds s.
     let m = c.args.machine.now in
     let v = state_from m.end m.mode o first n in
-    let title = title_line (title_of c.args.mode) in
+    let title = title_line (title_of m.mode) in
     let end = title ++ end_text (answer_of_end m.end) in
     let registers = end ++ registers_text (visible_of m) in
     let log = registers ++ log_text m.log in
@@ -31,21 +30,17 @@ returns-clause-resumed c = λ o first n ds s.
     (onward [] end (registers_text (visible_of m)) _ _
     (onward [] title (end_text (answer_of_end m.end)) _ _
     (c.in_ok-extend_from_slice.ensures.items ∙ ap (λ t. t ++ c.title_line.result.now) c.new-out.ensures.items
-    ∙ c.title_line.ensures ∙ ap title_line c.title_of.ensures)
-    (c.in_ok-put_end.ensures.text ∙ ap (λ e. c.extend_from_slice.new.self.items ++ end_text e) c.requires.end))
+    ∙ c.title_line.ensures ∙ ap title_line (c.title_of.ensures ∙ ap title_of c.mode.ensures))
+    (c.in_ok-put_end.ensures.text ∙ ap (λ e. c.extend_from_slice.new.self.items ++ end_text e) c.outcome.ensures))
     (c.in_ok-put_registers.ensures.text ∙ ap (λ r. c.put_end.new.out.items ++ registers_text r) c.visible.ensures.registers))
     (c.in_ok-put_log.ensures.log ∙ ap (λ l. c.put_registers.new.out.items ++ log_text l) c.log.ensures.log))
     (c.in_ok-put_shown_memory.ensures.lines o first n ds s))
     c.in_ok-put_wrong.ensures.lines)
     (c.in_ok-put_repairs.ensures.lines ∙ ap (λ r. c.put_wrong.new.out.items ++ repairs_text r) c.repairs.ensures.repairs)
-    ∙ voted_text_shown (title_of c.args.mode) o m ds v s.shows
+    ∙ voted_text_shown (title_of m.mode) o m ds v s.shows
 
--- the start of a trial is such a state
-pub returns-clause-text : goal.returns-clause-text
-returns-clause-text c = λ o t ds s. returns-clause-resumed c o (voted_start o) t ds s
-
-pub returns-clause-size_resumed : goal.returns-clause-size_resumed
-returns-clause-size_resumed c = λ o first n ds s below.
+pub returns-clause-size : goal.returns-clause-size
+returns-clause-size c = λ o first n ds s below.
     let m = c.args.machine.now in
     let v = state_from m.end m.mode o first n in
     let times = ap (λ (r : Visible). r.times) c.visible.ensures.registers in
@@ -72,8 +67,3 @@ returns-clause-size_resumed c = λ o first n ds s below.
       c.in_ok-put_wrong.ensures.short,
       ap length (c.in_ok-put_repairs.ensures.lines ∙ ap (λ r. c.put_wrong.new.out.items ++ repairs_text r) repairs),
     )
-
-pub returns-clause-size : goal.returns-clause-size
-returns-clause-size c = λ o t ds s.
-    let less = returns-clause-size_resumed c o (voted_start o) t ds s (start_below o) in
-    omega (arith, less, none-noted)

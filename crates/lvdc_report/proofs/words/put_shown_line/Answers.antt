@@ -13,7 +13,7 @@ returns-in_ok-put_known_line-in-Known-clause-line c = λ o first n ds s.
     let there : is_there m.banks c.args.at ≡ true = search rules in
     rw there (c.in_ok-put_known_line-in-Known.ensures.line
     ∙ ap (λ line. c.args.out.now.items ++ line)
-    (told_known (is_known o v c.args.at) c.args.at (word_at v.intended c.args.at) c.in-Known.word (sym c.in-Known.is ∙ c.shown.ensures.resumed o first n ds s)))
+    (told_known (is_known o v c.args.at) c.args.at (word_at v.intended c.args.at) c.in-Known.word (sym c.in-Known.is ∙ c.shown.ensures.told o first n ds s)))
 
 pub returns-in_ok-put_unknown_line-in-Unknown-clause-line : goal.returns-in_ok-put_unknown_line-in-Unknown-clause-line
 returns-in_ok-put_unknown_line-in-Unknown-clause-line c = λ o first n ds s.
@@ -22,4 +22,4 @@ returns-in_ok-put_unknown_line-in-Unknown-clause-line c = λ o first n ds s.
     let there : is_there m.banks c.args.at ≡ true = search rules in
     rw there (c.in_ok-put_unknown_line-in-Unknown.ensures.line
     ∙ ap (λ line. c.args.out.now.items ++ line)
-    (told_unknown (is_known o v c.args.at) c.args.at (word_at v.intended c.args.at) (sym c.in-Unknown.is ∙ c.shown.ensures.resumed o first n ds s)))
+    (told_unknown (is_known o v c.args.at) c.args.at (word_at v.intended c.args.at) (sym c.in-Unknown.is ∙ c.shown.ensures.told o first n ds s)))

@@ -1,22 +1,12 @@
 use Rattle.std.proofs.Common.{ℕ, sym, ap, subst, ◌∙◌, arith}
+use Rattle.std.specs.declared.option.Option.TheVariants.{Some}
 use Rattle.lvdc_port.specs.Devices.{HasSpare}
-use Rattle.lvdc_machine.specs.Room.{exchanges_left}
+use Rattle.lvdc_machine.specs.Room.{exchanges_to_come}
 use Rattle.lvdc_machine.specs.View.{View}
 use Rattle.lvdc_machine.proofs.Blame.{since-then, made-caused, made-unjudged, fails-has, fails-since}
 use Rattle.lvdc_machine.proofs.Frames.{keeps-then, keeps-begun, keeps-ended, made-most}
 use Rattle.lvdc_machine.proofs.Resuming.{is-prepared, wanted-wished, stands-judged, stands-made, stands-failed}
 use Rattle.lvdc_machine.proofs.machine.Machine.advance.Goals as goal
-
-pub exchange-requires-clause-right : goal.exchange-requires-clause-right
-exchange-requires-clause-right g c = c.verdict.ensures.right c.in-Admissible.is
-
-pub exchange-requires-clause-left : goal.exchange-requires-clause-left
-exchange-requires-clause-left g c = rw c.begin.ensures.new c.requires.left
-
-pub exchange-requires-clause-room : goal.exchange-requires-clause-room
-exchange-requires-clause-room g c =
-    subst (λ (n : ℕ). HasSpare (λ b. (goal.PortDevice-dyn g (b.vtable, b.value)).spare b.value) n c.unplug_due.new.devices.items)
-    (sym (ap (λ (m : View). exchanges_left m.pace m.steps m.limit) c.begin.ensures.new)) (c.unplug_due.ensures.spare _ c.requires.room)
 
 pub returns-in_default-clause-stands : goal.returns-in_default-clause-stands
 returns-in_default-clause-stands g c = λ o r t h.
@@ -42,59 +32,6 @@ returns-in-Err-clause-stands g c = λ o r t h.
     (c.verdict.ensures.verdict o _ _ p.shows wish) c.in-Admissible.is wish c.in-Err.ensures.named c.in-Err.ensures.fails.states
     (rw c.in-Err.ensures.unchanged at c.fail.ensures.new)
 
-pub returns-in_default-clause-keeps : goal.returns-in_default-clause-keeps
-returns-in_default-clause-keeps g c =
-    keeps-then (keeps-begun c.args.self.now c.begin.new.self c.begin.ensures.new) (keeps-ended c.begin.new.self c.stop.new.self _ c.stop.ensures.new)
-
-pub returns-in-Ok-clause-keeps : goal.returns-in-Ok-clause-keeps
-returns-in-Ok-clause-keeps g c = keeps-then (keeps-begun c.args.self.now c.begin.new.self c.begin.ensures.new) c.in-Ok.ensures.made.keeps
-
-pub returns-in-Err-clause-keeps : goal.returns-in-Err-clause-keeps
-returns-in-Err-clause-keeps g c =
-    keeps-then (keeps-begun c.args.self.now c.begin.new.self c.begin.ensures.new)
-    (keeps-ended c.begin.new.self c.fail.new.self _ (rw c.in-Err.ensures.unchanged at c.fail.ensures.new))
-
-pub returns-in_default-clause-steps : goal.returns-in_default-clause-steps
-returns-in_default-clause-steps g c =
-    let one = ap (λ (m : View). m.steps) c.begin.ensures.new in
-    let two = ap (λ (m : View). m.steps) c.stop.ensures.new in
-    omega (arith, one, two)
-
-pub returns-in-Ok-clause-steps : goal.returns-in-Ok-clause-steps
-returns-in-Ok-clause-steps g c =
-    let one = ap (λ (m : View). m.steps) c.begin.ensures.new in
-    let two = made-most c.exchange.new.self.end _ _ c.in-Ok.ensures.made.ends in
-    omega (arith, one, two)
-
-pub returns-in-Err-clause-steps : goal.returns-in-Err-clause-steps
-returns-in-Err-clause-steps g c =
-    let one = ap (λ (m : View). m.steps) c.begin.ensures.new in
-    let two = ap (λ (m : View). m.steps) (rw c.in-Err.ensures.unchanged at c.fail.ensures.new) in
-    omega (arith, one, two)
-
-pub returns-in_default-clause-room : goal.returns-in_default-clause-room
-returns-in_default-clause-room g c =
-    subst (λ (n : ℕ). HasSpare (λ b. (goal.PortDevice-dyn g (b.vtable, b.value)).spare b.value) n c.unplug_due.new.devices.items)
-    (sym (ap (λ (m : View). exchanges_left m.pace m.steps m.limit) c.stop.ensures.new ∙ ap (λ (m : View). exchanges_left m.pace m.steps m.limit) c.begin.ensures.new))
-    (c.unplug_due.ensures.spare _ c.requires.room)
-
-pub returns-in-Ok-clause-room : goal.returns-in-Ok-clause-room
-returns-in-Ok-clause-room g c = c.exchange.ensures.room
-
-pub returns-in-Err-clause-room : goal.returns-in-Err-clause-room
-returns-in-Err-clause-room g c =
-    subst (λ (n : ℕ). HasSpare (λ b. (goal.PortDevice-dyn g (b.vtable, b.value)).spare b.value) n c.exchange.new.devices.items)
-    (sym (ap (λ (m : View). exchanges_left m.pace m.steps m.limit) c.fail.ensures.new)) c.exchange.ensures.room
-
-pub returns-in_default-clause-left : goal.returns-in_default-clause-left
-returns-in_default-clause-left g c = c.unplug_due.ensures.since.left
-
-pub returns-in-Ok-clause-left : goal.returns-in-Ok-clause-left
-returns-in-Ok-clause-left g c = (since-then c.unplug_due.ensures.since c.in-Ok.ensures.since).left
-
-pub returns-in-Err-clause-left : goal.returns-in-Err-clause-left
-returns-in-Err-clause-left g c = λ port has. c.unplug_due.ensures.since.left port (fails-has c.in-Err.ensures.fails port has)
-
 pub returns-in_default-clause-cause : goal.returns-in_default-clause-cause
 returns-in_default-clause-cause g c = rw c.stop.ensures.new c.unplug_due.ensures.since.counts
 
@@ -115,3 +52,50 @@ returns-in-Ok-clause-through g c = λ mode verdict. made-unjudged c.exchange.new
 pub returns-in-Err-clause-through : goal.returns-in-Err-clause-through
 returns-in-Err-clause-through g c =
     λ mode verdict is. let failed = ap (λ (m : View). m.end) c.fail.ensures.new in absurd (cc (failed, is))
+
+pub exchange-requires-clause-may : goal.exchange-requires-clause-may
+exchange-requires-clause-may g c = record {
+  begun = c.begin.ensures.last ∙ ap Some (sym (ap (λ (m : View). m.steps) c.begin.ensures.new));
+  left = rw c.begin.ensures.new c.requires.left;
+  right = c.verdict.ensures.right c.in-Admissible.is;
+}
+
+pub exchange-requires-clause-fit : goal.exchange-requires-clause-fit
+exchange-requires-clause-fit g c = record {
+  distinct = c.unplug_due.ensures.distinct;
+  room = subst (λ (n : ℕ). HasSpare (λ b. (goal.PortDevice-dyn g (b.vtable, b.value)).spare b.value) n c.unplug_due.new.devices.items)
+      (sym (ap exchanges_to_come c.begin.ensures.new)) (c.unplug_due.ensures.spare _ c.requires.fit.room);
+}
+
+pub returns-in_default-clause-leaves : goal.returns-in_default-clause-leaves
+returns-in_default-clause-leaves g c = record {
+  keeps = keeps-then (keeps-begun c.args.self.now c.begin.new.self c.begin.ensures.new) (keeps-ended c.begin.new.self c.stop.new.self _ c.stop.ensures.new);
+  most = omega (arith, ap (λ (m : View). m.steps) c.begin.ensures.new, ap (λ (m : View). m.steps) c.stop.ensures.new);
+  left = c.unplug_due.ensures.since.left;
+  fit = record {
+    distinct = c.unplug_due.ensures.distinct;
+    room = subst (λ (n : ℕ). HasSpare (λ b. (goal.PortDevice-dyn g (b.vtable, b.value)).spare b.value) n c.unplug_due.new.devices.items)
+        (sym (ap exchanges_to_come c.stop.ensures.new ∙ ap exchanges_to_come c.begin.ensures.new)) (c.unplug_due.ensures.spare _ c.requires.fit.room);
+  };
+}
+
+pub returns-in-Ok-clause-leaves : goal.returns-in-Ok-clause-leaves
+returns-in-Ok-clause-leaves g c = record {
+  keeps = keeps-then (keeps-begun c.args.self.now c.begin.new.self c.begin.ensures.new) c.in-Ok.ensures.made.keeps;
+  most = omega (arith, ap (λ (m : View). m.steps) c.begin.ensures.new, made-most c.exchange.new.self.end _ _ c.in-Ok.ensures.made.ends);
+  left = (since-then c.unplug_due.ensures.since c.in-Ok.ensures.since).left;
+  fit = c.exchange.ensures.fit;
+}
+
+pub returns-in-Err-clause-leaves : goal.returns-in-Err-clause-leaves
+returns-in-Err-clause-leaves g c = record {
+  keeps = keeps-then (keeps-begun c.args.self.now c.begin.new.self c.begin.ensures.new)
+      (keeps-ended c.begin.new.self c.fail.new.self _ (rw c.in-Err.ensures.unchanged at c.fail.ensures.new));
+  most = omega (arith, ap (λ (m : View). m.steps) c.begin.ensures.new, ap (λ (m : View). m.steps) (rw c.in-Err.ensures.unchanged at c.fail.ensures.new));
+  left = λ port has. c.unplug_due.ensures.since.left port (fails-has c.in-Err.ensures.fails port has);
+  fit = record {
+    distinct = c.exchange.ensures.fit.distinct;
+    room = subst (λ (n : ℕ). HasSpare (λ b. (goal.PortDevice-dyn g (b.vtable, b.value)).spare b.value) n c.exchange.new.devices.items)
+        (sym (ap exchanges_to_come c.fail.ensures.new)) c.exchange.ensures.fit.room;
+  };
+}

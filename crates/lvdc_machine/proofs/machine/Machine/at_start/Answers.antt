@@ -7,7 +7,7 @@ pub invariant_of-result : goal.invariant_of-result
 invariant_of-result c = record {
   events = c.requires.events;
   fits = c.in_ok-active.ensures.fits;
-  within = nothing-within c.args.script _ c.in_ok-active.ensures.held;
+  within = nothing-within c.args.start.script _ c.in_ok-active.ensures.held;
   force = rw c.in_ok-active.ensures.last tt;
   wrong = rw c.in_ok-active.ensures.last tt;
   differed = c.new-logic.ensures.differed;
@@ -18,17 +18,19 @@ invariant_of-result c = record {
   repairs_room = let none = ap length c.in_ok-log.ensures.repairs in let had = c.in_ok-log.ensures.repairs_room in omega (arith, none, had, c.repairs.ensures);
   steps = omega arith;
   limit = c.requires.limit;
-  judges = λ e. judges-by c.args.mode (sym c.of-pace.ensures ∙ e);
-  timed = starts-in-time c.args.mode c.args.start _ c.new-logic.ensures.copies;
+  judges = λ e. judges-by c.args.start.mode (sym c.of-pace.ensures ∙ e);
+  timed = starts-in-time c.args.start.mode c.args.start.start _ c.new-logic.ensures.copies;
   bus = c.bus.ensures;
-  going = λ none. starts-going c.args.start _ c.new-logic.ensures.copies;
+  going = λ none. starts-going c.args.start.start _ c.new-logic.ensures.copies;
   logged = rw c.in_ok-log.ensures.log (no-log 0);
-  noted = rw c.in_ok-log.ensures.repairs (no-repairs c.args.banks 0);
+  noted = rw c.in_ok-log.ensures.repairs (no-repairs c.args.start.banks 0);
 }
 
-pub returns-clause-stands : goal.returns-clause-stands
-returns-clause-stands c devices =
-    stands-start _ _ _ (record {
+pub returns : goal.returns
+returns c = record {
+  begins = λ devices words. record {
+    opening = record { image = c.places_words.ensures; start = c.is_hop_constant.ensures; devices = words };
+    stands = stands-start _ _ _ (record {
       banks = refl;
       script = refl;
       unplugs = refl;
@@ -40,28 +42,7 @@ returns-clause-stands c devices =
       counts = c.new-logic.ensures.counts;
       steps = refl;
       end = refl;
-    }) c.in_ok-active.ensures.last refl refl
-
-pub returns-clause-banks : goal.returns-clause-banks
-returns-clause-banks c = refl
-
-pub returns-clause-script : goal.returns-clause-script
-returns-clause-script c = refl
-
-pub returns-clause-unplugs : goal.returns-clause-unplugs
-returns-clause-unplugs c = refl
-
-pub returns-clause-limit : goal.returns-clause-limit
-returns-clause-limit c = refl
-
-pub returns-clause-mode : goal.returns-clause-mode
-returns-clause-mode c = refl
-
-pub returns-clause-pace : goal.returns-clause-pace
-returns-clause-pace c = c.of-pace.ensures
-
-pub returns-clause-steps : goal.returns-clause-steps
-returns-clause-steps c = refl
-
-pub returns-clause-end : goal.returns-clause-end
-returns-clause-end c = refl
+    }) c.in_ok-active.ensures.last refl refl;
+    fresh = record { mode_is = refl; pace_is = c.of-pace.ensures; limit_is = refl; steps_are = refl; end = refl };
+  };
+}

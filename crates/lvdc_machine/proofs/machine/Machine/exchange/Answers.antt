@@ -1,8 +1,6 @@
 use Rattle.std.proofs.Common.{inl, inr}
-use Rattle.lvdc_port.proofs.Lists.{spare-less}
 use Rattle.lvdc_plain.proofs.Causes.{since-start}
-use Rattle.lvdc_machine.proofs.Frames.{made-least}
-use Rattle.lvdc_machine.proofs.Ports.{room-kept}
+use Rattle.lvdc_machine.proofs.Calls.{fit-made}
 use Rattle.lvdc_machine.proofs.machine.Machine.exchange.Goals as goal
 
 pub read-requires-clause-there : goal.read-requires-clause-there
@@ -33,21 +31,6 @@ returns-in-PortWrite-clause-shows g c = rw c.in-PortWrite.is c.write_port.ensure
 pub returns-in-PortWrite-clause-named : goal.returns-in-PortWrite-clause-named
 returns-in-PortWrite-clause-named g c = rw c.in-PortWrite.is c.write_port.ensures.named
 
-pub read_port-requires-clause-right : goal.read_port-requires-clause-right
-read_port-requires-clause-right g c = c.requires.right
-
-pub write_port-requires-clause-right : goal.write_port-requires-clause-right
-write_port-requires-clause-right g c = c.requires.right
-
-pub read-requires-clause-right : goal.read-requires-clause-right
-read-requires-clause-right g c = c.requires.right
-
-pub store-requires-clause-right : goal.store-requires-clause-right
-store-requires-clause-right g c = c.requires.right
-
-pub make-requires-clause-right : goal.make-requires-clause-right
-make-requires-clause-right g c = c.requires.right
-
 pub returns-in-PortRead-clause-made : goal.returns-in-PortRead-clause-made
 returns-in-PortRead-clause-made g c = c.read_port.ensures.made
 
@@ -59,12 +42,6 @@ returns-in-PortRead-clause-fails g c = c.read_port.ensures.fails
 
 pub returns-in-PortRead-clause-unchanged : goal.returns-in-PortRead-clause-unchanged
 returns-in-PortRead-clause-unchanged g c = c.read_port.ensures.unchanged
-
-pub returns-in-PortRead-clause-distinct : goal.returns-in-PortRead-clause-distinct
-returns-in-PortRead-clause-distinct g c = c.read_port.ensures.distinct
-
-pub returns-in-PortRead-clause-room : goal.returns-in-PortRead-clause-room
-returns-in-PortRead-clause-room g c = c.read_port.ensures.room
 
 pub returns-in-PortWrite-clause-made : goal.returns-in-PortWrite-clause-made
 returns-in-PortWrite-clause-made g c = c.write_port.ensures.made
@@ -78,22 +55,11 @@ returns-in-PortWrite-clause-fails g c = c.write_port.ensures.fails
 pub returns-in-PortWrite-clause-unchanged : goal.returns-in-PortWrite-clause-unchanged
 returns-in-PortWrite-clause-unchanged g c = c.write_port.ensures.unchanged
 
-pub returns-in-PortWrite-clause-distinct : goal.returns-in-PortWrite-clause-distinct
-returns-in-PortWrite-clause-distinct g c = c.write_port.ensures.distinct
-
-pub returns-in-PortWrite-clause-room : goal.returns-in-PortWrite-clause-room
-returns-in-PortWrite-clause-room g c = c.write_port.ensures.room
-
 pub returns-in-Nothing-clause-made : goal.returns-in-Nothing-clause-made
 returns-in-Nothing-clause-made g c = c.make.ensures.made
 
 pub returns-in-Nothing-clause-since : goal.returns-in-Nothing-clause-since
 returns-in-Nothing-clause-since g c = since-start
-
-pub returns-in-Nothing-clause-room : goal.returns-in-Nothing-clause-room
-returns-in-Nothing-clause-room g c =
-    spare-less (λ b. (goal.PortDevice-dyn g (b.vtable, b.value)).spare b.value) _ _ c.args.devices.now.items
-    (room-kept c.args.self.now c.make.new.self c.make.ensures.made.keeps (made-least c.make.new.self.end _ _ c.make.ensures.made.ends)) c.requires.room
 
 pub returns-in-Fetch-clause-made : goal.returns-in-Fetch-clause-made
 returns-in-Fetch-clause-made g c = c.read.ensures.made
@@ -101,18 +67,26 @@ returns-in-Fetch-clause-made g c = c.read.ensures.made
 pub returns-in-Fetch-clause-since : goal.returns-in-Fetch-clause-since
 returns-in-Fetch-clause-since g c = since-start
 
-pub returns-in-Fetch-clause-room : goal.returns-in-Fetch-clause-room
-returns-in-Fetch-clause-room g c =
-    spare-less (λ b. (goal.PortDevice-dyn g (b.vtable, b.value)).spare b.value) _ _ c.args.devices.now.items
-    (room-kept c.args.self.now c.read.new.self c.read.ensures.made.keeps (made-least c.read.new.self.end _ _ c.read.ensures.made.ends)) c.requires.room
-
 pub returns-in-Store-clause-made : goal.returns-in-Store-clause-made
 returns-in-Store-clause-made g c = c.store.ensures.made
 
 pub returns-in-Store-clause-since : goal.returns-in-Store-clause-since
 returns-in-Store-clause-since g c = since-start
 
-pub returns-in-Store-clause-room : goal.returns-in-Store-clause-room
-returns-in-Store-clause-room g c =
-    spare-less (λ b. (goal.PortDevice-dyn g (b.vtable, b.value)).spare b.value) _ _ c.args.devices.now.items
-    (room-kept c.args.self.now c.store.new.self c.store.ensures.made.keeps (made-least c.store.new.self.end _ _ c.store.ensures.made.ends)) c.requires.room
+pub returns-in-PortRead-clause-fit : goal.returns-in-PortRead-clause-fit
+returns-in-PortRead-clause-fit g c = c.read_port.ensures.fit
+
+pub returns-in-PortWrite-clause-fit : goal.returns-in-PortWrite-clause-fit
+returns-in-PortWrite-clause-fit g c = c.write_port.ensures.fit
+
+pub returns-in-Nothing-clause-fit : goal.returns-in-Nothing-clause-fit
+returns-in-Nothing-clause-fit g c =
+    fit-made (λ b. (goal.PortDevice-dyn g (b.vtable, b.value)).device_of b.value) (λ b. (goal.PortDevice-dyn g (b.vtable, b.value)).spare b.value) c.args.self.now c.make.new.self c.args.devices.now.items c.requires.fit c.make.ensures.made
+
+pub returns-in-Fetch-clause-fit : goal.returns-in-Fetch-clause-fit
+returns-in-Fetch-clause-fit g c =
+    fit-made (λ b. (goal.PortDevice-dyn g (b.vtable, b.value)).device_of b.value) (λ b. (goal.PortDevice-dyn g (b.vtable, b.value)).spare b.value) c.args.self.now c.read.new.self c.args.devices.now.items c.requires.fit c.read.ensures.made
+
+pub returns-in-Store-clause-fit : goal.returns-in-Store-clause-fit
+returns-in-Store-clause-fit g c =
+    fit-made (λ b. (goal.PortDevice-dyn g (b.vtable, b.value)).device_of b.value) (λ b. (goal.PortDevice-dyn g (b.vtable, b.value)).spare b.value) c.args.self.now c.store.new.self c.args.devices.now.items c.requires.fit c.store.ensures.made

@@ -39,32 +39,30 @@ invariant_of-self c =
       noted = c.self.invariant.noted;
     }
 
-pub returns-clause-shows : goal.returns-clause-shows
-returns-clause-shows c = λ o v ds h.
-    let s = rw (← c.self.view_is) at h in
-    let stays = rw (← c.self.view_is) at c.requires in
-    record {
-      banks = s.banks;
-      script = s.script;
-      unplugs = s.unplugs;
-      copies = s.copies;
-      memory = rw (c.active.ensures.last, ← s.steps)
-          (stayed c.self.inside.script c.self.inside.steps o _ v.twins v.intended c.self.inside.active.last s.script stays.same c.stays.ensures s.memory);
-      left = s.left;
-      log = s.log;
-      repairs = s.repairs;
-      counts = s.counts;
-      steps = s.steps;
-      end = s.end;
-    }
-
 pub same_actives-requires : goal.same_actives-requires
 same_actives-requires c =
     let stays = rw (← c.self.view_is) at c.requires in
     same-at c.self.inside.script c.self.inside.steps c.self.inside.active.last stays.same
 
-pub returns-clause-new : goal.returns-clause-new
-returns-clause-new c = rw (← c.self.view_is) refl
-
-pub returns-clause-last : goal.returns-clause-last
-returns-clause-last c = rw (← c.self.view_is) c.active.ensures.last
+pub returns : goal.returns
+returns c = record {
+  shows = λ o v ds h.
+      let s = rw (← c.self.view_is) at h in
+      let stays = rw (← c.self.view_is) at c.requires in
+      record {
+        banks = s.banks;
+        script = s.script;
+        unplugs = s.unplugs;
+        copies = s.copies;
+        memory = rw (c.active.ensures.last, ← s.steps)
+            (stayed c.self.inside.script c.self.inside.steps o _ v.twins v.intended c.self.inside.active.last s.script stays.same c.stays.ensures s.memory);
+        left = s.left;
+        log = s.log;
+        repairs = s.repairs;
+        counts = s.counts;
+        steps = s.steps;
+        end = s.end;
+      };
+  new = rw (← c.self.view_is) refl;
+  last = rw (← c.self.view_is) c.active.ensures.last;
+}

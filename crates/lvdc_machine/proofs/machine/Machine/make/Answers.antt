@@ -10,9 +10,8 @@ step_under-requires c = record { differed = λ number copy. omega (arith, c.self
 
 pub invariant_of-self : goal.invariant_of-self
 invariant_of-self c =
-    let left = rw (← c.self.view_is) at c.requires.left in
-    let right = rw (← c.self.view_is) at c.requires.right in
-    let in_force = known_force c.self.inside.script c.self.inside.active.last c.self.inside.steps c.self.inside.force c.self.invariant.force (rw (← c.self.view_is) at c.requires.begun) in
+    let may = rw (← c.self.view_is) at c.requires.may in
+    let in_force = known_force c.self.inside.script c.self.inside.active.last c.self.inside.steps c.self.inside.force c.self.invariant.force may.begun in
     record {
       events = c.self.invariant.events;
       fits = c.self.invariant.fits;
@@ -21,36 +20,36 @@ invariant_of-self c =
       wrong = c.self.invariant.wrong;
       differed = c.step_under.ensures.differed c.self.inside.steps c.self.invariant.differed;
       banks = c.self.invariant.banks;
-      log = λ own. log-room c.self.inside.pace c.self.inside.steps c.self.inside.limit _ _ _ c.args.brought.line (c.self.invariant.log own) left
-          (rw (← c.self.view_is) at c.requires.line) c.log_line.ensures.length c.log_line.ensures.none;
-      log_room = let room = log-room c.self.inside.pace c.self.inside.steps c.self.inside.limit _ _ _ c.args.brought.line c.self.invariant.log_room left
-          (rw (← c.self.view_is) at c.requires.line) c.log_line.ensures.length c.log_line.ensures.none in
-          let grown = c.log_line.ensures.capacity in omega (arith, room, grown);
-      repairs = repair-room c.self.inside.pace c.self.inside.steps c.self.inside.limit _ _ _ c.args.brought.repair c.self.invariant.repairs left
-          (rw (← c.self.view_is) at c.requires.repair) c.note_repair.ensures.length c.note_repair.ensures.none;
-      repairs_room = let room = repair-room c.self.inside.pace c.self.inside.steps c.self.inside.limit _ _ _ c.args.brought.repair c.self.invariant.repairs_room left
-          (rw (← c.self.view_is) at c.requires.repair) c.note_repair.ensures.length c.note_repair.ensures.none in
-          let grown = c.note_repair.ensures.capacity in omega (arith, room, grown);
-      steps = omega (arith, left);
+      log = λ own. log-room c.self.inside.pace c.self.inside.steps c.self.inside.limit _ _ _ c.args.brought.line (c.self.invariant.log own) may.left
+          (rw (← c.self.view_is) at c.requires.line) c.note.ensures.length c.note.ensures.none;
+      log_room = let room = log-room c.self.inside.pace c.self.inside.steps c.self.inside.limit _ _ _ c.args.brought.line c.self.invariant.log_room may.left
+          (rw (← c.self.view_is) at c.requires.line) c.note.ensures.length c.note.ensures.none in
+          let grown = c.note.ensures.capacity in omega (arith, room, grown);
+      repairs = repair-room c.self.inside.pace c.self.inside.steps c.self.inside.limit _ _ _ c.args.brought.repair c.self.invariant.repairs may.left
+          (rw (← c.self.view_is) at c.requires.repair) c.note-2.ensures.length c.note-2.ensures.none;
+      repairs_room = let room = repair-room c.self.inside.pace c.self.inside.steps c.self.inside.limit _ _ _ c.args.brought.repair c.self.invariant.repairs_room may.left
+          (rw (← c.self.view_is) at c.requires.repair) c.note-2.ensures.length c.note-2.ensures.none in
+          let grown = c.note-2.ensures.capacity in omega (arith, room, grown);
+      steps = omega (arith, may.left);
       limit = c.self.invariant.limit;
       judges = c.self.invariant.judges;
       timed = rw (latched-from c.self.inside.script c.self.inside.steps _ _ _ c.args.brought (c.step_under.ensures.copies c.self.inside.script c.self.inside.steps c.self.invariant.events in_force) c.self.invariant.bus) (stays-in-time c.self.inside.mode c.self.inside.script c.self.inside.steps c.self.inside.logic.copies
-          c.args.brought.memory c.args.brought.port right c.self.invariant.timed);
+          c.args.brought.memory c.args.brought.port may.right c.self.invariant.timed);
       bus = c.bus-self-inside.ensures;
       going = λ none. rw c.bus-self-inside.ensures at (goes-on (c.bus-self-inside.result.exchange.stop % 4) c.self.inside.steps _ c.stop_of-self-inside.ensures none);
-      logged = rw c.log_line.ensures.items (log-noted c.self.inside.steps _ c.args.brought.line (rw (← c.self.view_is) at c.requires.dated) c.self.invariant.logged);
-      noted = rw c.note_repair.ensures.items (repairs-noted c.self.inside.banks c.self.inside.steps _ c.args.brought.repair (rw (← c.self.view_is) at c.requires.noted) c.self.invariant.noted);
+      logged = rw c.note.ensures.items (log-noted c.self.inside.steps _ c.args.brought.line (rw (← c.self.view_is) at c.requires.dated) c.self.invariant.logged);
+      noted = rw c.note-2.ensures.items (repairs-noted c.self.inside.banks c.self.inside.steps _ c.args.brought.repair (rw (← c.self.view_is) at c.requires.noted) c.self.invariant.noted);
     }
 
 pub returns-clause-shows : goal.returns-clause-shows
 returns-clause-shows c = λ o v ds h.
-    let in_force = known_force c.self.inside.script c.self.inside.active.last c.self.inside.steps c.self.inside.force c.self.invariant.force (rw (← c.self.view_is) at c.requires.begun) in
-    shows-made (rw (← c.self.view_is) at h) c.args.brought _ _ _ _ _ _ (latched-from c.self.inside.script c.self.inside.steps _ _ _ c.args.brought (c.step_under.ensures.copies c.self.inside.script c.self.inside.steps c.self.invariant.events in_force) c.self.invariant.bus) c.step_under.ensures.counts c.log_line.ensures.items
-    c.note_repair.ensures.items c.bus-self-inside.ensures c.stop_of-self-inside.ensures
+    let in_force = known_force c.self.inside.script c.self.inside.active.last c.self.inside.steps c.self.inside.force c.self.invariant.force (rw (← c.self.view_is) at c.requires.may).begun in
+    shows-made (rw (← c.self.view_is) at h) c.args.brought _ _ _ _ _ _ (latched-from c.self.inside.script c.self.inside.steps _ _ _ c.args.brought (c.step_under.ensures.copies c.self.inside.script c.self.inside.steps c.self.invariant.events in_force) c.self.invariant.bus) c.step_under.ensures.counts c.note.ensures.items
+    c.note-2.ensures.items c.bus-self-inside.ensures c.stop_of-self-inside.ensures
 
 pub returns-clause-made : goal.returns-clause-made
 returns-clause-made c = rw (← c.self.view_is) (record {
   keeps = record { banks = refl; script = refl; unplugs = refl; limit = refl; mode = refl; pace = refl };
-  begun = begun-made (c.bus-self-inside.result.exchange.stop % 4) c.self.inside.steps _ _ c.stop_of-self-inside.ensures (rw (← c.self.view_is) at c.requires.begun);
+  begun = begun-made (c.bus-self-inside.result.exchange.stop % 4) c.self.inside.steps _ _ c.stop_of-self-inside.ensures (rw (← c.self.view_is) at c.requires.may).begun;
   ends = ends-made (c.bus-self-inside.result.exchange.stop % 4) c.self.inside.steps _ c.stop_of-self-inside.ensures;
 })

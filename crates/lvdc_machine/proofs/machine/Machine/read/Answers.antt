@@ -7,8 +7,9 @@ use Rattle.lvdc_machine.proofs.Arms.{shows-read, shows-lost}
 use Rattle.lvdc_machine.proofs.Noting.{read-noted}
 use Rattle.lvdc_machine.proofs.machine.Machine.read.Goals as goal
 
-pub make-requires-clause-right : goal.make-requires-clause-right
-make-requires-clause-right c = rw (← c.self.view_is) at c.requires.right
+pub make-requires-clause-may : goal.make-requires-clause-may
+make-requires-clause-may c =
+    let may = rw (← c.self.view_is) at c.requires.may in record { begun = may.begun; left = may.left; right = may.right }
 
 pub make-requires-clause-noted : goal.make-requires-clause-noted
 make-requires-clause-noted c =
@@ -18,7 +19,7 @@ make-requires-clause-noted c =
 pub returns-in-Ok-clause-shows : goal.returns-in-Ok-clause-shows
 returns-in-Ok-clause-shows c = λ o v ds h.
     let s = rw (← c.self.view_is) at h in
-    let begun = (rw (← c.self.view_is) at c.requires.begun) ∙ ap Some s.steps in
+    let begun = (rw (← c.self.view_is) at c.requires.may).begun ∙ ap Some s.steps in
     let holds = rw begun at s.memory in
     shows-read v c.args.at c.read.result c.in-Ok.read c.self.inside.steps c.repair_of-repair.result (c.read.ensures.answer o v.steps v.twins v.intended holds)
     c.in-Ok.is s.steps c.repair_of-repair.ensures
@@ -39,7 +40,7 @@ returns-in-Ok-clause-shows c = λ o v ds h.
 pub returns-in-Err-clause-shows : goal.returns-in-Err-clause-shows
 returns-in-Err-clause-shows c = λ o v ds h.
     let s = rw (← c.self.view_is) at h in
-    let begun = (rw (← c.self.view_is) at c.requires.begun) ∙ ap Some s.steps in
+    let begun = (rw (← c.self.view_is) at c.requires.may).begun ∙ ap Some s.steps in
     let holds = rw begun at s.memory in
     shows-lost v c.args.at c.read.result _ (c.read.ensures.answer o v.steps v.twins v.intended holds) c.in-Err.is (record {
       banks = s.banks;

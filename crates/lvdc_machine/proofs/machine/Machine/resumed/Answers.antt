@@ -52,26 +52,5 @@ returns-clause-stands c devices = λ o v script unplugs banks means left. record
   ends = sym (after-none v.steps ∙ means.steps);
 }
 
-pub returns-clause-banks : goal.returns-clause-banks
-returns-clause-banks c = refl
-
-pub returns-clause-script : goal.returns-clause-script
-returns-clause-script c = refl
-
-pub returns-clause-unplugs : goal.returns-clause-unplugs
-returns-clause-unplugs c = refl
-
-pub returns-clause-limit : goal.returns-clause-limit
-returns-clause-limit c = refl
-
-pub returns-clause-mode : goal.returns-clause-mode
-returns-clause-mode c = refl
-
-pub returns-clause-pace : goal.returns-clause-pace
-returns-clause-pace c = refl
-
-pub returns-clause-made : goal.returns-clause-made
-returns-clause-made c = refl
-
-pub returns-clause-end : goal.returns-clause-end
-returns-clause-end c = refl
+pub returns-clause-fresh : goal.returns-clause-fresh
+returns-clause-fresh c = record { mode_is = refl; pace_is = refl; limit_is = refl; steps_are = refl; end = refl }

@@ -1,93 +1,80 @@
 use Rattle.std.proofs.Common.{◌+◌, ◌*◌, refl, sym, ◌∙◌, arith, add-zero, rules}
 use Rattle.lvdc_plain.proofs.Causes.{since-start, since-more}
 use Rattle.lvdc_machine.proofs.Blame.{caused-since}
+use Rattle.lvdc_machine.proofs.Calls.{answers-kept, answers-made, leaves-kept}
 use Rattle.lvdc_machine.proofs.Frames.{keeps-then}
-use Rattle.lvdc_model.specs.Voted.{voted_start}
 use Rattle.lvdc_machine.proofs.Resuming.{stands-kept, stands-early, stands-next, stands-at}
-use Rattle.lvdc_machine.proofs.Standing.{stands-times}
 use Rattle.lvdc_machine.proofs.machine.Machine.run.Goals as goal
-
-pub returns-in-Some-clause-resumes : goal.returns-in-Some-clause-resumes
-returns-in-Some-clause-resumes g c =
-    λ o r t h. stands-kept o r t (3 * c.args.times) _ _ c.in-Some.end (sym c.ended.ensures ∙ c.in-Some.is) h
 
 pub returns-in-Some-clause-stands : goal.returns-in-Some-clause-stands
 returns-in-Some-clause-stands g c =
-    λ o t h. returns-in-Some-clause-resumes g c o (voted_start o) t h
+    λ o r t h. stands-kept o r t (3 * c.args.times) _ _ c.in-Some.end (sym c.ended.ensures ∙ c.in-Some.is) h
 
-pub returns-in-Some-advance-clause-resumes : goal.returns-in-Some-advance-clause-resumes
-returns-in-Some-advance-clause-resumes g c =
-    λ o r t h. stands-early o r t c.loop-made._made (3 * c.args.times) _ _ _ c.in-Some-advance.ensures.answer c.loop-made-test.true (c.in-Some-advance.ensures.stands o r (t + c.loop-made._made) (c.loop-made.invariant.resumes o r t h))
+pub returns-in-Some-clause-answers : goal.returns-in-Some-clause-answers
+returns-in-Some-clause-answers g c =
+    answers-kept (λ b. (goal.PortDevice-dyn g (b.vtable, b.value)).device_of b.value) (λ b. (goal.PortDevice-dyn g (b.vtable, b.value)).faults b.value) c.args.self.now c.args.devices.now.items c.in-Some.end (sym c.ended.ensures ∙ c.in-Some.is)
+
+pub returns-in-Some-clause-leaves : goal.returns-in-Some-clause-leaves
+returns-in-Some-clause-leaves g c =
+    leaves-kept (λ b. (goal.PortDevice-dyn g (b.vtable, b.value)).device_of b.value) (λ b. (goal.PortDevice-dyn g (b.vtable, b.value)).spare b.value) (3 * c.args.times) c.args.self.now c.args.devices.now.items c.requires.fit
 
 pub returns-in-Some-advance-clause-stands : goal.returns-in-Some-advance-clause-stands
 returns-in-Some-advance-clause-stands g c =
-    λ o t h. returns-in-Some-advance-clause-resumes g c o (voted_start o) t h
+    λ o r t h. stands-early o r t c.loop-made._made (3 * c.args.times) _ _ _ c.in-Some-advance.ensures.answer c.loop-made-test.true (c.in-Some-advance.ensures.stands o r (t + c.loop-made._made) (c.loop-made.invariant.stands o r t h))
 
-pub returns-in-Some-advance-clause-left : goal.returns-in-Some-advance-clause-left
-returns-in-Some-advance-clause-left g c =
-    λ port has. c.loop-made.invariant.since.left port (c.in-Some-advance.ensures.left port has)
+pub returns-in-Some-advance-clause-answers : goal.returns-in-Some-advance-clause-answers
+returns-in-Some-advance-clause-answers g c =
+    answers-made (λ b. (goal.PortDevice-dyn g (b.vtable, b.value)).device_of b.value) (λ b. (goal.PortDevice-dyn g (b.vtable, b.value)).faults b.value) c.args.self.now c.advance.new.self c.args.devices.now.items c.advance.new.devices.items _
+    (search rules) (search rules)
+    (caused-since c.loop-made.invariant.since _ _ c.in-Some-advance.ensures.leaves.left c.in-Some-advance.ensures.cause)
+    (λ mode. c.in-Some-advance.ensures.through (c.loop-made.invariant.keeps.mode ∙ mode))
 
-pub returns-in-Some-advance-clause-cause : goal.returns-in-Some-advance-clause-cause
-returns-in-Some-advance-clause-cause g c =
-    λ none. caused-since c.loop-made.invariant.since _ _ c.in-Some-advance.ensures.left (rw (← c.in-Some-advance.ensures.answer) at c.in-Some-advance.ensures.cause)
-
-pub returns-in-Some-advance-clause-keeps : goal.returns-in-Some-advance-clause-keeps
-returns-in-Some-advance-clause-keeps g c = keeps-then c.loop-made.invariant.keeps c.in-Some-advance.ensures.keeps
+pub returns-in-Some-advance-clause-leaves : goal.returns-in-Some-advance-clause-leaves
+returns-in-Some-advance-clause-leaves g c =
+    let more = c.in-Some-advance.ensures.leaves in
+    record {
+      keeps = keeps-then c.loop-made.invariant.keeps more.keeps;
+      most = omega (arith, c.loop-made.invariant.steps, more.most, c.loop-made-test.true);
+      left = λ port has. c.loop-made.invariant.since.left port (more.left port has);
+      fit = more.fit;
+    }
 
 pub loop-made-preserved : goal.loop-made-preserved
-loop-made-preserved g c = record {
-  resumes = λ o r t h. stands-next o r t c.loop-made._made _ _ (c.in_default-advance.ensures.stands o r (t + c.loop-made._made) (c.loop-made.invariant.resumes o r t h));
-  running = sym c.in_default-advance.ensures.answer;
-  keeps = keeps-then c.loop-made.invariant.keeps c.in_default-advance.ensures.keeps;
-  steps = let before = c.loop-made.invariant.steps in let more = c.in_default-advance.ensures.steps in omega arith;
-  distinct = c.in_default-advance.ensures.distinct;
-  room = c.in_default-advance.ensures.room;
-  since = since-more c.loop-made.invariant.since _ c.in_default-advance.ensures.left (rw (← c.in_default-advance.ensures.answer) at c.in_default-advance.ensures.cause);
-}
-
-pub returns-clause-resumes : goal.returns-clause-resumes
-returns-clause-resumes g c =
-    λ o r t h. stands-at o r t c.loop-made._made (3 * c.args.times) _ _ (omega arith) (c.loop-made.invariant.resumes o r t h)
-
-pub returns-clause-stands : goal.returns-clause-stands
-returns-clause-stands g c =
-    λ o t h. returns-clause-resumes g c o (voted_start o) t h
+loop-made-preserved g c =
+    let more = c.in_default-advance.ensures.leaves in
+    record {
+      stands = λ o r t h. stands-next o r t c.loop-made._made _ _ (c.in_default-advance.ensures.stands o r (t + c.loop-made._made) (c.loop-made.invariant.stands o r t h));
+      running = sym c.in_default-advance.ensures.answer;
+      keeps = keeps-then c.loop-made.invariant.keeps more.keeps;
+      steps = omega (arith, c.loop-made.invariant.steps, more.most);
+      fit = more.fit;
+      since = since-more c.loop-made.invariant.since _ more.left (rw (← c.in_default-advance.ensures.answer) at c.in_default-advance.ensures.cause);
+    }
 
 pub loop-made-init : goal.loop-made-init
 loop-made-init g c = record {
-  resumes = λ o r t h. rw add-zero h;
+  stands = λ o r t h. rw add-zero h;
   running = search rules;
   keeps = record { banks = refl; script = refl; unplugs = refl; limit = refl; mode = refl; pace = refl };
   steps = omega arith;
-  distinct = c.requires.distinct;
-  room = c.requires.room;
+  fit = c.requires.fit;
   since = since-start;
 }
 
-pub returns-in-Some-clause-guarded : goal.returns-in-Some-clause-guarded
-returns-in-Some-clause-guarded g c = λ mode o t opens h.
-    c.guarded_follows.ensures o _ _ _ opens mode (returns-in-Some-clause-stands g c o t h)
+pub returns-clause-stands : goal.returns-clause-stands
+returns-clause-stands g c =
+    λ o r t h. stands-at o r t c.loop-made._made (3 * c.args.times) _ _ (omega arith) (c.loop-made.invariant.stands o r t h)
 
-pub returns-in-Some-advance-clause-guarded : goal.returns-in-Some-advance-clause-guarded
-returns-in-Some-advance-clause-guarded g c = λ mode o t opens h.
-    c.guarded_follows.ensures o _ _ _ opens (c.in-Some-advance.ensures.keeps.mode ∙ c.loop-made.invariant.keeps.mode ∙ mode)
-    (returns-in-Some-advance-clause-stands g c o t h)
+pub returns-clause-answers : goal.returns-clause-answers
+returns-clause-answers g c =
+    answers-made (λ b. (goal.PortDevice-dyn g (b.vtable, b.value)).device_of b.value) (λ b. (goal.PortDevice-dyn g (b.vtable, b.value)).faults b.value) c.args.self.now c.loop-made.self c.args.devices.now.items c.loop-made.devices.items _
+    (search rules) (search rules) (rw c.loop-made.invariant.running c.loop-made.invariant.since.counts)
+    (λ mode verdict is. let running = c.loop-made.invariant.running in absurd (cc (running, is)))
 
-pub returns-clause-guarded : goal.returns-clause-guarded
-returns-clause-guarded g c = λ mode o t opens h.
-    c.guarded_follows.ensures o _ _ _ opens (c.loop-made.invariant.keeps.mode ∙ mode) (returns-clause-stands g c o t h)
-
-pub returns-in-Some-clause-unhurt : goal.returns-in-Some-clause-unhurt
-returns-in-Some-clause-unhurt g c = λ mode empty o t opens h.
-    c.unhurt_follows.ensures o _ _ _ opens mode empty (stands-times o t c.args.times _ _ (returns-in-Some-clause-stands g c o (3 * t) h))
-
-pub returns-in-Some-advance-clause-unhurt : goal.returns-in-Some-advance-clause-unhurt
-returns-in-Some-advance-clause-unhurt g c = λ mode empty o t opens h.
-    c.unhurt_follows.ensures o _ _ _ opens (c.in-Some-advance.ensures.keeps.mode ∙ c.loop-made.invariant.keeps.mode ∙ mode)
-    (c.in-Some-advance.ensures.keeps.script ∙ c.loop-made.invariant.keeps.script ∙ empty)
-    (stands-times o t c.args.times _ _ (returns-in-Some-advance-clause-stands g c o (3 * t) h))
-
-pub returns-clause-unhurt : goal.returns-clause-unhurt
-returns-clause-unhurt g c = λ mode empty o t opens h.
-    c.unhurt_follows.ensures o _ _ _ opens (c.loop-made.invariant.keeps.mode ∙ mode) (c.loop-made.invariant.keeps.script ∙ empty)
-    (stands-times o t c.args.times _ _ (returns-clause-stands g c o (3 * t) h))
+pub returns-clause-leaves : goal.returns-clause-leaves
+returns-clause-leaves g c = record {
+  keeps = c.loop-made.invariant.keeps;
+  most = omega (arith, c.loop-made.invariant.steps, c.loop-made-test.false);
+  left = c.loop-made.invariant.since.left;
+  fit = c.loop-made.invariant.fit;
+}
