@@ -3,3 +3,5 @@ pub mod Room
 pub mod Transfer
 pub mod Numbers
 pub mod Lines
+pub mod Joined
+pub mod Headings
