@@ -12,7 +12,7 @@ use crate::kept::keep;
 use crate::runs::{Stopped, run_times};
 use crate::saving::reply_saved;
 use lvdc_command_run::{refuse, report_end};
-use lvdc_deck::{Deck, DeckFault, read_deck, run_line};
+use lvdc_deck::{Deck, DeckFault, read_deck};
 use lvdc_machine::Mode;
 use lvdc_port::PortDevice;
 use lvdc_reply::Reply;
@@ -64,7 +64,7 @@ fn read_deck_for(
     match read_deck(alloc, bytes, devices, false) {
         Ok(deck) => {
             if deck.count < times {
-                return Err(DeckFault::CountTooLarge(run_line(alloc, bytes)?));
+                return Err(DeckFault::CountTooLarge(deck.run_line));
             }
             Ok(deck)
         }
