@@ -1,4 +1,5 @@
 pub mod Causes
+pub mod Streams
 pub mod Room
 pub mod Transfer
 pub mod Numbers
