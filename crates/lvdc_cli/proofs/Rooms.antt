@@ -1,8 +1,7 @@
 -- The room that texts may take: a report's at least, a session's at most.
-use Rattle.std.proofs.Common.{ℕ, ◌≤◌, arith}
+use Rattle.std.proofs.Common.{◌≤◌, arith}
 use Rattle.std.specs.declared.option.Option.{Option}
 use Rattle.std.specs.declared.option.Option.TheVariants.{None, Some}
-use Rattle.lvdc_text.specs.Room.{HasRoom}
 use Rattle.lvdc_cli.specs.declared.TheConstants.{ROOM, SESSION_ROOM}
 use Rattle.lvdc_cli.specs.declared.command.Command.{Command}
 use Rattle.lvdc_cli.specs.declared.command.Command.TheVariants.{Run, Soak, Assemble, Debug, Save, Resume, Campaign, Uplink, Expand}
@@ -33,8 +32,3 @@ room_of-most (Expand form) = omega arith
 pub room_for-most : (command : Option Command) → room_for command ≤ SESSION_ROOM
 room_for-most None = omega arith
 room_for-most (Some command) = room_of-most command
-
--- room for more is room for less
-pub room_less : (room : Option ℕ) (most n : ℕ) → HasRoom room most → n ≤ most → HasRoom room n
-room_less None most n has less = tt
-room_less (Some room) most n has less = omega arith

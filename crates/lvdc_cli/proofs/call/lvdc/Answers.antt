@@ -1,8 +1,8 @@
 use Rattle.std.proofs.Common.{refl, inl, inr, ap, length, arith}
+use Rattle.lvdc_text.proofs.Transfers.{room_less}
 use Rattle.lvdc_command_run.specs.Runs.{Judges, Stops, IsStop}
 use Rattle.lvdc_command_resume.specs.Statuses.{IsInadmissible}
 use Rattle.lvdc_cli.proofs.Ends.{ended, end_usage, end_usage_only, end_read, end_read_fault, end_read_grew, end_cut, end_write_grew, end_memory, end_quiet, end_too_long, end_took_more, end_kept, end_answer, end_replied, end_headline, end_has, end_is, end_failed}
-use Rattle.lvdc_cli.proofs.Rooms.{room_less}
 use Rattle.lvdc_cli.proofs.call.lvdc.Goals as goal
 
 pub tell-requires : goal.tell-requires
