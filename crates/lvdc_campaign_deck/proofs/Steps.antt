@@ -10,8 +10,7 @@ use Rattle.std.proofs.lemmas.Bool.{and_parts}
 use Rattle.std.proofs.lemmas.Bool.Decides.{nat_tests}
 use Rattle.lvdc_port.specs.Device.{Device}
 use Rattle.lvdc_source.specs.Names.{is_capital, is_of_name, is_name}
-use Rattle.lvdc_deck.specs.Deck.{deck_of}
-use Rattle.lvdc_deck.specs.Sought.{after_program}
+use Rattle.lvdc_deck.specs.Deck.{after_program, deck_of}
 use Rattle.lvdc_deck.specs.declared.deck.Deck.{Deck}
 use Rattle.lvdc_deck.specs.declared.fault.DeckFault.{DeckFault}
 use Rattle.lvdc_fault.specs.declared.event.Event.{Event}
@@ -120,11 +119,9 @@ module _ (bytes : List ℕ) (s : Scripts) (lines : List Line) (i : ℕ) (total :
 
 -- ---- the deck before CAMPAIGN
 
-pub program-bad : (text : List ℕ) (devices : List Device) (deck : Deck) (lines all : List Line) (fault : CampaignFault) → deck_of text devices false ≡ Ok deck
-    → lines ≡ after_program text all → all ≡ lines_of text → checked text lines deck ≡ Err fault → program_of text devices ≡ Err fault
-program-bad text devices deck lines all fault d l a e =
-    ap (λ (r : Result Deck DeckFault). and_then (by_deck r) (checked text (after_program text (lines_of text)))) d
-    ∙ ap (λ (ls : List Line). checked text ls deck) (sym (l ∙ ap (after_program text) a)) ∙ e
+pub program-bad : (text : List ℕ) (devices : List Device) (deck : Deck) (fault : CampaignFault) → deck_of text devices false ≡ Ok deck
+    → checked deck ≡ Err fault → program_of text devices ≡ Err fault
+program-bad text devices deck fault d e = ap (λ (r : Result Deck DeckFault). and_then (by_deck r) checked) d ∙ e
 
 -- ---- the whole
 

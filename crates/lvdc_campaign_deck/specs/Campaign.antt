@@ -1,17 +1,15 @@
 -- The campaign that bytes mean, or its first refusal.
-use Rattle.std.specs.Prelude.{ℕ, ◌+◌, nat_lt, Bool, false, not, ◌&&◌, List, [], ◌∷◌, take, length, codes, if◌then◌else◌, unwrap_or, Result, Ok, Err}
+use Rattle.std.specs.Prelude.{ℕ, ◌+◌, nat_lt, Bool, false, not, ◌&&◌, List, [], ◌∷◌, take, length, codes, if◌then◌else◌, Result, Ok, Err}
 use Rattle.std.specs.declared.option.Option.{Option}
 use Rattle.std.specs.declared.option.Option.TheVariants.{None, Some}
-use Rattle.lvdc_text.specs.Lines.{lines_of, part_of, word_texts_of, is_long}
+use Rattle.lvdc_text.specs.Headings.{is_alone}
+use Rattle.lvdc_text.specs.Lines.{lines_of, part_of, is_long}
 use Rattle.lvdc_text.specs.declared.cutting.Line.{Line}
 use Rattle.lvdc_port.specs.Device.{Device}
 use Rattle.lvdc_fault.specs.declared.named.Named.{Named}
-use Rattle.lvdc_deck.specs.Deck.{deck_of}
-use Rattle.lvdc_deck.specs.Sections.{is_word}
-use Rattle.lvdc_deck.specs.Sought.{after_program, first_line}
+use Rattle.lvdc_deck.specs.Deck.{after_program, deck_of}
 use Rattle.lvdc_deck.specs.declared.deck.Deck.{Deck}
 use Rattle.lvdc_deck.specs.declared.fault.DeckFault.{DeckFault}
-use Rattle.lvdc_deck.specs.declared.sought.Sought.TheVariants.{Other, Run}
 use Rattle.lvdc_campaign_deck.specs.declared.TheConstants.{MOST_TIMES}
 use Rattle.lvdc_campaign_deck.specs.declared.deck.CampaignDeck.{CampaignDeck}
 use Rattle.lvdc_campaign_deck.specs.declared.fault.CampaignFault.{CampaignFault}
@@ -22,7 +20,7 @@ use Rattle.lvdc_campaign_deck.specs.Scripts.{and_then, nothing_said, scripts_fro
 
 -- CAMPAIGN, on a line that isn't too long
 abbrev pub is_campaign : List ℕ → Bool
-is_campaign text = not (is_long text) && is_word (codes "CAMPAIGN") (word_texts_of text)
+is_campaign text = not (is_long text) && is_alone (codes "CAMPAIGN") text
 
 -- from the first line CAMPAIGN on; no line where it's missing
 unfoldable pub from_campaign : List ℕ → List Line → List Line
@@ -42,17 +40,16 @@ by_others deck None = Ok deck
 by_others deck (Some number) = Err (BadSection number)
 
 -- RUN's count isn't above the greatest of a campaign
-abbrev pub by_count : Deck → ℕ → Result Deck CampaignFault
-by_count deck number = if nat_lt MOST_TIMES deck.count then Err (CountTooLarge number) else Ok deck
+abbrev pub by_count : Deck → Result Deck CampaignFault
+by_count deck = if nat_lt MOST_TIMES deck.count then Err (CountTooLarge deck.run_line) else Ok deck
 
--- these are the lines after the program
-abbrev pub checked : List ℕ → List Line → Deck → Result Deck CampaignFault
-checked text lines deck =
-    and_then (by_others deck (first_line Other text lines)) (λ deck. by_count deck (unwrap_or (first_line Run text lines) 0))
+-- both
+abbrev pub checked : Deck → Result Deck CampaignFault
+checked deck = and_then (by_others deck deck.other_line) by_count
 
 -- the deck that the text before CAMPAIGN means over these devices
 abbrev pub program_of : List ℕ → List Device → Result Deck CampaignFault
-program_of text devices = and_then (by_deck (deck_of text devices false)) (checked text (after_program text (lines_of text)))
+program_of text devices = and_then (by_deck (deck_of text devices false)) checked
 
 -- ---- the whole
 

@@ -4,8 +4,7 @@ ghost use Rattle.std.specs.Prelude.{◌≡◌, ◌<◌, ◌-◌, ◌^◌, length
 ghost use Rattle.lvdc_text.specs.Lines.{IsWithin};
 ghost use Rattle.lvdc_campaign_deck.specs.Campaign.{is_campaign, from_campaign};
 
-use lvdc_deck::is_alone;
-use lvdc_text::{Line, is_long, part};
+use lvdc_text::{Line, is_alone, is_long, part};
 
 /// Is it CAMPAIGN, on a line that isn't too long?
 fn is_campaign(text: &[u8]) -> bool

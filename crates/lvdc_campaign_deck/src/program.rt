@@ -1,31 +1,26 @@
-ghost use Rattle.std.specs.Prelude.{◌≡◌, ◌≢◌, ◌<◌, ◌≤◌, ◌-◌, ◌^◌, length, map, true, IfOk, IfErr, OnOk, All, Ok, Err};
+ghost use Rattle.std.specs.Prelude.{◌≡◌, ◌≢◌, ◌<◌, ◌≤◌, ◌-◌, ◌^◌, length, map, true, IfOk, IfErr, OnOk, Ok, Err};
 ghost use Rattle.lvdc_map.specs.Memory.{are_rising, AllThere};
-ghost use Rattle.lvdc_text.specs.Lines.{IsWithin};
 ghost use Rattle.lvdc_deck.specs.declared.fault.DeckFault.TheVariants.{NoMemory as DeckWantsMemory};
 ghost use Rattle.lvdc_campaign_deck.specs.declared.TheConstants.{MOST_TIMES};
 ghost use Rattle.lvdc_campaign_deck.specs.declared.fault.CampaignFault.TheVariants.{NoMemory as WantsMemory, Deck as InDeck};
 ghost use Rattle.lvdc_campaign_deck.specs.Campaign.{checked, program_of};
 
 use crate::{CampaignFault, MOST_TIMES};
-use lvdc_deck::{Deck, DeckFault, Sought, after_program, first_line, read_deck};
+use lvdc_deck::{Deck, DeckFault, read_deck};
 use lvdc_port::PortDevice;
-use lvdc_text::{Line, lines};
 use std::alloc::Global;
 
-/// Looks at the lines after the program for what a deck may say and a campaign may not.
-fn check(alloc: Global, text: &[u8], lines: &[Line], deck: &Deck) -> Result<(), CampaignFault>
-    requires size { length text.now < 2 ^ 32 - 1 }
-    requires within { All (IsWithin text.now) lines.now }
-    ensures ok { OnOk result (checked text.now lines.now deck.now ≡ Ok deck.now) }
-    ensures refusal { IfErr result (λ fault. fault ≢ WantsMemory → checked text.now lines.now deck.now ≡ Err fault) }
+/// Looks for what a deck may say and a campaign's may not.
+fn check(deck: &Deck) -> Result<(), CampaignFault>
+    ensures ok { OnOk result (checked deck.now ≡ Ok deck.now) }
+    ensures refusal { IfErr result (λ fault. checked deck.now ≡ Err fault) }
     ensures count { OnOk result (deck.now.count ≤ MOST_TIMES) }
 {
-    if let Some(number) = first_line(alloc, Sought::Other, text, lines)? {
+    if let Some(number) = deck.other_line {
         return Err(CampaignFault::BadSection(number));
     }
-    let run = first_line(alloc, Sought::Run, text, lines)?;
     if deck.count > MOST_TIMES {
-        return Err(CampaignFault::CountTooLarge(run.unwrap_or(0)));
+        return Err(CampaignFault::CountTooLarge(deck.run_line));
     }
     Ok(())
 }
@@ -58,8 +53,7 @@ pub(crate) fn read_program(
         Ok(deck) => deck,
         Err(fault) => return Err(in_deck(fault)),
     };
-    let found = lines(alloc, text)?;
-    match check(alloc, text, after_program(text, &found), &deck) {
+    match check(&deck) {
         Ok(()) => Ok(deck),
         Err(fault) => Err(fault),
     }

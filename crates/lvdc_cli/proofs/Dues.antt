@@ -3,6 +3,7 @@ use Rattle.std.proofs.Common.{◌≡◌, ◌≢◌, ℕ, ◌+◌, ◌<◌, true,
 use Rattle.std.specs.declared.option.Option.{Option}
 use Rattle.std.specs.Io.KnownBytes.{IsAtEnd}
 use Rattle.lvdc_text.specs.Causes.{Rose}
+use Rattle.lvdc_text.specs.Streams.{SourceState}
 use Rattle.lvdc_text.specs.Transfer.{TookCount, TookAtMost}
 use Rattle.lvdc_port.specs.Device.{Device}
 use Rattle.lvdc_reply.specs.Answer.{Answer}
@@ -11,7 +12,7 @@ use Rattle.lvdc_reply.proofs.Statuses.{kept_quiet}
 use Rattle.lvdc_cli.specs.declared.command.Command.{Command}
 use Rattle.lvdc_cli.specs.Words.{command_of, reads, limit_of, limit_for}
 use Rattle.lvdc_cli.specs.Commands.{command_answer, input_of, usage_answer, read_fault_answer, too_long_answer, memory_answer, IsReplyTo, IsLeftUnanswered, answer_by, answer, HoldsFor}
-use Rattle.lvdc_cli.specs.Outside.{SourceState, Outside}
+use Rattle.lvdc_cli.specs.Outside.{Outside}
 use Rattle.lvdc_cli.specs.Top.{HasRead, IsInput, IsAbandoned, after_reading, IsDue, usage, read_fault, too_long, replied, wants_memory, IsRefusal}
 use Rattle.lvdc_cli.proofs.Answered.{reply_answer, reply_quiet, reply_kept, reply_not}
 use Rattle.lvdc_cli.proofs.Inputs.{took_over, took_both, within_limit, took_within, is_input, to_end, answer_small, answer_large}

@@ -1,9 +1,10 @@
 -- What the end of a call says of its status.
 use Rattle.std.proofs.Common.{◌≡◌, ◌≢◌, ℕ, ◌+◌, ◌<◌, ◌≤◌, true, List, length, map, None, Some, IsSome, refl, sym, subst, ◌∙◌, ap, inl, inr, ◌⊎◌, arith}
 use Rattle.std.specs.declared.option.Option.{Option}
-use Rattle.std.specs.Io.KnownBytes.{Appends, IsAtEnd, Keeps}
+use Rattle.std.specs.Io.KnownBytes.{Appends, IsAtEnd}
 use Rattle.lvdc_text.specs.Causes.{Rose}
-use Rattle.lvdc_text.specs.Transfer.{TookCount, TookAtMost}
+use Rattle.lvdc_text.specs.Streams.{SourceState, SinkState}
+use Rattle.lvdc_text.specs.Transfer.{TookCount}
 use Rattle.lvdc_port.specs.Device.{Device}
 use Rattle.lvdc_model.specs.Trial.{Trial}
 use Rattle.lvdc_model.specs.declared.outcome.Outcome.{Outcome}
@@ -16,8 +17,8 @@ use Rattle.lvdc_cli.specs.declared.command.Command.TheVariants.{Run}
 use Rattle.lvdc_cli.specs.Words.{command_of, reads, limit_for}
 use Rattle.lvdc_cli.specs.Texts.{usage_text, read_fault_text, too_long_text}
 use Rattle.lvdc_cli.specs.Commands.{FailsInCommand, input_of, RunsThat, Has, IsReplyTo, HoldsFor, answer}
-use Rattle.lvdc_cli.specs.Outside.{SourceState, SinkState, Outside, outside}
-use Rattle.lvdc_cli.specs.Top.{HasRead, IsInput, IsDue, IsTold, told, cut, IsEnd, IsReplied, CarriesHeadline, IsCut, IsAbandoned, HasFailed, IsUnhindered, IsOfReply, IsRefusal}
+use Rattle.lvdc_cli.specs.Outside.{Outside, outside}
+use Rattle.lvdc_cli.specs.Top.{HasRead, IsInput, IsDue, IsTold, told, cut, IsEnd, IsReplied, CarriesHeadline, IsCut, HasFailed, IsUnhindered, IsOfReply, IsRefusal, IsWanting}
 use Rattle.lvdc_cli.proofs.Answered.{reply_failed}
 use Rattle.lvdc_cli.proofs.Commands.{StatusSays, RunSays, HeadlineTold, reply_headline, reply_runs}
 use Rattle.lvdc_cli.proofs.Inputs.{keeps_nothing, is_input, answer_is}
@@ -107,21 +108,18 @@ module _ {B : Type 0} {device_of : B → Device} {faults : B → ℕ} {words : L
   pub end_write_grew : before.sink.faults < after.sink.faults → IsEnd device_of faults words before after result → result ≡ 8
   end_write_grew g e = told_grew g e.told
 
-  pub end_memory : result ≡ 9 → IsEnd device_of faults words before after result
-      → Keeps before.sink.written after.sink.written × IsSome (command_of words) × (after.source.faults ≡ before.source.faults)
-      × TookAtMost before.source.left after.source.left (limit_for (command_of words))
+  pub end_memory : result ≡ 9 → IsEnd device_of faults words before after result → IsWanting device_of faults words before after
   end_memory is e =
       let w = whole (λ x. omega arith) e in
-      let d = due_9 e.due (sym w.status_is ∙ is) e.is_due in (
-        keeps_nothing before.sink.written after.sink.written
-            (subst (λ (a : Answer). Appends before.sink.written after.sink.written a.text) d.is w.written),
-        d.asked,
-        d.quiet,
-        d.took,
-      )
-
-  pub end_abandoned : result ≡ 9 → IsEnd device_of faults words before after result → IsAbandoned device_of faults words before after
-  end_abandoned is e = let w = whole (λ x. omega arith) e in let d = due_9 e.due (sym w.status_is ∙ is) e.is_due in d.abandoned
+      let d = due_9 e.due (sym w.status_is ∙ is) e.is_due in
+      record {
+        asked = d.asked;
+        silent = keeps_nothing before.sink.written after.sink.written
+            (subst (λ (a : Answer). Appends before.sink.written after.sink.written a.text) d.is w.written);
+        quiet = d.quiet;
+        took = d.took;
+        abandoned = d.abandoned;
+      }
 
   pub end_quiet : result ≢ 8 → result ≢ 9 → result ≢ 10 → IsEnd device_of faults words before after result → Quiet device_of faults before.devices after.devices
   end_quiet a b c e = let w = whole a e in due_quiet e.due (λ x. b (w.status_is ∙ x)) (λ x. c (w.status_is ∙ x)) e.is_due

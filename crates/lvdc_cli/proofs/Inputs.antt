@@ -4,6 +4,7 @@ use Rattle.std.proofs.lemmas.Bool.Decides.{nat_tests}
 use Rattle.std.proofs.lemmas.List.{append-nil}
 use Rattle.std.specs.declared.option.Option.{Option}
 use Rattle.std.specs.Io.KnownBytes.{Consumes, IsAtEnd, Appends, Keeps}
+use Rattle.lvdc_text.specs.Streams.{SourceState}
 use Rattle.lvdc_text.specs.Transfer.{TookCount, TookAtMost}
 use Rattle.lvdc_port.specs.Device.{Device}
 use Rattle.lvdc_model.specs.Trial.{Trial}
@@ -13,7 +14,6 @@ use Rattle.lvdc_command_run.specs.declared.job.Job.{Job}
 use Rattle.lvdc_cli.specs.declared.command.Command.{Command}
 use Rattle.lvdc_cli.specs.Words.{reads, reads_for, limit_of, limit_for}
 use Rattle.lvdc_cli.specs.Commands.{command_answer, input_of, too_long_answer, answer_by, Has}
-use Rattle.lvdc_cli.specs.Outside.{SourceState}
 use Rattle.lvdc_cli.specs.Top.{HasReadUpTo, HasRead}
 use Rattle.lvdc_cli.proofs.Commands.{RunSays, command_is}
 

@@ -1,10 +1,11 @@
 ghost use Rattle.std.specs.Prelude.{◌≡◌, ◌≢◌, ◌+◌, ◌≤◌, ℕ, List, true, false, Some, Err, length, map, IfOk, IsErrOf};
 ghost use Rattle.lvdc_text.specs.Causes.{Rose};
+ghost use Rattle.lvdc_text.specs.Streams.{SinkState};
 ghost use Rattle.lvdc_text.specs.Transfer.{TookCount, TookAtMost};
 ghost use Rattle.lvdc_port.specs.Devices.{AreDistinct};
 ghost use Rattle.lvdc_reply.specs.Answer.{answer_with};
 ghost use Rattle.lvdc_cli.specs.Words.{texts, command_of, reads, reads_for, limit_of};
-ghost use Rattle.lvdc_cli.specs.Outside.{SinkState, source_state, outside};
+ghost use Rattle.lvdc_cli.specs.Outside.{outside};
 ghost use Rattle.lvdc_cli.specs.Commands.{room_of, room_for};
 ghost use Rattle.lvdc_cli.specs.Telling.{due_status, due_text};
 ghost use Rattle.lvdc_cli.specs.Top.{HasRead, IsDue};
@@ -68,16 +69,15 @@ fn read_input<S: Source>(
     command: Command,
     source: &mut S,
 ) -> Result<Vec<u8>, ReadEnd>
-    ensures read { IfOk result (λ bytes. HasRead command (source_state (S.left source.old) (S.read_faults source.old))
-        (source_state (S.left source.new) (S.read_faults source.new)) bytes.items) }
+    ensures read { IfOk result (λ bytes. HasRead command (S.state source.old) (S.state source.new) bytes.items) }
     ensures within { IfOk result (λ bytes. length bytes.items ≤ limit_of command) }
     ensures unread { reads_for command ≡ false → source.new ≡ source.old }
-    ensures quiet { result ≢ Err ReadEnd.ReadFault → S.read_faults source.new ≡ S.read_faults source.old }
-    ensures read_fault { IsErrOf result ReadEnd.ReadFault → (reads_for command ≡ true) × Rose (S.read_faults source.old) (S.read_faults source.new)
-        × TookAtMost (S.left source.old) (S.left source.new) (limit_of command) }
+    ensures quiet { result ≢ Err ReadEnd.ReadFault → (S.state source.new).faults ≡ (S.state source.old).faults }
+    ensures read_fault { IsErrOf result ReadEnd.ReadFault → (reads_for command ≡ true) × Rose (S.state source.old).faults (S.state source.new).faults
+        × TookAtMost (S.state source.old).left (S.state source.new).left (limit_of command) }
     ensures too_long { IsErrOf result ReadEnd.TooLong → (reads_for command ≡ true)
-        × TookCount (S.left source.old) (S.left source.new) (limit_of command + 1) }
-    ensures no_memory { IsErrOf result ReadEnd.NoMemory → TookAtMost (S.left source.old) (S.left source.new) (limit_of command) }
+        × TookCount (S.state source.old).left (S.state source.new).left (limit_of command + 1) }
+    ensures no_memory { IsErrOf result ReadEnd.NoMemory → TookAtMost (S.state source.old).left (S.state source.new).left (limit_of command) }
 {
     if command.reads() {
         read_all(alloc, source, command.limit())
@@ -96,8 +96,8 @@ fn due_for<S: Source>(
     requires distinct { AreDistinct (map device_of devices.old.items) }
     ensures due { (words : List (List ℕ)) (before after : SinkState) → command_of words ≡ Some command
         → IsDue device_of faults words
-        (outside (source_state (S.left source.old) (S.read_faults source.old)) before devices.old.items)
-        (outside (source_state (S.left source.new) (S.read_faults source.new)) after devices.new.items)
+        (outside (S.state source.old) before devices.old.items)
+        (outside (S.state source.new) after devices.new.items)
         (answer_with (due_status result) (due_text result) (map device_of devices.new.items)) }
     ensures unread { reads_for command ≡ false → source.new ≡ source.old }
     ensures room { length (due_text result) ≤ room_of command }
@@ -122,8 +122,8 @@ pub(crate) fn due_of<S: Source>(
 ) -> Due
     requires distinct { AreDistinct (map device_of devices.old.items) }
     ensures due { (before after : SinkState) → IsDue device_of faults (texts words.now)
-        (outside (source_state (S.left source.old) (S.read_faults source.old)) before devices.old.items)
-        (outside (source_state (S.left source.new) (S.read_faults source.new)) after devices.new.items)
+        (outside (S.state source.old) before devices.old.items)
+        (outside (S.state source.new) after devices.new.items)
         (answer_with (due_status result) (due_text result) (map device_of devices.new.items)) }
     ensures unread { reads (command_of (texts words.now)) ≡ false → source.new ≡ source.old }
     ensures room { length (due_text result) ≤ room_for (command_of (texts words.now)) }

@@ -1,17 +1,10 @@
-ghost use Rattle.std.specs.Prelude.{◌≡◌, ◌≢◌, ◌≤◌, false, Ok, length, map, OnErr, IfOk};
+ghost use Rattle.std.specs.Prelude.{◌≤◌, length, map, OnErr, IfOk};
 ghost use Rattle.lvdc_port.specs.Devices.{AreDistinct};
-ghost use Rattle.lvdc_deck.specs.Deck.{deck_of};
-ghost use Rattle.lvdc_deck.specs.declared.deck.Deck.{Deck};
-ghost use Rattle.lvdc_reply.specs.Answer.{answer_with};
-ghost use Rattle.lvdc_reply.specs.Replies.{Quiet, IsRefused};
-ghost use Rattle.lvdc_command_run.specs.declared.job.Engine.TheVariants.{Guarded};
-ghost use Rattle.lvdc_command_run.specs.Trials.{trial_of};
-ghost use Rattle.lvdc_command_run.specs.Headline.{Headline};
 ghost use Rattle.lvdc_command_run.specs.Runs.{Judges, Stops, IsStop};
 ghost use Rattle.lvdc_command_resume.specs.Statuses.{IsInadmissible};
-ghost use Rattle.lvdc_cli.specs.declared.command.Command.TheVariants.{Run};
 ghost use Rattle.lvdc_cli.specs.Words.{limit_of};
-ghost use Rattle.lvdc_cli.specs.Commands.{command_answer, IsReplyTo, IsLeftUnanswered, RunsThat, room_of, HoldsFor};
+ghost use Rattle.lvdc_cli.specs.Commands.{IsLeftUnanswered, room_of};
+ghost use Rattle.lvdc_cli.specs.Replies.{IsReplyOf, IsAnswerOf, IsHeadlineOf, HoldsOf, ReplyHasCause, KeepsDevices};
 
 use crate::command::Command;
 use lvdc_command_asm::assemble_bytes;
@@ -37,12 +30,10 @@ fn join(
 ) -> Result<Reply, NoMemory>
     requires few { length bytes.now ≤ limit_of command }
     requires distinct { AreDistinct (map device_of devices.old.items) }
-    ensures reply { IfOk result (λ reply. IsReplyTo device_of faults command bytes.now devices.old.items devices.new.items
-        (answer_with reply.status reply.text (map device_of devices.new.items))) }
+    ensures reply { IfOk result (IsReplyOf device_of faults command bytes.now devices.old.items devices.new.items) }
     ensures unanswered { OnErr result (IsLeftUnanswered device_of faults command bytes.now devices.old.items devices.new.items) }
     ensures room { IfOk result (λ reply. length reply.text ≤ room_of command) }
-    ensures holds { IfOk result (λ reply. HoldsFor command bytes.now (map device_of devices.old.items)
-        (answer_with reply.status reply.text (map device_of devices.new.items))) }
+    ensures holds { IfOk result (HoldsOf device_of command bytes.now devices.old.items devices.new.items) }
 {
     match command {
         Command::Run(engine) => run_job(alloc, Job::Deck(engine), bytes, devices),
@@ -70,35 +61,25 @@ pub fn reply(
     requires distinct { AreDistinct (map device_of devices.old.items) }
 
     // Where no device fails status, text and devices are those of the definition.
-    ensures answer { IfOk result (λ reply. reply.status ≢ 10 → answer_with reply.status reply.text (map device_of devices.new.items)
-        ≡ command_answer command bytes.now (map device_of devices.old.items)) }
+    ensures answer { IfOk result (IsAnswerOf device_of command bytes.now devices.old.items devices.new.items) }
 
     // The headline: for a deck that `run` accepts, whatever the order of its copies, where no device fails. As long as the script
     // stays admissible ports, registers, recoverable words and devices are those of the fault-free instruction table; the first
     // inadmissible step is named after that same run so far. The status says which it was.
-    ensures headline { IfOk result (λ reply. reply.status ≢ 10 → (deck : Deck) → command ≡ Run Guarded
-        → deck_of bytes.now (map device_of devices.old.items) false ≡ Ok deck
-        → Headline (trial_of (map device_of devices.old.items) deck) deck.count
-        (answer_with reply.status reply.text (map device_of devices.new.items))) }
+    ensures headline { IfOk result (IsHeadlineOf device_of command bytes.now devices.old.items devices.new.items) }
 
     // 5: exactly where the command judges the script, and finds a step that isn't admissible.
-    ensures inadmissible { IfOk result (λ reply. reply.status ≡ 5 → RunsThat Judges IsInadmissible command bytes.now (map device_of devices.old.items)) }
-    ensures inadmissible_always { IfOk result (λ reply. reply.status ≢ 10
-        → RunsThat Judges IsInadmissible command bytes.now (map device_of devices.old.items) → reply.status ≡ 5) }
+    ensures inadmissible { IfOk result (ReplyHasCause Judges IsInadmissible 5 command bytes.now (map device_of devices.old.items)) }
 
     // 6: exactly where the command's run stops, which for a command that judges is one without such a step.
-    ensures stopped { IfOk result (λ reply. reply.status ≡ 6 → RunsThat Stops IsStop command bytes.now (map device_of devices.old.items)) }
-    ensures stopped_always { IfOk result (λ reply. reply.status ≢ 10
-        → RunsThat Stops IsStop command bytes.now (map device_of devices.old.items) → reply.status ≡ 6) }
+    ensures stopped { IfOk result (ReplyHasCause Stops IsStop 6 command bytes.now (map device_of devices.old.items)) }
 
     // A refusal leaves the devices: they are the same objects as before. No count grows but where a device fails.
-    ensures kept { IfOk result (λ reply. IsRefused reply.status → devices.new.items ≡ devices.old.items) }
-    ensures quiet { IfOk result (λ reply. reply.status ≢ 10 → Quiet device_of faults devices.old.items devices.new.items) }
+    ensures kept { IfOk result (KeepsDevices device_of faults devices.old.items devices.new.items) }
 
     // In every case: no other status comes; and 10 only where the count of the device that is named rose, in the exchange of the
     // step that is named, and that of no other that is left.
-    ensures reply { IfOk result (λ reply. IsReplyTo device_of faults command bytes.now devices.old.items devices.new.items
-        (answer_with reply.status reply.text (map device_of devices.new.items))) }
+    ensures reply { IfOk result (IsReplyOf device_of faults command bytes.now devices.old.items devices.new.items) }
 
     // Want of memory is free. The devices are as before, or tapes were supplied in part, or they are as after the run.
     ensures unanswered { OnErr result (IsLeftUnanswered device_of faults command bytes.now devices.old.items devices.new.items) }
@@ -106,8 +87,7 @@ pub fn reply(
 
     // Of a campaign each row whose script is admissible comes to the same. From what is saved the run can go on; and resumed, over
     // devices in their first states, it comes to what `run` comes to.
-    ensures holds { IfOk result (λ reply. HoldsFor command bytes.now (map device_of devices.old.items)
-        (answer_with reply.status reply.text (map device_of devices.new.items))) }
+    ensures holds { IfOk result (HoldsOf device_of command bytes.now devices.old.items devices.new.items) }
 {
     headline_told();
     statuses_caused();

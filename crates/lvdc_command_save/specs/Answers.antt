@@ -8,7 +8,6 @@ use Rattle.lvdc_model.specs.declared.outcome.Outcome.TheVariants.{Done}
 use Rattle.lvdc_model.specs.Runs.{guarded}
 use Rattle.lvdc_model.specs.Voted.{Voted}
 use Rattle.lvdc_deck.specs.Deck.{and_then, deck_of}
-use Rattle.lvdc_deck.specs.Sought.{line_of_run}
 use Rattle.lvdc_deck.specs.declared.deck.Deck.{Deck}
 use Rattle.lvdc_deck.specs.declared.fault.DeckFault.{DeckFault}
 use Rattle.lvdc_deck.specs.declared.fault.DeckFault.TheVariants.{CountTooLarge}
@@ -66,12 +65,12 @@ abbrev pub stop_answer : List device.Device → Deck → ℕ → Answer
 stop_answer devices deck n = answer_by_end (account (trial_of devices deck) n).end devices deck n
 
 -- the deck that asks for at least so many times; one that asks for fewer is refused at RUN's line
-abbrev pub deck_within : ℕ → List ℕ → Deck → Result Deck DeckFault
-deck_within n bytes deck = if nat_lt deck.count n then Err (CountTooLarge (line_of_run bytes)) else Ok deck
+abbrev pub deck_within : ℕ → Deck → Result Deck DeckFault
+deck_within n deck = if nat_lt deck.count n then Err (CountTooLarge deck.run_line) else Ok deck
 
 -- the deck that the bytes mean over these devices, which asks for at least so many times; or its first refusal
 abbrev pub deck_for : ℕ → List ℕ → List device.Device → Result Deck DeckFault
-deck_for n bytes devices = and_then (deck_of bytes devices false) (deck_within n bytes)
+deck_for n bytes devices = and_then (deck_of bytes devices false) (deck_within n)
 
 -- the answer to a deck, or to its refusal
 abbrev pub answer_by_deck : ℕ → List device.Device → Result Deck DeckFault → Answer

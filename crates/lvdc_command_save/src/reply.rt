@@ -11,7 +11,7 @@ ghost use Rattle.lvdc_command_save.specs.Replies.{IsStop, IsAnswered, IsSaveRepl
 use crate::runs::run_times;
 use crate::saving::reply_saved;
 use lvdc_command_run::{Ready, refuse, report_end};
-use lvdc_deck::{Deck, DeckFault, read_deck, run_line};
+use lvdc_deck::{Deck, DeckFault, read_deck};
 use lvdc_port::PortDevice;
 use lvdc_reply::Reply;
 use lvdc_save_print::LONGEST_SAVED;
@@ -61,7 +61,7 @@ fn read_deck_for(
     match read_deck(alloc, bytes, devices, false) {
         Ok(deck) => {
             if deck.count < times {
-                return Err(DeckFault::CountTooLarge(run_line(alloc, bytes)?));
+                return Err(DeckFault::CountTooLarge(deck.run_line));
             }
             Ok(deck)
         }

@@ -1,7 +1,7 @@
 -- The image and the messages that bytes hold, or their first refusal.
-use Rattle.std.specs.Prelude.{ℕ, ◌+◌, Bool, false, List, [], ◌∷◌, map, take, drop, length, position, codes, if◌then◌else◌, Option, None, Some, Result, Ok, Err}
-use Rattle.std.specs.Str.{bytes_eq}
-use Rattle.lvdc_text.specs.Lines.{lines_of, part_of, word_texts_of, numbered, is_long, is_comment}
+use Rattle.std.specs.Prelude.{ℕ, ◌+◌, List, [], ◌∷◌, map, take, drop, length, codes, if◌then◌else◌, Option, None, Some, Result, Ok, Err}
+use Rattle.lvdc_text.specs.Headings.{is_alone, place_of}
+use Rattle.lvdc_text.specs.Lines.{lines_of, part_of, numbered, is_long, is_comment}
 use Rattle.lvdc_text.specs.declared.cutting.Line.{Line}
 use Rattle.lvdc_image.specs.Image.{Contents}
 use Rattle.lvdc_image.specs.Reading.{image_of}
@@ -30,17 +30,12 @@ abbrev pub missing : Heading → ℕ → PatchFault
 missing headings.Image number = faults.NoProgram number
 missing headings.Uplink number = faults.BadSection number
 
--- the tokens are this word alone
-abbrev pub is_word : List ℕ → List (List ℕ) → Bool
-is_word word (token ∷ []) = bytes_eq token word
-is_word word _ = false
-
 -- what a line is where a heading is due
 abbrev pub kind_of : Heading → List ℕ → LineKind
 kind_of heading text =
     if is_long text then kinds.Long
     else (if is_comment text then kinds.Skipped
-    else (if is_word (word_of heading) (word_texts_of text) then kinds.Due else kinds.Other))
+    else (if is_alone (word_of heading) text then kinds.Due else kinds.Other))
 
 -- by what the first of these lines is, and by what the later ones come to
 abbrev pub by_kind : Heading → LineKind → Line → List Line → Result (List Line) PatchFault → Result (List Line) PatchFault
@@ -57,13 +52,9 @@ from_heading heading bytes next (line ∷ lines) =
 
 -- ---- the image
 
--- the line that ends the image: END without outer blanks
-abbrev pub is_end : List ℕ → Bool
-is_end text = is_word (codes "END") (word_texts_of text)
-
--- the place of the first such line
+-- the place of the line that ends the image: the first END without outer blanks
 abbrev pub end_of : List ℕ → List Line → Option ℕ
-end_of bytes lines = position (λ line. is_end (part_of bytes line)) lines
+end_of bytes lines = place_of (codes "END") bytes lines
 
 -- ---- the whole
 

@@ -1,9 +1,8 @@
-ghost use Rattle.std.specs.Prelude.{◌≡◌, ◌<◌, ◌-◌, ◌^◌, length, map, All};
-ghost use Rattle.lvdc_text.specs.Lines.{IsWithin, part_of, word_texts_of};
-ghost use Rattle.lvdc_command_uplink.specs.Input.{is_word, kind_of, is_end};
+ghost use Rattle.std.specs.Prelude.{◌≡◌, ◌<◌, ◌-◌, ◌^◌, length};
+ghost use Rattle.lvdc_command_uplink.specs.Input.{kind_of};
 
 use crate::PatchFault;
-use lvdc_text::{Line, few_tokens, is_comment, is_long, part};
+use lvdc_text::{is_alone, is_comment, is_long};
 
 /// The headings of the two parts.
 #[derive(Clone, Copy, Debug, PartialEq, Eq)]
@@ -48,28 +47,6 @@ impl Heading {
     }
 }
 
-/// Are the tokens this word alone?
-fn is_word(word: &[u8], text: &[u8], tokens: &[Line]) -> bool
-    requires { All (IsWithin text.now) tokens.now }
-    ensures { result ≡ is_word word.now (map (part_of text.now) tokens.now) }
-{
-    match tokens {
-        [token] => part(text, token) == word,
-        _ => false,
-    }
-}
-
-/// Is this word all that the text has but for blanks?
-fn is_alone(word: &[u8], text: &[u8]) -> bool
-    requires { length text.now < 2 ^ 32 - 1 }
-    ensures { result ≡ is_word word.now (word_texts_of text.now) }
-{
-    match few_tokens::<1>(text) {
-        Some(tokens) => is_word(word, text, tokens.as_slice()),
-        None => false,
-    }
-}
-
 /// What a line is where this heading is due.
 pub(crate) fn kind_of(heading: Heading, text: &[u8]) -> LineKind
     requires { length text.now < 2 ^ 32 - 1 }
@@ -84,12 +61,4 @@ pub(crate) fn kind_of(heading: Heading, text: &[u8]) -> LineKind
     } else {
         LineKind::Other
     }
-}
-
-/// Is the line the image's last?
-pub(crate) fn is_end(text: &[u8]) -> bool
-    requires { length text.now < 2 ^ 32 - 1 }
-    ensures { result ≡ is_end text.now }
-{
-    is_alone(b"END", text)
 }

@@ -3,8 +3,8 @@ ghost use Rattle.lvdc_text.specs.Lines.{IsWithin};
 ghost use Rattle.lvdc_command_uplink.specs.Input.{from_heading, end_of, by_end, parts_of};
 
 use crate::PatchFault;
-use crate::heading::{Heading, LineKind, is_end, kind_of};
-use lvdc_text::{Line, part};
+use crate::heading::{Heading, LineKind, kind_of};
+use lvdc_text::{Line, part, place_of};
 
 /// The lines from a heading on, which is to be the first that isn't skipped. `next` is one more than the last line.
 fn from_heading<'a>(
@@ -32,20 +32,6 @@ fn from_heading<'a>(
     Err(heading.missing(next))
 }
 
-/// The place of the image's last line among these.
-fn end_of(bytes: &[u8], lines: &[Line]) -> Option<usize>
-    requires size { length bytes.now < 2 ^ 32 - 1 }
-    requires within { All (IsWithin bytes.now) lines.now }
-    ensures { result ≡ end_of bytes.now lines.now }
-{
-    for (at, line) in lines.iter().enumerate() {
-        if is_end(part(bytes, line)) {
-            return Some(at);
-        }
-    }
-    None
-}
-
 /// The lines of the image, with its END, and those of the messages.
 #[derive(Clone, Copy)]
 pub(crate) struct Parts<'a> {
@@ -69,7 +55,7 @@ fn parts_after<'a>(
     ensures messages { IfOk result (λ parts. All (IsWithin bytes.now) parts.messages.now) }
     ensures few { IfOk result (λ parts. length parts.messages.now ≤ length lines.now) }
 {
-    let Some(at) = end_of(bytes, lines) else {
+    let Some(at) = place_of(b"END", bytes, lines) else {
         return Err(PatchFault::BadSection(number));
     };
     let (image, rest) = lines.split_at(at + 1);

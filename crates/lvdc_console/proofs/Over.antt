@@ -3,6 +3,7 @@ use Rattle.std.proofs.Common.{◌≡◌, ℕ, List, map, false, Ok, refl, sym, s
 use Rattle.std.proofs.lemmas.List.{map-id}
 use Rattle.std.specs.declared.option.Option.{Option}
 use Rattle.std.specs.Io.KnownBytes.{Appends}
+use Rattle.lvdc_text.specs.Streams.{SourceState, SinkState}
 use Rattle.lvdc_port.specs.Device.{Device}
 use Rattle.lvdc_deck.specs.Deck.{deck_of}
 use Rattle.lvdc_deck.specs.declared.deck.Deck.{Deck}
@@ -12,7 +13,7 @@ use Rattle.lvdc_command_run.specs.Headline.{Headline}
 use Rattle.lvdc_command_run.specs.Trials.{trial_of}
 use Rattle.lvdc_cli.specs.declared.command.Command.{Command}
 use Rattle.lvdc_cli.specs.Commands.{IsReplyTo, answer}
-use Rattle.lvdc_cli.specs.Outside.{SourceState, SinkState, Outside, outside}
+use Rattle.lvdc_cli.specs.Outside.{Outside, outside}
 use Rattle.lvdc_cli.specs.Top.{IsDue, usage, read_fault, too_long, replied, wants_memory, IsEnd, CarriesHeadline}
 use Rattle.lvdc_console.specs.Over.{IsReplyOver, answered as answered_over, failed as failed_over, IsDueOver, usage as usage_over, read_fault as read_fault_over, too_long as too_long_over, replied as replied_over, wants_memory as wants_memory_over, IsAnswerOver, CarriesHeadlineOver}
 

@@ -2,6 +2,7 @@
 use Rattle.std.specs.Prelude.{◌≡◌, ℕ, ◌+◌, true, List, [], IsSome}
 use Rattle.std.specs.declared.option.Option.TheVariants.{None, Some}
 use Rattle.lvdc_text.specs.Causes.{Rose}
+use Rattle.lvdc_text.specs.Streams.{SourceState, SinkState}
 use Rattle.lvdc_text.specs.Transfer.{TookCount, TookAtMost}
 use Rattle.lvdc_port.specs.Device.{Device}
 use Rattle.lvdc_reply.specs.Answer.{Answer}
@@ -9,7 +10,7 @@ use Rattle.lvdc_cli.specs.declared.command.Command.{Command}
 use Rattle.lvdc_cli.specs.Words.{command_of, reads, limit_for}
 use Rattle.lvdc_cli.specs.Texts.{usage_text, read_fault_text, too_long_text}
 use Rattle.lvdc_cli.specs.Commands.{command_answer, FailsInCommand, HoldsFor}
-use Rattle.lvdc_cli.specs.Outside.{SourceState, SinkState, outside}
+use Rattle.lvdc_cli.specs.Outside.{outside}
 use Rattle.lvdc_cli.specs.Top.{HasRead, IsTold, CarriesHeadline}
 
 -- A command's reply over these bytes and devices: the answer of the definition; or a device failed in an exchange, and the reply is

@@ -1,8 +1,6 @@
 pub mod Tokens
 pub mod Left
 pub mod TapeLines
-pub mod Ends
-pub mod FirstLines
 pub mod Steps
 pub mod Loaded
 pub mod Types

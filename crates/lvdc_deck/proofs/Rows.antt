@@ -5,7 +5,7 @@ use Rattle.lvdc_text.specs.Lines.{lines_from, words_from}
 use Rattle.lvdc_text.specs.Numbers.{word_in}
 use Rattle.lvdc_port.specs.Device.{Device}
 use Rattle.lvdc_port.specs.declared.device.Kind.TheVariants.{Tape, Latch}
-use Rattle.lvdc_image.specs.Image.{text_of}
+use Rattle.lvdc_text.specs.Joined.{text_of}
 use Rattle.lvdc_image.specs.Reading.{words_from as words_told, entry_in, banks_in, banks_named, image_of}
 use Rattle.lvdc_image.specs.declared.fault.ImageFault.TheVariants.{BadImageLine}
 use Rattle.lvdc_fault.specs.declared.event.Event.{Event}
@@ -72,7 +72,7 @@ unfolding after_image meaning devices lines_from words_from told_from deck_from
 no_run = refl
 
 the_greatest_count : after_image (codes "RUN 1000000" ∷ []) ≡
-    Ok (record { image = record { words = []; start = None; banks = 0 }; start = hop_of 0o16; banks = 0; supplies = []; unplugs = []; script = []; orders = []; count = 1000000; commands = [] })
+    Ok (record { image = record { words = []; start = None; banks = 0 }; start = hop_of 0o16; banks = 0; supplies = []; unplugs = []; script = []; orders = []; count = 1000000; commands = []; run_line = 4; other_line = None })
 unfolding after_image meaning devices lines_from words_from told_from deck_from words_told image_of
 the_greatest_count = refl
 
@@ -145,6 +145,8 @@ a_session : session (codes "IMAGE" ∷ codes "LVDC 1" ∷ codes "END" ∷ codes 
       orders = [];
       count = 3;
       commands = record { number = 8; start = 37; end = 42 } ∷ record { number = 9; start = 43; end = 49 } ∷ [];
+      run_line = 4;
+      other_line = Some 5;
     })
 unfolding session devices lines_from words_from commands_from told_from deck_from words_told image_of
 a_session = refl
@@ -260,12 +262,14 @@ whole : after_image (codes "START 000000216" ∷ codes "SIMPLEX 0 3" ∷ codes "
       orders = reverse plain_order ∷ [];
       count = 4;
       commands = [];
+      run_line = 14;
+      other_line = Some 6;
     })
 unfolding word_in after_image meaning devices lines_from words_from told_from deck_from words_told image_of module_copy_in span_in step_in
 whole = refl
 
 -- the start constant and the simplex pairs of the image
 from_the_image : meaning (codes "IMAGE" ∷ codes "LVDC 2" ∷ codes "START 000000216" ∷ codes "SIMPLEX 1" ∷ codes "END" ∷ codes "SIMPLEX 0" ∷ codes "RUN 4" ∷ []) ≡
-    Ok (record { image = record { words = []; start = Some (hop_of 0o216); banks = 2 }; start = hop_of 0o216; banks = 3; supplies = []; unplugs = []; script = []; orders = []; count = 4; commands = [] })
+    Ok (record { image = record { words = []; start = Some (hop_of 0o216); banks = 2 }; start = hop_of 0o216; banks = 3; supplies = []; unplugs = []; script = []; orders = []; count = 4; commands = []; run_line = 7; other_line = None })
 unfolding meaning devices lines_from words_from told_from deck_from words_told entry_in banks_in banks_named image_of
 from_the_image = refl

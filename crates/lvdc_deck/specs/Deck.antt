@@ -1,9 +1,10 @@
 -- The deck that bytes mean, or its first refusal.
-use Rattle.std.specs.Prelude.{ℕ, ◌+◌, Bool, true, false, not, ◌||◌, List, [], ◌∷◌, take, drop, length, position, codes, if◌then◌else◌, is_some, unwrap_or, Result, Ok, Err}
+use Rattle.std.specs.Prelude.{ℕ, ◌+◌, Bool, true, false, not, ◌||◌, List, [], ◌∷◌, take, drop, length, codes, if◌then◌else◌, is_some, unwrap_or, Result, Ok, Err}
 use Rattle.std.specs.declared.option.Option.{Option}
 use Rattle.std.specs.declared.option.Option.TheVariants.{None, Some}
 use Rattle.lvdc_map.specs.Banks.{union}
 use Rattle.lvdc_map.specs.Hop.{HopConstant, hop_of}
+use Rattle.lvdc_text.specs.Headings.{is_word, place_of}
 use Rattle.lvdc_text.specs.Lines.{lines_of, part_of, word_texts_of, numbered, is_long, is_comment}
 use Rattle.lvdc_text.specs.declared.cutting.Line.{Line}
 use Rattle.lvdc_port.specs.Device.{Device}
@@ -26,7 +27,7 @@ use Rattle.lvdc_deck.specs.declared.section.Opening.{Opening}
 use Rattle.lvdc_deck.specs.declared.section.Opening.TheVariants as opening
 use Rattle.lvdc_deck.specs.declared.section.ProgramKind.{ProgramKind}
 use Rattle.lvdc_deck.specs.declared.section.ProgramKind.TheVariants as kinds
-use Rattle.lvdc_deck.specs.Sections.{Sections, nothing_said, is_word, is_debug, after_line}
+use Rattle.lvdc_deck.specs.Sections.{Sections, nothing_said, is_debug, after_line}
 
 -- goes on with what was read, or stays refused
 abbrev pub and_then : {A B : Type 0} → Result A DeckFault → (A → Result B DeckFault) → Result B DeckFault
@@ -78,13 +79,9 @@ count_in debugging next s = count_by (not debugging || is_debug s.section) next 
 
 -- ---- the program
 
--- the line that ends it: END without outer blanks
-abbrev pub is_end : List ℕ → Bool
-is_end text = is_word (codes "END") (word_texts_of text)
-
--- the place of the first such line
+-- the place of the line that ends it: the first END without outer blanks
 abbrev pub end_of : List ℕ → List Line → Option ℕ
-end_of bytes lines = position (λ line. is_end (part_of bytes line)) lines
+end_of bytes lines = place_of (codes "END") bytes lines
 
 -- the program of an image that was read, and that of an assembled source
 abbrev pub by_image : Result Contents ImageFault → Result Program DeckFault
@@ -94,6 +91,15 @@ by_image (Err fault) = Err (Image fault)
 abbrev pub by_assembly : Result Assembled AsmFault → Result Program DeckFault
 by_assembly (Ok assembled) = Ok (programs.Source assembled)
 by_assembly (Err fault) = Err (Asm fault)
+
+-- the lines after the one at this place
+abbrev pub lines_after : List Line → Option ℕ → List Line
+lines_after lines None = []
+lines_after lines (Some at) = drop (at + 1) lines
+
+-- the lines after the program, which ends with the first line END
+abbrev pub after_program : List ℕ → List Line → List Line
+after_program bytes lines = lines_after lines (end_of bytes lines)
 
 -- the program that these lines are, by its kind
 abbrev pub program_of : ProgramKind → List ℕ → List Line → Result Program DeckFault
@@ -140,6 +146,8 @@ deck_with contents start told count =
       orders = told.sections.orders;
       count = count;
       commands = told.commands;
+      run_line = told.sections.run_line;
+      other_line = told.sections.other_line;
     }
 
 abbrev pub made_of : Program → Told → ℕ → Result Deck DeckFault

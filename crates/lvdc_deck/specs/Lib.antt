@@ -1,6 +1,5 @@
 pub mod Sections
 pub mod Deck
-pub mod Sought
 pub mod Loading
 pub mod Moving
 pub mod Faults

@@ -27,8 +27,8 @@ use Rattle.lvdc_deck.specs.declared.section.Section.{Section}
 use Rattle.lvdc_deck.specs.declared.section.Section.TheVariants.{Program, Start, Simplex, Ports, Faults, Order, Run, Debug}
 
 -- what the sections have said so far, after a program of this kind: the section in force, the entry point of START, SIMPLEX's
--- pairs as a bit each, the words for tapes and the unplug lines in their order, the events of FAULTS, the orders of ORDER, and
--- RUN's count
+-- pairs as a bit each, the words for tapes and the unplug lines in their order, the events of FAULTS, the orders of ORDER, RUN's count
+-- and its line, and the first line that opens PORTS, FAULTS or DEBUG
 pub record Sections : Type 0 where
   pub kind : ProgramKind
   pub section : Section
@@ -39,6 +39,8 @@ pub record Sections : Type 0 where
   pub script : List Event
   pub orders : List (List ℕ)
   pub count : Option ℕ
+  pub run_line : ℕ
+  pub other_line : Option ℕ
 
 -- before any section
 abbrev pub nothing_said : ProgramKind → Sections
@@ -53,14 +55,9 @@ nothing_said kind =
       script = [];
       orders = [];
       count = None;
+      run_line = 0;
+      other_line = None;
     }
-
--- ---- lines outside the program's text
-
--- these tokens are one word, and it is this one
-abbrev pub is_word : List ℕ → List (List ℕ) → Bool
-is_word word (token ∷ []) = bytes_eq token word
-is_word word tokens = false
 
 -- ---- section words
 
@@ -155,14 +152,23 @@ abbrev pub simplex_line : Sections → ℕ → List (List ℕ) → Result Sectio
 simplex_line s number [] = Err (BadLine number)
 simplex_line s number (token ∷ tokens) = with_simplex s number (pairs_from 0 (token ∷ tokens))
 
+-- the first of the lines that open PORTS, FAULTS and DEBUG, of those so far and this one
+abbrev pub first_other : Option ℕ → ℕ → Option ℕ
+first_other None number = Some number
+first_other (Some first) number = Some first
+
+-- PORTS, FAULTS or DEBUG begins on this line
+abbrev pub begun : Section → Sections → ℕ → Sections
+begun section s number = record s { section = section; other_line = first_other s.other_line number }
+
 -- PORTS alone
 abbrev pub ports_line : Sections → ℕ → List (List ℕ) → Result Sections DeckFault
-ports_line s number [] = Ok (record s { section = Ports })
+ports_line s number [] = Ok (begun Ports s number)
 ports_line s number tokens = Err (BadLine number)
 
 -- FAULTS alone
 abbrev pub faults_line : Sections → ℕ → List (List ℕ) → Result Sections DeckFault
-faults_line s number [] = Ok (record s { section = Faults })
+faults_line s number [] = Ok (begun Faults s number)
 faults_line s number tokens = Err (BadLine number)
 
 -- ORDER alone
@@ -174,7 +180,7 @@ order_line s number tokens = Err (BadLine number)
 abbrev pub with_count : Sections → ℕ → Option ℕ → Result Sections DeckFault
 with_count s number None = Err (BadLine number)
 with_count s number (Some n) =
-    if nat_lt MOST_TIMES n then Err (CountTooLarge number) else Ok (record s { section = Run; count = Some n })
+    if nat_lt MOST_TIMES n then Err (CountTooLarge number) else Ok (record s { section = Run; count = Some n; run_line = number })
 
 -- RUN and a count of one to nine digits
 abbrev pub run_line : Sections → ℕ → List (List ℕ) → Result Sections DeckFault
@@ -183,7 +189,7 @@ run_line s number tokens = Err (BadLine number)
 
 -- DEBUG alone
 abbrev pub debug_line : Sections → ℕ → List (List ℕ) → Result Sections DeckFault
-debug_line s number [] = Ok (record s { section = Debug })
+debug_line s number [] = Ok (begun Debug s number)
 debug_line s number tokens = Err (BadLine number)
 
 -- a section word in its place; the program has no word here

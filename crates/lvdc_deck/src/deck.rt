@@ -28,4 +28,8 @@ pub struct Deck {
     pub count: u64,
     /// The lines of the commands after DEBUG, in their order.
     pub commands: Seq<Line>,
+    /// The number of the line RUN; 0 where no text has one.
+    pub run_line: u32,
+    /// The number of the first line that opens PORTS, FAULTS or DEBUG, the sections that the deck of a campaign doesn't have.
+    pub other_line: Option<u32>,
 }

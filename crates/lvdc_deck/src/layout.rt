@@ -1,32 +1,10 @@
 ghost use Rattle.std.specs.Prelude.{◌≡◌, ◌<◌, ◌-◌, ◌^◌, length, map, All};
-ghost use Rattle.lvdc_text.specs.Lines.{IsWithin, part_of, word_texts_of};
-ghost use Rattle.lvdc_deck.specs.Sections.{is_word, section_of};
-ghost use Rattle.lvdc_deck.specs.Deck.{opened_by, opening_of, is_end, end_of};
+ghost use Rattle.lvdc_text.specs.Lines.{IsWithin, part_of};
+ghost use Rattle.lvdc_deck.specs.Sections.{section_of};
+ghost use Rattle.lvdc_deck.specs.Deck.{opened_by, opening_of, end_of, after_program};
 
 use crate::section::{Opening, ProgramKind, Section};
-use lvdc_text::{Line, few_tokens, is_comment, is_long, part};
-
-/// Are the tokens this word alone?
-fn is_word(word: &[u8], text: &[u8], tokens: &[Line]) -> bool
-    requires { All (IsWithin text.now) tokens.now }
-    ensures { result ≡ is_word word.now (map (part_of text.now) tokens.now) }
-{
-    match tokens {
-        [token] => part(text, token) == word,
-        _ => false,
-    }
-}
-
-/// Is the text this word alone, but for outer blanks?
-pub fn is_alone(word: &[u8], text: &[u8]) -> bool
-    requires { length text.now < 2 ^ 32 - 1 }
-    ensures { result ≡ is_word word.now (word_texts_of text.now) }
-{
-    match few_tokens::<1>(text) {
-        Some(tokens) => is_word(word, text, tokens.as_slice()),
-        None => false,
-    }
-}
+use lvdc_text::{Line, few_tokens, is_comment, is_long, is_word, place_of};
 
 /// The section that a first word opens.
 pub(crate) fn section_of(word: &[u8]) -> Option<Section>
@@ -82,24 +60,24 @@ pub(crate) fn opening_of(text: &[u8]) -> Opening
     }
 }
 
-/// Is the line the program's last?
-fn is_end(text: &[u8]) -> bool
-    requires { length text.now < 2 ^ 32 - 1 }
-    ensures { result ≡ is_end text.now }
-{
-    is_alone(b"END", text)
-}
-
 /// The place of the program's last line among these.
 pub(crate) fn end_of(bytes: &[u8], lines: &[Line]) -> Option<usize>
     requires size { length bytes.now < 2 ^ 32 - 1 }
     requires within { All (IsWithin bytes.now) lines.now }
     ensures { result ≡ end_of bytes.now lines.now }
 {
-    for (at, line) in lines.iter().enumerate() {
-        if is_end(part(bytes, line)) {
-            return Some(at);
-        }
+    place_of(b"END", bytes, lines)
+}
+
+/// The lines after the program.
+pub fn after_program<'a>(bytes: &[u8], lines: &'a [Line]) -> &'a [Line]
+    requires size { length bytes.now < 2 ^ 32 - 1 }
+    requires within { All (IsWithin bytes.now) lines.now }
+    ensures lines { result.now ≡ after_program bytes.now lines.now }
+    ensures within { All (IsWithin bytes.now) result.now }
+{
+    match end_of(bytes, lines) {
+        Some(at) => &lines[at + 1..],
+        None => &[],
     }
-    None
 }

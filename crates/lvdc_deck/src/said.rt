@@ -3,7 +3,7 @@ ghost use Rattle.lvdc_map.specs.Memory.{are_rising, AllThere};
 ghost use Rattle.lvdc_text.specs.Lines.{IsWithin, part_of};
 ghost use Rattle.lvdc_fault.specs.Events.{IsEvent};
 ghost use Rattle.lvdc_script_lines.specs.Lines.{fault_in, order_in};
-ghost use Rattle.lvdc_deck.specs.Sections.{nothing_said, entry_in, start_line, simplex_line, ports_line, faults_line, order_line, run_line, debug_line, in_order, with_event, with_order, belongs, by_tokens, after_line, Makes};
+ghost use Rattle.lvdc_deck.specs.Sections.{nothing_said, entry_in, start_line, simplex_line, begun, ports_line, faults_line, order_line, run_line, debug_line, in_order, with_event, with_order, belongs, by_tokens, after_line, Makes};
 ghost use Rattle.lvdc_deck.specs.Deck.{told_from, count_in, made_of};
 ghost use Rattle.lvdc_text.specs.declared.comment.TheConstants.{LONGEST_LINE};
 ghost use Rattle.lvdc_deck.specs.declared.TheConstants.{MOST_TIMES, MOST_EVENTS};
@@ -40,6 +40,8 @@ pub(crate) struct Said {
     script: Script,
     orders: Orders,
     count: Option<u64>,
+    run_line: u32,
+    other_line: Option<u32>,
 }
 
 impl Model for Said {
@@ -60,6 +62,8 @@ impl Model for Said {
       script = s.script;
       orders = s.orders;
       count = s.count;
+      run_line = s.run_line;
+      other_line = s.other_line;
     } };
 
     ghost invariant = { λ s. IfSome s.count (λ count. count ≤ MOST_TIMES) × (length s.script ≤ MOST_EVENTS) × All IsEvent s.script };
@@ -80,6 +84,8 @@ impl Said {
             script: Script::new(alloc),
             orders: Orders::plain(),
             count: None,
+            run_line: 0,
+            other_line: None,
         }
     }
 
@@ -141,13 +147,23 @@ impl Said {
         Ok(())
     }
 
+    /// Begins PORTS, FAULTS or DEBUG on this line.
+    fn begin_other(&mut self, section: Section, number: u32)
+        ensures { self.new ≡ begun section self.old number }
+    {
+        self.section = section;
+        if let None = self.other_line {
+            self.other_line = Some(number);
+        }
+    }
+
     fn ports_line(&mut self, number: u32, text: &[u8], tokens: &[Line]) -> Result<(), DeckFault>
         ensures { Makes result self.new (ports_line self.old number (map (part_of text.now) tokens.now)) }
     {
         if !tokens.is_empty() {
             return Err(DeckFault::BadLine(number));
         }
-        self.section = Section::Ports;
+        self.begin_other(Section::Ports, number);
         Ok(())
     }
 
@@ -157,7 +173,7 @@ impl Said {
         if !tokens.is_empty() {
             return Err(DeckFault::BadLine(number));
         }
-        self.section = Section::Faults;
+        self.begin_other(Section::Faults, number);
         Ok(())
     }
 
@@ -186,6 +202,7 @@ impl Said {
         }
         self.section = Section::Run;
         self.count = Some(count);
+        self.run_line = number;
         Ok(())
     }
 
@@ -195,7 +212,7 @@ impl Said {
         if !tokens.is_empty() {
             return Err(DeckFault::BadLine(number));
         }
-        self.section = Section::Debug;
+        self.begin_other(Section::Debug, number);
         Ok(())
     }
 
@@ -392,6 +409,8 @@ impl Said {
             orders: self.orders,
             count,
             commands: Seq::from_vec(commands),
+            run_line: self.run_line,
+            other_line: self.other_line,
         })
     }
 }

@@ -3,12 +3,8 @@ use Rattle.std.proofs.Common.{◌≡◌, ℕ, ◌+◌, ◌<◌, Option, List, []
 use Rattle.std.proofs.lemmas.List.{drop_more}
 use Rattle.lvdc_map.specs.Hop.{HopConstant}
 use Rattle.lvdc_map.specs.declared.placed.Placed.{Placed}
+use Rattle.lvdc_text.proofs.Joining.{text_of-append}
 use Rattle.lvdc_image.specs.Image.{Contents, word_line, head_lines, text_of, image_text}
-
-text_of-append : (front back : List (List ℕ)) → text_of (front ++ back) ≡ text_of front ++ text_of back
-text_of-append [] back = refl
-text_of-append (line ∷ lines) back =
-    ap (λ (rest : List ℕ). line ++ 10 ∷ rest) (text_of-append lines back) ∙ sym (append_assoc line (10 ∷ text_of lines) (text_of back))
 
 text_of-parts : (head words : List (List ℕ)) → (text_of head ++ text_of words) ++ codes "END\n" ≡ text_of (head ++ words ++ codes "END" ∷ [])
 text_of-parts head words = sym (text_of-append (head ++ words) (codes "END" ∷ []) ∙ ap (λ (front : List ℕ). front ++ codes "END\n") (text_of-append head words))

@@ -5,6 +5,7 @@ use Rattle.lvdc_map.specs.Hop.{HopConstant, IsHopConstant, word_of_hop}
 use Rattle.lvdc_map.specs.Banks.{is_simplex}
 use Rattle.lvdc_map.specs.Memory.{are_rising, AllThere}
 use Rattle.lvdc_map.specs.declared.placed.Placed.{Placed}
+pub use Rattle.lvdc_text.specs.Joined.{text_of}
 use Rattle.lvdc_text.specs.Numbers.{octal_text}
 
 -- what an image says: its words, the start constant, which version 1 has not, and which pairs are simplex, a bit each
@@ -63,11 +64,6 @@ head_lines (Some start) banks = codes "LVDC 2" ∷ start_line start ∷ simplex_
 -- the one list of lines of an image
 abbrev pub image_lines : Contents → List (List ℕ)
 image_lines image = head_lines image.start image.banks ++ map word_line image.words ++ codes "END" ∷ []
-
--- lines, each with LF after it
-abbrev pub text_of : List (List ℕ) → List ℕ
-text_of [] = []
-text_of (line ∷ lines) = line ++ 10 ∷ text_of lines
 
 -- the text of an image
 unfoldable pub image_text : Contents → List ℕ

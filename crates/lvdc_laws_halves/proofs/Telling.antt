@@ -12,7 +12,6 @@ use Rattle.lvdc_model.specs.Voted.{Voted}
 use Rattle.lvdc_plain.specs.declared.records.Unplug.{Unplug}
 use Rattle.lvdc_deck.specs.Deck.{and_then, deck_of}
 use Rattle.lvdc_deck.specs.Named.{NameDevices}
-use Rattle.lvdc_deck.specs.Sought.{line_of_run}
 use Rattle.lvdc_deck.specs.declared.TheConstants.{MOST_TIMES, MOST_ORDERS}
 use Rattle.lvdc_deck.specs.declared.deck.Deck.{Deck}
 use Rattle.lvdc_deck.specs.declared.fault.DeckFault.{DeckFault}
@@ -46,17 +45,17 @@ record IsWithin (n : ℕ) (read : Result Deck DeckFault) (deck : Deck) : Type 0 
   pub means : read ≡ Ok deck
   pub within : n ≤ deck.count
 
-within-by : (n : ℕ) (bytes : List ℕ) (d deck : Deck) (t : Bool) → nat_lt d.count n ≡ t
-    → (if t then Err (CountTooLarge (line_of_run bytes)) else Ok d) ≡ Ok deck → IsWithin n (Ok d) deck
-within-by n bytes d deck true less is = absurd (cc is)
-within-by n bytes d deck false less is =
+within-by : (n : ℕ) (d deck : Deck) (t : Bool) → nat_lt d.count n ≡ t
+    → (if t then Err (CountTooLarge d.run_line) else Ok d) ≡ Ok deck → IsWithin n (Ok d) deck
+within-by n d deck true less is = absurd (cc is)
+within-by n d deck false less is =
     let most = ltb-false d.count n less in
     let same : d ≡ deck = cc is in
     record { means = is; within = subst (λ (x : Deck). n ≤ x.count) same (omega (arith, most)) }
 
-deck-read : (n : ℕ) (bytes : List ℕ) (read : Result Deck DeckFault) (deck : Deck) → and_then read (deck_within n bytes) ≡ Ok deck → IsWithin n read deck
-deck-read n bytes (Ok d) deck is = within-by n bytes d deck (nat_lt d.count n) refl is
-deck-read n bytes (Err fault) deck is = absurd (cc is)
+deck-read : (n : ℕ) (read : Result Deck DeckFault) (deck : Deck) → and_then read (deck_within n) ≡ Ok deck → IsWithin n read deck
+deck-read n (Ok d) deck is = within-by n d deck (nat_lt d.count n) refl is
+deck-read n (Err fault) deck is = absurd (cc is)
 
 -- ---- the state, and what the text says of it
 
@@ -71,7 +70,7 @@ module _ (n : ℕ) (bytes : List ℕ) (before now : List Device) (text : List �
   s = saved_after before h.deck n
 
   read_deck : IsWithin n (deck_of bytes before false) h.deck
-  read_deck = deck-read n bytes (deck_of bytes before false) h.deck h.means
+  read_deck = deck-read n (deck_of bytes before false) h.deck h.means
 
   gone : HasGone o n v
   gone = times-gone o n (devices-supplied h.deck.supplies before (are-devices before alike.devices)) h.run.going
@@ -164,5 +163,5 @@ pub saved-tells : (n : ℕ) (bytes : List ℕ) (before now : List Device) (text 
     → ((devices : List Device) (s : Saved) → All IsPrinted (entries_of s) → GoesWith devices s → saved_of devices (saved_text s) ≡ Ok (with_orders s))
     → TellsRun bytes before now text
 saved-tells n bytes before now text h alike named few early back =
-    let means = (deck-read n bytes (deck_of bytes before false) h.deck h.means).means in
+    let means = (deck-read n (deck_of bytes before false) h.deck h.means).means in
     tells-run n bytes before now text h alike (named bytes before false h.deck means) (few bytes before false h.deck means) (early bytes before false h.deck means) back

@@ -12,7 +12,8 @@ use Rattle.lvdc_map.specs.Memory.{Memory, memory_of, word_at}
 use Rattle.lvdc_text.specs.Lines.{is_line_feed, lines_from, lines_of, part_at, part_of, IsWithin, NumberedLine, numbered, is_comment}
 use Rattle.lvdc_text.specs.Numbers.{octal_text}
 use Rattle.lvdc_text.specs.declared.cutting.Line.{Line}
-use Rattle.lvdc_image.specs.Image.{text_of}
+use Rattle.lvdc_text.specs.Joined.{text_of}
+use Rattle.lvdc_text.proofs.Joining.{text_of-append}
 use Rattle.lvdc_source.specs.Items.{IsShort}
 use Rattle.lvdc_source.specs.declared.item.Body.{Body}
 use Rattle.lvdc_source.specs.declared.item.Body.TheVariants as says
@@ -22,8 +23,8 @@ use Rattle.lvdc_asm.specs.Assembly.{Assembled, IsSmall}
 use Rattle.lvdc_asm.specs.declared.pool.Literal.{Literal as Pooled}
 use Rattle.lvdc_listing.specs.Listing.{placed_items, item_field, item_names, listing_text}
 use Rattle.lvdc_listing.specs.Places.{syllable_text, place_text, held_text, field_text, syllable_in}
-use Rattle.lvdc_listing.specs.Rows.{row, line_rows, pool_row, name_rows}
-use Rattle.lvdc_listing.proofs.Steps.{comment_row, item_row, end_row, text_of-append}
+use Rattle.lvdc_listing.specs.Rows.{Field, row, line_rows, pool_row, name_rows}
+use Rattle.lvdc_listing.proofs.Steps.{comment_row, end_row, item_row, other_row}
 
 -- ---- places and fields
 
@@ -53,7 +54,11 @@ length-field memory (Some here) body =
 abbrev Fits : List ℕ → Type 0
 Fits field = length field ≤ 20
 
-fields-fit : (memory : Memory) (placed : List (Item × Option Place)) → AllByRecursion Fits (map (item_field memory) placed)
+-- and so do those of items
+abbrev ItFits : Field → Type 0
+ItFits field = Fits field.text
+
+fields-fit : (memory : Memory) (placed : List (Item × Option Place)) → AllByRecursion ItFits (map (item_field memory) placed)
 fields-fit memory [] = tt
 fields-fit memory ((item, spot) ∷ placed) = (length-field memory spot item.body, fields-fit memory placed)
 
@@ -81,16 +86,27 @@ length-line : (field : List ℕ) (line : NumberedLine) (rest whole : List (List 
 length-line field line rest whole bytes n f e r =
     omega (arith, ap (λ (rows : List (List ℕ)). length (text_of rows)) e, length-text (row line field) rest, length-row line field n f)
 
-length-first : (fields : List (List ℕ)) (line : NumberedLine) (lines : List NumberedLine) (comment : Bool) → is_comment line.text ≡ comment → AllByRecursion Fits fields → IsNumbered line
-    → ((later : List (List ℕ)) → AllByRecursion Fits later → length (text_of (line_rows later lines)) ≤ 30 * weight lines) → length (text_of (line_rows fields (line ∷ lines))) ≤ 30 * weight (line ∷ lines)
-length-first fields line lines true e f n rest = length-line [] line (line_rows fields lines) (line_rows fields (line ∷ lines)) (weight lines) n (omega arith) (comment_row fields line lines e) (rest fields f)
-length-first [] line lines false e f n rest = length-line [] line [] (line_rows [] (line ∷ lines)) (weight lines) n (omega arith) (end_row line lines e) (omega arith)
-length-first (field ∷ fields) line lines false e f n rest =
-    length-line field line (line_rows fields lines) (line_rows (field ∷ fields) (line ∷ lines)) (weight lines) n f.0 (item_row field fields line lines e) (rest fields f.1)
+-- what the later lines come to with any fields
+abbrev Later : List NumberedLine → Type 0
+Later lines = (later : List Field) → AllByRecursion ItFits later → length (text_of (line_rows later lines)) ≤ 30 * weight lines
 
-length-line_rows : (lines : List NumberedLine) → AllByRecursion IsNumbered lines → (fields : List (List ℕ)) → AllByRecursion Fits fields → length (text_of (line_rows fields lines)) ≤ 30 * weight lines
+length-last : (line : NumberedLine) (lines : List NumberedLine) (comment : Bool) → is_comment line.text ≡ comment → IsNumbered line → Later lines
+    → length (text_of (line_rows [] (line ∷ lines))) ≤ 30 * weight (line ∷ lines)
+length-last line lines true e n rest = length-line [] line (line_rows [] lines) (line_rows [] (line ∷ lines)) (weight lines) n (omega arith) (comment_row line lines e) (rest [] tt)
+length-last line lines false e n rest = length-line [] line [] (line_rows [] (line ∷ lines)) (weight lines) n (omega arith) (end_row line lines e) (omega arith)
+
+length-first : (field : Field) (fields : List Field) (line : NumberedLine) (lines : List NumberedLine) (on : Bool) → (field.line == line.number) ≡ on
+    → AllByRecursion ItFits (field ∷ fields) → IsNumbered line → Later lines → length (text_of (line_rows (field ∷ fields) (line ∷ lines))) ≤ 30 * weight (line ∷ lines)
+length-first field fields line lines true e f n rest =
+    length-line field.text line (line_rows fields lines) (line_rows (field ∷ fields) (line ∷ lines)) (weight lines) n f.0 (item_row field fields line lines e) (rest fields f.1)
+length-first field fields line lines false e f n rest =
+    length-line [] line (line_rows (field ∷ fields) lines) (line_rows (field ∷ fields) (line ∷ lines)) (weight lines) n (omega arith) (other_row field fields line lines e) (rest (field ∷ fields) f)
+
+length-line_rows : (lines : List NumberedLine) → AllByRecursion IsNumbered lines → Later lines
 length-line_rows [] n fields f = omega arith
-length-line_rows (line ∷ lines) n fields f = length-first fields line lines (is_comment line.text) refl f n.0 (length-line_rows lines n.1)
+length-line_rows (line ∷ lines) n [] f = length-last line lines (is_comment line.text) refl n.0 (length-line_rows lines n.1)
+length-line_rows (line ∷ lines) n (field ∷ fields) f =
+    length-first field fields line lines (field.line == line.number) refl f n.0 (length-line_rows lines n.1)
 
 -- ---- rows of the pool and of names
 
@@ -190,7 +206,7 @@ pub length-listing : (a : Assembled) (bytes : List ℕ) (lines : List Line) → 
     → length (listing_text a (numbered bytes lines)) ≤ 82837534
 unfolding listing_text
 length-listing a bytes lines small w l e =
-    let fields : List (List ℕ) = map (item_field (memory_of a.words)) (placed_items a) in
+    let fields : List Field = map (item_field (memory_of a.words)) (placed_items a) in
     let front : List ℕ = text_of (line_rows fields (numbered bytes lines)) in
     let pool : List ℕ = text_of (map (pool_row (memory_of a.words)) (values_of a.pool)) in
     let names : List ℕ = text_of (flat_map item_names (placed_items a)) in

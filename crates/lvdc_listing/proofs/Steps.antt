@@ -1,5 +1,5 @@
 -- A listing row by row.
-use Rattle.std.proofs.Common.{◌≡◌, ℕ, ◌+◌, ◌<◌, ◌≤◌, true, false, List, [], ◌∷◌, ◌++◌, length, get_or, drop, map, zip, flat_map, zero, suc, Option, None, Some, slice_get, refl, sym, ap, ◌∙◌, append_assoc, arith}
+use Rattle.std.proofs.Common.{◌≡◌, ℕ, ◌+◌, ◌<◌, ◌≤◌, ◌==◌, true, false, List, [], ◌∷◌, ◌++◌, length, get_or, drop, map, zip, flat_map, zero, suc, Option, None, Some, slice_get, refl, sym, ap, ◌∙◌, append_assoc, arith}
 use Rattle.std.specs.Map.{values_of}
 use Rattle.std.proofs.lemmas.List.{drop_more, drop_all, append-nil}
 use Rattle.std.proofs.lemmas.Option.{get_or_from_slice_get}
@@ -7,20 +7,16 @@ use Rattle.lvdc_map.specs.Address.{Spot}
 use Rattle.lvdc_map.specs.Memory.{Memory, memory_of, word_at}
 use Rattle.lvdc_text.specs.Lines.{part_of, NumberedLine, numbered, is_comment}
 use Rattle.lvdc_text.specs.declared.cutting.Line.{Line}
-use Rattle.lvdc_image.specs.Image.{text_of}
+use Rattle.lvdc_text.specs.Joined.{text_of}
+use Rattle.lvdc_text.proofs.Joining.{text_of-append}
 use Rattle.lvdc_source.specs.declared.item.Item.{Item}
 use Rattle.lvdc_place.specs.declared.spot.Spot.{Spot as Place}
 use Rattle.lvdc_asm.specs.Assembly.{Assembled}
 use Rattle.lvdc_listing.specs.Listing.{placed_items, item_field, item_names, listing_text}
 use Rattle.lvdc_listing.specs.Places.{field_text}
-use Rattle.lvdc_listing.specs.Rows.{row, line_rows, pool_row, name_rows}
+use Rattle.lvdc_listing.specs.Rows.{Field, row, line_rows, pool_row, name_rows}
 
 -- ---- texts of rows
-
-pub text_of-append : (front back : List (List ℕ)) → text_of (front ++ back) ≡ text_of front ++ text_of back
-text_of-append [] back = refl
-text_of-append (line ∷ lines) back =
-    ap (λ (rest : List ℕ). line ++ 10 ∷ rest) (text_of-append lines back) ∙ sym (append_assoc line (10 ∷ text_of lines) (text_of back))
 
 -- what is there and what is to come, before and after rows are appended
 pub more : (out next : List ℕ) (now later : List (List ℕ)) → next ≡ out ++ text_of now → next ++ text_of later ≡ out ++ text_of (now ++ later)
@@ -30,17 +26,20 @@ more out next now later e =
 
 -- ---- rows of lines
 
-pub comment_row : (fields : List (List ℕ)) (line : NumberedLine) (lines : List NumberedLine) → is_comment line.text ≡ true
-    → line_rows fields (line ∷ lines) ≡ row line [] ∷ line_rows fields lines
-comment_row [] line lines e = rw e refl
-comment_row (field ∷ fields) line lines e = rw e refl
-
-pub item_row : (field : List ℕ) (fields : List (List ℕ)) (line : NumberedLine) (lines : List NumberedLine) → is_comment line.text ≡ false
-    → line_rows (field ∷ fields) (line ∷ lines) ≡ row line field ∷ line_rows fields lines
-item_row field fields line lines e = rw e refl
+pub comment_row : (line : NumberedLine) (lines : List NumberedLine) → is_comment line.text ≡ true
+    → line_rows [] (line ∷ lines) ≡ row line [] ∷ line_rows [] lines
+comment_row line lines e = rw e refl
 
 pub end_row : (line : NumberedLine) (lines : List NumberedLine) → is_comment line.text ≡ false → line_rows [] (line ∷ lines) ≡ row line [] ∷ []
 end_row line lines e = rw e refl
+
+pub item_row : (field : Field) (fields : List Field) (line : NumberedLine) (lines : List NumberedLine) → (field.line == line.number) ≡ true
+    → line_rows (field ∷ fields) (line ∷ lines) ≡ row line field.text ∷ line_rows fields lines
+item_row field fields line lines e = rw e refl
+
+pub other_row : (field : Field) (fields : List Field) (line : NumberedLine) (lines : List NumberedLine) → (field.line == line.number) ≡ false
+    → line_rows (field ∷ fields) (line ∷ lines) ≡ row line [] ∷ line_rows (field ∷ fields) lines
+other_row field fields line lines e = rw e refl
 
 -- ---- items and their places
 
@@ -109,7 +108,8 @@ more_pool memory spots i w at out next whole s held e so_far =
 -- the step at a line of the loop
 module _ (memory : Memory) (a : Assembled) (bytes : List ℕ) (lines : List Line) (index listed : ℕ) (d : Line) (text out next whole : List ℕ)
     (within : index < length lines) (reads : text ≡ part_of bytes (get_or lines index d))
-    (so_far : out ++ text_of (line_rows (map (item_field memory) (drop listed (placed_items a))) (numbered bytes (drop index lines))) ≡ whole) where
+    (so_far : out ++ text_of (line_rows (map (item_field memory) (drop listed (placed_items a))) (numbered bytes (drop index lines))) ≡ whole)
+    (found : List Item) (same : found ≡ a.items) (stand : length a.plan.spots ≡ length found) where
   -- this line, those after it, and the fields of items from one on
   abbrev here : NumberedLine
   here = record { number = (get_or lines index d).number; text = text }
@@ -117,7 +117,7 @@ module _ (memory : Memory) (a : Assembled) (bytes : List ℕ) (lines : List Line
   abbrev rest : List NumberedLine
   rest = numbered bytes (drop (index + 1) lines)
 
-  abbrev fields : ℕ → List (List ℕ)
+  abbrev fields : ℕ → List Field
   fields from = map (item_field memory) (drop from (placed_items a))
 
   now : out ++ text_of (line_rows (fields listed) (here ∷ rest)) ≡ whole
@@ -125,32 +125,53 @@ module _ (memory : Memory) (a : Assembled) (bytes : List ℕ) (lines : List Line
       ap (λ (t : List ℕ). out ++ text_of (line_rows (fields listed) (record { number = (get_or lines index d).number; text = t } ∷ rest))) reads
       ∙ ap (λ (found : List Line). out ++ text_of (line_rows (fields listed) (numbered bytes found))) (sym (drop_more lines index d within)) ∙ so_far
 
-  pub at_comment : is_comment text ≡ true → next ≡ out ++ text_of (row here [] ∷ []) → next ++ text_of (line_rows (fields listed) rest) ≡ whole
-  at_comment c e =
-      more out next (row here [] ∷ []) (line_rows (fields listed) rest) e ∙ ap (λ (rows : List (List ℕ)). out ++ text_of rows) (sym (comment_row (fields listed) here rest c)) ∙ now
+  long : length a.plan.spots ≡ length a.items
+  long = stand ∙ ap (λ (list : List Item). length list) same
 
-  module _ (found : List Item) (other : is_comment text ≡ false) (same : found ≡ a.items) (stand : length a.plan.spots ≡ length found) where
-    long : length a.plan.spots ≡ length a.items
-    long = stand ∙ ap (λ (list : List Item). length list) same
+  -- while items are left, the first of them and its place
+  module _ (item : Item) (is : item ≡ get_or found listed item) (left : listed < length found) where
+    abbrev first : Item × Option Place
+    first = (item, get_or a.plan.spots listed None)
 
-    pub at_item : (item : Item) (spot : Option Place) (field : List ℕ) → listed < length found → spot ≡ get_or a.plan.spots listed None
-        → field ≡ field_text memory spot (get_or found listed item).body → next ≡ out ++ text_of (row here field ∷ []) → next ++ text_of (line_rows (fields (listed + 1)) rest) ≡ whole
-    at_item item spot field l stands told e =
-        let there : listed < length a.items = omega (arith, ap (λ (list : List Item). length list) same) in
+    first_field : fields listed ≡ item_field memory first ∷ fields (listed + 1)
+    first_field =
+        ap (map (item_field memory)) (first_pair a.items a.plan.spots listed item None (omega (arith, ap (λ (list : List Item). length list) same)) long)
+        ∙ ap (λ (list : List Item). item_field memory (get_or list listed item, get_or a.plan.spots listed None) ∷ fields (listed + 1)) (sym same)
+        ∙ ap (λ (x : Item). item_field memory (x, get_or a.plan.spots listed None) ∷ fields (listed + 1)) (sym is)
+
+    pub at_item : (spot : Option Place) (field : List ℕ) → (first.0.line == here.number) ≡ true → spot ≡ get_or a.plan.spots listed None
+        → field ≡ field_text memory spot first.0.body → next ≡ out ++ text_of (row here field ∷ []) → next ++ text_of (line_rows (fields (listed + 1)) rest) ≡ whole
+    at_item spot field on stands told e =
         more out next (row here field ∷ []) (line_rows (fields (listed + 1)) rest) e
-        ∙ ap (λ (rows : List (List ℕ)). out ++ text_of rows) (sym (item_row field (fields (listed + 1)) here rest other))
-        ∙ ap (λ (f : List ℕ). out ++ text_of (line_rows (f ∷ fields (listed + 1)) (here ∷ rest)))
-        (told ∙ ap (λ (x : Option Place). field_text memory x (get_or found listed item).body) stands
-        ∙ ap (λ (list : List Item). field_text memory (get_or a.plan.spots listed None) (get_or list listed item).body) same)
-        ∙ ap (λ (pairs : List (Item × Option Place)). out ++ text_of (line_rows (map (item_field memory) pairs) (here ∷ rest))) (sym (first_pair a.items a.plan.spots listed item None there long))
-        ∙ now
+        ∙ ap (λ (f : List ℕ). out ++ text_of (row here f ∷ line_rows (fields (listed + 1)) rest))
+        (told ∙ ap (λ (x : Option Place). field_text memory x first.0.body) stands)
+        ∙ ap (λ (rows : List (List ℕ)). out ++ text_of rows) (sym (item_row (item_field memory first) (fields (listed + 1)) here rest on))
+        ∙ ap (λ (fs : List Field). out ++ text_of (line_rows fs (here ∷ rest))) (sym first_field) ∙ now
 
-    pub at_end : length found ≤ listed → next ≡ out ++ text_of (row here [] ∷ []) → next ≡ whole
-    at_end l e =
-        let past : length (placed_items a) ≤ listed = omega (arith, length-zip a.items a.plan.spots long, ap (λ (list : List Item). length list) same) in
+    pub at_other : (first.0.line == here.number) ≡ false → next ≡ out ++ text_of (row here [] ∷ []) → next ++ text_of (line_rows (fields listed) rest) ≡ whole
+    at_other off e =
+        more out next (row here [] ∷ []) (line_rows (fields listed) rest) e
+        ∙ ap (λ (fs : List Field). out ++ text_of (row here [] ∷ line_rows fs rest)) first_field
+        ∙ ap (λ (rows : List (List ℕ)). out ++ text_of rows) (sym (other_row (item_field memory first) (fields (listed + 1)) here rest off))
+        ∙ ap (λ (fs : List Field). out ++ text_of (line_rows fs (here ∷ rest))) (sym first_field) ∙ now
+
+  -- after the last item
+  module _ (past : length found ≤ listed) where
+    no_field : fields listed ≡ []
+    no_field =
+        ap (map (item_field memory)) (drop_all listed (placed_items a) (omega (arith, length-zip a.items a.plan.spots long, ap (λ (list : List Item). length list) same)))
+
+    pub at_comment : is_comment text ≡ true → next ≡ out ++ text_of (row here [] ∷ []) → next ++ text_of (line_rows (fields listed) rest) ≡ whole
+    at_comment c e =
+        more out next (row here [] ∷ []) (line_rows (fields listed) rest) e
+        ∙ ap (λ (fs : List Field). out ++ text_of (row here [] ∷ line_rows fs rest)) no_field
+        ∙ ap (λ (rows : List (List ℕ)). out ++ text_of rows) (sym (comment_row here rest c))
+        ∙ ap (λ (fs : List Field). out ++ text_of (line_rows fs (here ∷ rest))) (sym no_field) ∙ now
+
+    pub at_end : is_comment text ≡ false → next ≡ out ++ text_of (row here [] ∷ []) → next ≡ whole
+    at_end other e =
         e ∙ ap (λ (rows : List (List ℕ)). out ++ text_of rows) (sym (end_row here rest other))
-        ∙ ap (λ (pairs : List (Item × Option Place)). out ++ text_of (line_rows (map (item_field memory) pairs) (here ∷ rest))) (sym (drop_all listed (placed_items a) past))
-        ∙ now
+        ∙ ap (λ (fs : List Field). out ++ text_of (line_rows fs (here ∷ rest))) (sym no_field) ∙ now
 
 -- ---- the whole
 

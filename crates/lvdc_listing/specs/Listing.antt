@@ -2,21 +2,21 @@
 use Rattle.std.specs.Prelude.{ℕ, List, ◌++◌, map, zip, flat_map, Option}
 use Rattle.std.specs.Map.{values_of}
 use Rattle.lvdc_map.specs.Memory.{Memory, memory_of}
-use Rattle.lvdc_image.specs.Image.{text_of}
+use Rattle.lvdc_text.specs.Joined.{text_of}
 use Rattle.lvdc_text.specs.Lines.{NumberedLine}
 use Rattle.lvdc_source.specs.declared.item.Item.{Item}
 use Rattle.lvdc_place.specs.declared.spot.Spot.{Spot as Place}
 use Rattle.lvdc_asm.specs.Assembly.{Assembled}
 use Rattle.lvdc_listing.specs.Places.{field_text}
-use Rattle.lvdc_listing.specs.Rows.{line_rows, pool_row, name_rows}
+use Rattle.lvdc_listing.specs.Rows.{Field, line_rows, pool_row, name_rows}
 
 -- the items of a source, each with the place where it stands
 abbrev pub placed_items : Assembled → List (Item × Option Place)
 placed_items assembled = zip assembled.items assembled.plan.spots
 
 -- the field of an item
-abbrev pub item_field : Memory → Item × Option Place → List ℕ
-item_field memory placed = field_text memory placed.1 placed.0.body
+abbrev pub item_field : Memory → Item × Option Place → Field
+item_field memory placed = record { line = placed.0.line; text = field_text memory placed.1 placed.0.body }
 
 -- the row of the name that an item defines, where it defines one
 abbrev pub item_names : Item × Option Place → List (List ℕ)

@@ -1,5 +1,5 @@
 -- The rows of a listing.
-use Rattle.std.specs.Prelude.{ℕ, ◌-◌, List, [], ◌∷◌, ◌++◌, length, replicate, codes, decimal, Option, None, Some, if◌then◌else◌}
+use Rattle.std.specs.Prelude.{ℕ, ◌-◌, ◌==◌, List, [], ◌∷◌, ◌++◌, length, replicate, codes, decimal, Option, None, Some, if◌then◌else◌}
 use Rattle.lvdc_map.specs.Address.{Spot}
 use Rattle.lvdc_map.specs.Memory.{Memory, word_at}
 use Rattle.lvdc_text.specs.Numbers.{octal_text}
@@ -19,13 +19,18 @@ row_head number field = blanks 7 (decimal number) ++ decimal number ++ codes " "
 abbrev pub row : NumberedLine → List ℕ → List ℕ
 row line field = row_head line.number field ++ codes " " ++ line.text
 
--- The rows of the lines of a source, up to and with END, where these are the fields of its items. A comment has an empty
--- field. Each other line has the field of its item, the next one; the line after the last item is END.
-abbrev pub line_rows : List (List ℕ) → List NumberedLine → List (List ℕ)
+-- the number of the line on which an item stands, and its field
+pub record Field : Type 0 where
+  pub line : ℕ
+  pub text : List ℕ
+
+-- The rows of the lines of a source, up to and with END, where these are the fields of its items. The line of an item has the
+-- item's field, and each other line an empty one; after the last item the first line that is no comment is END.
+abbrev pub line_rows : List Field → List NumberedLine → List (List ℕ)
 line_rows fields [] = []
 line_rows [] (line ∷ lines) = if is_comment line.text then row line [] ∷ line_rows [] lines else row line [] ∷ []
 line_rows (field ∷ fields) (line ∷ lines) =
-    if is_comment line.text then row line [] ∷ line_rows (field ∷ fields) lines else row line field ∷ line_rows fields lines
+    if field.line == line.number then row line field.text ∷ line_rows fields lines else row line [] ∷ line_rows (field ∷ fields) lines
 
 -- the row of a pooled word: where it stands, and the word there
 abbrev pub pool_row : Memory → Spot → List ℕ

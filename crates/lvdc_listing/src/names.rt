@@ -1,7 +1,7 @@
 //! The rows of the names.
 
 ghost use Rattle.std.specs.Prelude.{◌≡◌, ◌++◌, flat_map, OnOk};
-ghost use Rattle.lvdc_image.specs.Image.{text_of};
+ghost use Rattle.lvdc_text.specs.Joined.{text_of};
 ghost use Rattle.lvdc_place.specs.Placement.{IsInPairs};
 ghost use Rattle.lvdc_listing.specs.Listing.{placed_items, item_names};
 ghost use Rattle.lvdc_listing.specs.Rows.{name_rows};

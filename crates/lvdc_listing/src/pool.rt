@@ -3,7 +3,7 @@
 ghost use Rattle.std.specs.Prelude.{◌≡◌, ◌++◌, ◌∷◌, [], map, OnOk};
 ghost use Rattle.std.specs.Map.{values_of};
 ghost use Rattle.lvdc_map.specs.Memory.{Memory, IsMemory};
-ghost use Rattle.lvdc_image.specs.Image.{text_of};
+ghost use Rattle.lvdc_text.specs.Joined.{text_of};
 ghost use Rattle.lvdc_listing.specs.Rows.{pool_row};
 
 use crate::field::put_sector;

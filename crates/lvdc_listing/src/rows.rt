@@ -3,7 +3,7 @@
 ghost use Rattle.std.specs.Prelude.{◌≡◌, ◌<◌, ◌-◌, ◌++◌, ◌∷◌, [], replicate, map, decimal, All, OnOk};
 ghost use Rattle.lvdc_map.specs.Memory.{IsMemory, memory_of};
 ghost use Rattle.lvdc_text.specs.Lines.{IsWithin, numbered};
-ghost use Rattle.lvdc_image.specs.Image.{text_of};
+ghost use Rattle.lvdc_text.specs.Joined.{text_of};
 ghost use Rattle.lvdc_listing.specs.Listing.{placed_items, item_field};
 ghost use Rattle.lvdc_listing.specs.Rows.{blanks, row_head, row, line_rows};
 
@@ -82,15 +82,20 @@ pub(crate) fn put_lines(
     let mut listed = 0;
     for line in lines {
         let text = part(bytes, line);
-        if is_comment(text) {
+        if listed == items.len() {
             put_row(out, line.number, &[], text)?;
-        } else if listed < items.len() {
-            let field = field(alloc, memory, assembly.spot(listed), &items[listed].body)?;
-            put_row(out, line.number, &field, text)?;
-            listed += 1;
+            if !is_comment(text) {
+                return Ok(());
+            }
         } else {
-            put_row(out, line.number, &[], text)?;
-            return Ok(());
+            let item = &items[listed];
+            if item.line == line.number {
+                let field = field(alloc, memory, assembly.spot(listed), &item.body)?;
+                put_row(out, line.number, &field, text)?;
+                listed += 1;
+            } else {
+                put_row(out, line.number, &[], text)?;
+            }
         }
     }
     Ok(())

@@ -3,7 +3,9 @@ use Rattle.std.proofs.Common.{◌≡◌, ℕ, zero, suc, ◌+◌, ◌-◌, ◌<�
 use Rattle.std.proofs.lemmas.List.{append-nil, drop_more, drop_all, map-append}
 use Rattle.std.proofs.lemmas.Bool.Decides.{nat_tests}
 use Rattle.lvdc_text.specs.declared.cutting.Line.{Line}
+use Rattle.lvdc_text.specs.Joined.{text_of}
 use Rattle.lvdc_text.specs.Lines.{part_of}
+use Rattle.lvdc_text.proofs.Joining.{text_of-append}
 use Rattle.lvdc_macro.specs.declared.fault.MacroFault.{MacroFault}
 use Rattle.lvdc_macro.specs.declared.fault.MacroFault.TheVariants.{BadMacro, TooDeep, TooManyCalls}
 use Rattle.lvdc_macro.specs.Macros.{Macro, Meaning, meaning_of}
@@ -21,10 +23,10 @@ body_from left macros origin p texts = pieces (inner left macros origin) p texts
 
 pub bytes_of-append : (xs ys : List Written) → bytes_of (xs ++ ys) ≡ bytes_of xs ++ bytes_of ys
 unfolding bytes_of
-bytes_of-append [] ys = refl
-bytes_of-append (x ∷ xs) ys = ap (λ (w : List ℕ). x.text ++ 10 ∷ w) (bytes_of-append xs ys) ∙ sym (append_assoc x.text (10 ∷ bytes_of xs) (bytes_of ys))
+bytes_of-append xs ys =
+    ap text_of (map-append (λ (line : Written). line.text) xs ys) ∙ text_of-append (map (λ line. line.text) xs) (map (λ line. line.text) ys)
 
-bytes_of-none : bytes_of [] ≡ []
+pub bytes_of-none : bytes_of [] ≡ []
 unfolding bytes_of
 bytes_of-none = refl
 

@@ -14,11 +14,7 @@ use Rattle.lvdc_macro.specs.Macros.{Macro, Meaning, Text, Begin, End, Call, is_r
 use Rattle.lvdc_macro.specs.Expansion.{Written, State, Step, step_of, with_line, inside_by, outside_by, after_line, and_on, closed, expanded_from, bytes_of, origins_of, in_front}
 use Rattle.lvdc_macro.specs.Making.{Out, progress_of, macros_of, macro_of, lines_named, pending_of, state_of, ends_by, IsBrought, Brings, Gives, Expands}
 use Rattle.lvdc_macro.proofs.Naming.{may_be_named-is}
-use Rattle.lvdc_macro.proofs.Calling.{bytes_of-append}
-
-bytes_of-none : bytes_of [] ≡ []
-unfolding bytes_of
-bytes_of-none = refl
+use Rattle.lvdc_macro.proofs.Calling.{bytes_of-append, bytes_of-none}
 
 nothing_brought : (out : Out) (state : State) → IsBrought (step_of [] state) out out state
 nothing_brought out state = record {

@@ -2,6 +2,7 @@
 use Rattle.std.specs.Prelude.{ℕ, zero, suc, ◌+◌, nat_lt, Bool, true, false, ◌||◌, List, [], ◌∷◌, ◌++◌, map, length, if◌then◌else◌, Result, Ok, Err}
 use Rattle.std.specs.declared.option.Option.{Option}
 use Rattle.std.specs.declared.option.Option.TheVariants.{None, Some}
+use Rattle.lvdc_text.specs.Joined.{text_of}
 use Rattle.lvdc_text.specs.Lines.{NumberedLine}
 use Rattle.lvdc_macro.specs.declared.arguments.TheConstants.{MOST_ARGUMENTS}
 use Rattle.lvdc_macro.specs.declared.expansion.TheConstants.{LONGEST_EXPANSION, MOST_CALLS}
@@ -155,8 +156,7 @@ expansion_of lines = expanded_from 1 start lines
 
 -- each line ended by LF
 unfoldable pub bytes_of : List Written → List ℕ
-bytes_of [] = []
-bytes_of (line ∷ lines) = line.text ++ 10 ∷ bytes_of lines
+bytes_of lines = text_of (map (λ line. line.text) lines)
 
 -- for each line the source line that it came from
 abbrev pub origins_of : List Written → List ℕ

@@ -26,28 +26,35 @@ struct Open<'a> {
     first: usize,
 }
 
-/// Writes what a call comes to whose line came from this origin, where so many levels of calls are left.
+/// A line that calls a macro: the line of the source that it came from, whether it has a label, its operand, and the body.
+#[derive(Clone, Copy)]
+struct Calling<'a> {
+    origin: u32,
+    labelled: bool,
+    operand: &'a [u8],
+    body: &'a [Line],
+}
+
+/// Writes what a call comes to, where so many levels of calls are left.
 fn call(
     alloc: Global,
     bytes: &[u8],
     macros: &Macros<'_>,
     out: &mut Writer,
     left: u8,
-    origin: u32,
-    labelled: bool,
-    operand: &[u8],
-    body: &[Line],
+    calling: Calling<'_>,
 ) -> Result<(), MacroFault>
     requires size { length bytes.now < 2 ^ 32 - 1 }
-    requires body { All (IsWithin bytes.now) body.now }
+    requires body { All (IsWithin bytes.now) calling.body.now }
     requires bodies { All (λ entry. All (IsWithin bytes.now) entry.1) macros.now }
-    ensures { Meets result (called left (macros_of bytes.now macros.now) origin (progress_of out.old) labelled operand.now
-        (map (part_of bytes.now) body.now)) out.old out.new }
+    ensures { Meets result (called left (macros_of bytes.now macros.now) calling.entry.origin (progress_of out.old) calling.entry.labelled calling.entry.operand.now
+        (map (part_of bytes.now) calling.entry.body.now)) out.old out.new }
 {
-    let Some(arguments) = arguments_of(operand) else {
+    let origin = calling.origin;
+    let Some(arguments) = arguments_of(calling.operand) else {
         return Err(MacroFault::BadMacro(origin));
     };
-    if labelled {
+    if calling.labelled {
         return Err(MacroFault::BadMacro(origin));
     }
     if left == 0 {
@@ -55,7 +62,7 @@ fn call(
     }
     let number = out.begin_call(origin)?;
     let entered = Call { number, arguments };
-    for line in body {
+    for line in calling.body {
         let text = entered.substituted(alloc, part(bytes, line))?;
         match meaning_of(alloc, macros, &text)? {
             Meaning::Text => out.write(&text, origin)?,
@@ -63,17 +70,15 @@ fn call(
                 labelled,
                 operand,
                 body,
-            } => call(
-                alloc,
-                bytes,
-                macros,
-                out,
-                left - 1,
-                origin,
-                labelled,
-                operand,
-                body,
-            )?,
+            } => {
+                let inner = Calling {
+                    origin,
+                    labelled,
+                    operand,
+                    body,
+                };
+                call(alloc, bytes, macros, out, left - 1, inner)?;
+            }
             Meaning::Begin(_) => return Err(MacroFault::BadMacro(origin)),
             Meaning::End { .. } => return Err(MacroFault::BadMacro(origin)),
         }
@@ -121,17 +126,13 @@ fn outside<'a>(
             operand,
             body,
         } => {
-            call(
-                alloc,
-                bytes,
-                macros,
-                out,
-                MOST_LEVELS,
-                line.number,
+            let calling = Calling {
+                origin: line.number,
                 labelled,
                 operand,
                 body,
-            )?;
+            };
+            call(alloc, bytes, macros, out, MOST_LEVELS, calling)?;
             Ok(None)
         }
     }

@@ -1,4 +1,4 @@
-ghost use Rattle.std.specs.Prelude.{◌≡◌, ◌<◌, refl, slice_set};
+ghost use Rattle.std.specs.Prelude.{◌≡◌, refl};
 ghost use Rattle.std.proofs.Common.{ap};
 ghost use Rattle.lvdc_modules.specs.States.{accumulator_latches, accumulator_of};
 ghost use Rattle.lvdc_isa.specs.Instr.{takes_operand};
@@ -11,7 +11,7 @@ use crate::seen::{Doing, doing_of, instruction_of};
 use lvdc_isa::{Instr, Op, shifted};
 use lvdc_map::{OperandKind, is_a9};
 use lvdc_mul::Kind;
-use lvdc_vote::{LogicModule, Vote, flipped, forced, majority};
+use lvdc_vote::{LogicModule, Vote, majority};
 use lvdc_word::Word;
 
 /// The latches of the accumulator.
@@ -21,22 +21,6 @@ pub struct AccumulatorState {
     pub a: Word,
     /// OPERAND, the word that the instruction takes.
     pub operand: Word,
-}
-
-impl AccumulatorState {
-    /// The state with this word in one latch.
-    fn with(&self, index: u8, word: Word) -> AccumulatorState
-        requires { index < 2 }
-        ensures { accumulator_latches result ≡ slice_set (accumulator_latches self.now) index word }
-    {
-        match index {
-            0 => AccumulatorState { a: word, ..*self },
-            _ => AccumulatorState {
-                operand: word,
-                ..*self
-            },
-        }
-    }
 }
 
 impl Vote for AccumulatorState {
@@ -60,12 +44,14 @@ impl Vote for AccumulatorState {
         }
     }
 
-    fn with_flip(&self, index: u8, mask: Word) -> Self {
-        self.with(index, flipped(self.latch(index), mask))
-    }
-
-    fn with_force(&self, index: u8, mask: Word, value: Word) -> Self {
-        self.with(index, forced(self.latch(index), mask, value))
+    fn with(&self, index: u8, word: Word) -> Self {
+        match index {
+            0 => AccumulatorState { a: word, ..*self },
+            _ => AccumulatorState {
+                operand: word,
+                ..*self
+            },
+        }
     }
 
     fn same(&self, other: &Self) -> bool {

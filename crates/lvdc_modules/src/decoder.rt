@@ -6,7 +6,7 @@ ghost use Rattle.lvdc_modules.specs.Decoder.{decoder_row};
 use crate::Bus;
 use crate::seen::{Doing, doing_of};
 use lvdc_map::Hop;
-use lvdc_vote::{LogicModule, Vote, flipped, forced, majority};
+use lvdc_vote::{LogicModule, Vote, majority};
 use lvdc_word::Word;
 
 /// The latch of the decoder.
@@ -33,16 +33,8 @@ impl Vote for DecoderState {
         }
     }
 
-    fn with_flip(&self, _index: u8, mask: Word) -> Self {
-        DecoderState {
-            instr: flipped(self.instr, mask),
-        }
-    }
-
-    fn with_force(&self, _index: u8, mask: Word, value: Word) -> Self {
-        DecoderState {
-            instr: forced(self.instr, mask, value),
-        }
+    fn with(&self, _index: u8, word: Word) -> Self {
+        DecoderState { instr: word }
     }
 
     fn same(&self, other: &Self) -> bool {

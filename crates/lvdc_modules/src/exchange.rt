@@ -1,4 +1,4 @@
-ghost use Rattle.std.specs.Prelude.{◌≡◌, refl, ◌<◌, ◌^◌, slice_set};
+ghost use Rattle.std.specs.Prelude.{◌≡◌, refl, ◌<◌, ◌^◌};
 ghost use Rattle.std.proofs.Common.{ap};
 ghost use Rattle.lvdc_modules.specs.States.{exchange_latches, exchange_of};
 ghost use Rattle.lvdc_modules.specs.Request.{IsRequest};
@@ -8,7 +8,7 @@ use crate::seen::{Doing, doing_of, here_of, instruction_of};
 use crate::{Bus, Destination, Request};
 use lvdc_isa::Op;
 use lvdc_map::{Hop, OperandKind, is_a9, low_bits};
-use lvdc_vote::{LogicModule, Vote, flipped, forced, majority};
+use lvdc_vote::{LogicModule, Vote, majority};
 use lvdc_word::Word;
 
 /// The latches of the exchanger.
@@ -18,25 +18,6 @@ pub struct ExchangeState {
     pub stop: Word,
     /// REQUEST, what the next phase C exchanges.
     pub request: Word,
-}
-
-impl ExchangeState {
-    /// The state with this word in one latch.
-    fn with(&self, index: u8, word: Word) -> ExchangeState
-        requires { index < 2 }
-        ensures { exchange_latches result ≡ slice_set (exchange_latches self.now) index word }
-    {
-        match index {
-            0 => ExchangeState {
-                stop: word,
-                ..*self
-            },
-            _ => ExchangeState {
-                request: word,
-                ..*self
-            },
-        }
-    }
 }
 
 impl Vote for ExchangeState {
@@ -60,12 +41,17 @@ impl Vote for ExchangeState {
         }
     }
 
-    fn with_flip(&self, index: u8, mask: Word) -> Self {
-        self.with(index, flipped(self.latch(index), mask))
-    }
-
-    fn with_force(&self, index: u8, mask: Word, value: Word) -> Self {
-        self.with(index, forced(self.latch(index), mask, value))
+    fn with(&self, index: u8, word: Word) -> Self {
+        match index {
+            0 => ExchangeState {
+                stop: word,
+                ..*self
+            },
+            _ => ExchangeState {
+                request: word,
+                ..*self
+            },
+        }
     }
 
     fn same(&self, other: &Self) -> bool {

@@ -1,4 +1,4 @@
-ghost use Rattle.std.specs.Prelude.{◌≡◌, ◌<◌, refl, slice_set};
+ghost use Rattle.std.specs.Prelude.{◌≡◌, refl};
 ghost use Rattle.std.proofs.Common.{ap};
 ghost use Rattle.lvdc_modules.specs.States.{locator_latches, locator_of};
 ghost use Rattle.lvdc_modules.specs.Locator.{place_fields, moves_on, moves_to, jumps, located, locator_row};
@@ -7,7 +7,7 @@ use crate::Bus;
 use crate::seen::{Doing, doing_of, here_of, instruction_of};
 use lvdc_isa::Op;
 use lvdc_map::Hop;
-use lvdc_vote::{LogicModule, Vote, flipped, forced, majority};
+use lvdc_vote::{LogicModule, Vote, majority};
 use lvdc_word::Word;
 
 /// The latches of the locator.
@@ -17,25 +17,6 @@ pub struct LocatorState {
     pub place: Word,
     /// SAVER, the HOP constant of the place after the last transfer.
     pub saver: Word,
-}
-
-impl LocatorState {
-    /// The state with this word in one latch.
-    fn with(&self, index: u8, word: Word) -> LocatorState
-        requires { index < 2 }
-        ensures { locator_latches result ≡ slice_set (locator_latches self.now) index word }
-    {
-        match index {
-            0 => LocatorState {
-                place: word,
-                ..*self
-            },
-            _ => LocatorState {
-                saver: word,
-                ..*self
-            },
-        }
-    }
 }
 
 impl Vote for LocatorState {
@@ -59,12 +40,17 @@ impl Vote for LocatorState {
         }
     }
 
-    fn with_flip(&self, index: u8, mask: Word) -> Self {
-        self.with(index, flipped(self.latch(index), mask))
-    }
-
-    fn with_force(&self, index: u8, mask: Word, value: Word) -> Self {
-        self.with(index, forced(self.latch(index), mask, value))
+    fn with(&self, index: u8, word: Word) -> Self {
+        match index {
+            0 => LocatorState {
+                place: word,
+                ..*self
+            },
+            _ => LocatorState {
+                saver: word,
+                ..*self
+            },
+        }
     }
 
     fn same(&self, other: &Self) -> bool {

@@ -1,4 +1,4 @@
-ghost use Rattle.std.specs.Prelude.{◌≡◌, ◌<◌, refl, slice_set};
+ghost use Rattle.std.specs.Prelude.{◌≡◌, refl};
 ghost use Rattle.std.proofs.Common.{ap};
 ghost use Rattle.lvdc_modules.specs.States.{multiplier_latches, multiplier_of};
 ghost use Rattle.lvdc_modules.specs.Multiplier.{working, unit_pq, unit_working, pq_after, working_after, multiplier_with, multiplier_row};
@@ -8,7 +8,7 @@ use crate::seen::{Doing, doing_of, instruction_of};
 use lvdc_isa::Op;
 use lvdc_map::OperandKind;
 use lvdc_mul::Unit;
-use lvdc_vote::{LogicModule, Vote, flipped, forced, majority};
+use lvdc_vote::{LogicModule, Vote, majority};
 use lvdc_word::Word;
 
 /// The latches of the multiplier.
@@ -24,25 +24,6 @@ pub struct MultiplierState {
     pub h: Word,
     /// Q, the multiplier and the lower part of the product, or the quotient.
     pub q: Word,
-}
-
-impl MultiplierState {
-    /// The state with this word in one latch.
-    fn with(&self, index: u8, word: Word) -> MultiplierState
-        requires { index < 5 }
-        ensures { multiplier_latches result ≡ slice_set (multiplier_latches self.now) index word }
-    {
-        match index {
-            0 => MultiplierState { pq: word, ..*self },
-            1 => MultiplierState {
-                control: word,
-                ..*self
-            },
-            2 => MultiplierState { m: word, ..*self },
-            3 => MultiplierState { h: word, ..*self },
-            _ => MultiplierState { q: word, ..*self },
-        }
-    }
 }
 
 impl Vote for MultiplierState {
@@ -72,12 +53,17 @@ impl Vote for MultiplierState {
         }
     }
 
-    fn with_flip(&self, index: u8, mask: Word) -> Self {
-        self.with(index, flipped(self.latch(index), mask))
-    }
-
-    fn with_force(&self, index: u8, mask: Word, value: Word) -> Self {
-        self.with(index, forced(self.latch(index), mask, value))
+    fn with(&self, index: u8, word: Word) -> Self {
+        match index {
+            0 => MultiplierState { pq: word, ..*self },
+            1 => MultiplierState {
+                control: word,
+                ..*self
+            },
+            2 => MultiplierState { m: word, ..*self },
+            3 => MultiplierState { h: word, ..*self },
+            _ => MultiplierState { q: word, ..*self },
+        }
     }
 
     fn same(&self, other: &Self) -> bool {

@@ -7,7 +7,7 @@ use crate::Bus;
 use crate::seen::{Doing, doing_of, here_of, instruction_of};
 use lvdc_isa::Op;
 use lvdc_map::Hop;
-use lvdc_vote::{LogicModule, Vote, flipped, forced, majority};
+use lvdc_vote::{LogicModule, Vote, majority};
 use lvdc_word::Word;
 
 /// The latch of the selector.
@@ -34,16 +34,8 @@ impl Vote for SelectorState {
         }
     }
 
-    fn with_flip(&self, _index: u8, mask: Word) -> Self {
-        SelectorState {
-            hold_place: flipped(self.hold_place, mask),
-        }
-    }
-
-    fn with_force(&self, _index: u8, mask: Word, value: Word) -> Self {
-        SelectorState {
-            hold_place: forced(self.hold_place, mask, value),
-        }
+    fn with(&self, _index: u8, word: Word) -> Self {
+        SelectorState { hold_place: word }
     }
 
     fn same(&self, other: &Self) -> bool {

@@ -1,4 +1,4 @@
-ghost use Rattle.std.specs.Prelude.{◌≡◌, ◌<◌, refl, slice_set};
+ghost use Rattle.std.specs.Prelude.{◌≡◌, refl};
 ghost use Rattle.std.proofs.Common.{ap};
 ghost use Rattle.lvdc_modules.specs.States.{timer_latches, timer_of};
 ghost use Rattle.lvdc_modules.specs.Timer.{held_by, timer_row};
@@ -6,7 +6,7 @@ ghost use Rattle.lvdc_modules.specs.Timer.{held_by, timer_row};
 use crate::Bus;
 use crate::seen::{Phase, hold_of, instruction_of, phase_of};
 use lvdc_isa::Op;
-use lvdc_vote::{LogicModule, Vote, flipped, forced, majority};
+use lvdc_vote::{LogicModule, Vote, majority};
 use lvdc_word::Word;
 
 /// The latches of the timer.
@@ -16,25 +16,6 @@ pub struct TimerState {
     pub phase: Word,
     /// HOLD, the instruction times for which nothing more is fetched.
     pub hold: Word,
-}
-
-impl TimerState {
-    /// The state with this word in one latch.
-    fn with(&self, index: u8, word: Word) -> TimerState
-        requires { index < 2 }
-        ensures { timer_latches result ≡ slice_set (timer_latches self.now) index word }
-    {
-        match index {
-            0 => TimerState {
-                phase: word,
-                ..*self
-            },
-            _ => TimerState {
-                hold: word,
-                ..*self
-            },
-        }
-    }
 }
 
 impl Vote for TimerState {
@@ -58,12 +39,17 @@ impl Vote for TimerState {
         }
     }
 
-    fn with_flip(&self, index: u8, mask: Word) -> Self {
-        self.with(index, flipped(self.latch(index), mask))
-    }
-
-    fn with_force(&self, index: u8, mask: Word, value: Word) -> Self {
-        self.with(index, forced(self.latch(index), mask, value))
+    fn with(&self, index: u8, word: Word) -> Self {
+        match index {
+            0 => TimerState {
+                phase: word,
+                ..*self
+            },
+            _ => TimerState {
+                hold: word,
+                ..*self
+            },
+        }
     }
 
     fn same(&self, other: &Self) -> bool {

@@ -101,6 +101,8 @@ soak_from x =
       orders = [];
       count = 200000;
       commands = [];
+      run_line = 0;
+      other_line = None;
     }
 
 -- the deck of the soak run of this number

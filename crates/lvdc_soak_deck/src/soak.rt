@@ -201,5 +201,7 @@ pub fn soak_deck(alloc: Global, number: u32) -> Result<Deck, NoMemory>
         orders: Orders::plain(),
         count: TIMES,
         commands: Seq::from_vec(Vec::new(alloc)),
+        run_line: 0,
+        other_line: None,
     })
 }

@@ -41,28 +41,15 @@ impl Vote for Total {
         }
     }
 
-    fn with_flip(&self, index: u8, mask: Word) -> Self {
+    fn with(&self, index: u8, word: Word) -> Self {
         match index {
             0 => Total {
-                total: flipped(self.total, mask),
+                total: word,
                 last: self.last,
             },
             _ => Total {
                 total: self.total,
-                last: flipped(self.last, mask),
-            },
-        }
-    }
-
-    fn with_force(&self, index: u8, mask: Word, value: Word) -> Self {
-        match index {
-            0 => Total {
-                total: forced(self.total, mask, value),
-                last: self.last,
-            },
-            _ => Total {
-                total: self.total,
-                last: forced(self.last, mask, value),
+                last: word,
             },
         }
     }

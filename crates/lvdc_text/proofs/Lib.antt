@@ -4,5 +4,7 @@ pub mod FirstParts
 pub mod Bounds
 pub mod Places
 pub mod Texts
+pub mod Joining
+mod Found
 pub mod ReadBack
 mod Rows

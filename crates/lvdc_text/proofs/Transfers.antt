@@ -42,6 +42,11 @@ room_more (Some x) None c n m h k = absurd h
 room_more (Some x) (Some y) None n m h k = absurd k
 room_more (Some x) (Some y) (Some z) n m h k = omega arith
 
+-- room for more is room for less
+pub room_less : (room : Option ℕ) (most n : ℕ) → HasRoom room most → n ≤ most → HasRoom room n
+room_less None most n has less = tt
+room_less (Some room) most n has less = omega arith
+
 -- while not all is written, there is room for a byte
 pub room_left : (a b : Option ℕ) (n all : ℕ) → HasRoom a all → RoomFalls a b n → n < all → HasRoom b 1
 room_left None None n all h k l = tt

@@ -77,9 +77,7 @@ impl FaultySource {
 }
 
 impl Source for FaultySource {
-    ghost left = { λ s. Some (drop s.at s.bytes.items) };
-
-    ghost read_faults = { λ s. s.calls.faults };
+    ghost state = { λ s. record { left = Some (drop s.at s.bytes.items); faults = s.calls.faults } };
 
     fn read(&mut self, buf: &mut [u8]) -> Result<usize, Failed>
         ensures bound { ReadsAtMost result buf.new }
@@ -135,11 +133,7 @@ impl FaultySink {
 }
 
 impl Sink for FaultySink {
-    ghost written = { λ s. Some s.bytes.items };
-
-    ghost room = { λ s. Some s.room };
-
-    ghost write_faults = { λ s. s.calls.faults };
+    ghost state = { λ s. record { written = Some s.bytes.items; faults = s.calls.faults; room = Some s.room } };
 
     fn write(&mut self, piece: &[u8]) -> Result<usize, Failed>
         requires { 0 < length piece.now → HasRoom (Some self.old.room) 1 }

@@ -5,6 +5,7 @@
 mod comment;
 mod cutting;
 mod faulty;
+mod headings;
 mod memory;
 mod numbers;
 mod standard;
@@ -14,6 +15,7 @@ mod transfer;
 pub use comment::{LONGEST_LINE, is_comment, is_long};
 pub use cutting::{Line, few_tokens, is_blank, lines, part, tokens};
 pub use faulty::{FaultySink, FaultySource};
+pub use headings::{is_alone, is_word, place_of};
 pub use memory::{MemorySink, MemorySource};
 pub use numbers::{decimal, octal, octal_word, plain_decimal, put_decimal, put_octal};
 pub use standard::{StdSink, StdSource};

@@ -36,9 +36,7 @@ pub(crate) fn copy_from(bytes: &[u8], at: usize, buf: &mut [u8], most: usize) ->
 }
 
 impl Source for MemorySource {
-    ghost left = { λ s. Some (drop s.at s.bytes.items) };
-
-    ghost read_faults = { λ _. 0 };
+    ghost state = { λ s. record { left = Some (drop s.at s.bytes.items); faults = 0 } };
 
     fn read(&mut self, buf: &mut [u8]) -> Result<usize, Failed> {
         let count = copy_from(self.bytes.as_slice(), self.at, buf, usize::MAX);
@@ -86,11 +84,7 @@ impl MemorySink {
 }
 
 impl Sink for MemorySink {
-    ghost written = { λ s. Some s.bytes.items };
-
-    ghost room = { λ s. Some s.room };
-
-    ghost write_faults = { λ _. 0 };
+    ghost state = { λ s. record { written = Some s.bytes.items; faults = 0; room = Some s.room } };
 
     fn write(&mut self, piece: &[u8]) -> Result<usize, Failed> {
         let count = self.room.min(piece.len());

@@ -25,9 +25,7 @@ impl<R: Read> StdSource<R> {
 }
 
 impl<R: Read> Source for StdSource<R> {
-    ghost left = { λ s. R.remaining s.inner };
-
-    ghost read_faults = { λ s. s.faults };
+    ghost state = { λ s. record { left = R.remaining s.inner; faults = s.faults } };
 
     fn read(&mut self, buf: &mut [u8]) -> Result<usize, Failed>
         ensures bound { ReadsAtMost result buf.new }
@@ -66,11 +64,7 @@ impl<W: Write> StdSink<W> {
 }
 
 impl<W: Write> Sink for StdSink<W> {
-    ghost written = { λ s. W.contents s.inner };
-
-    ghost room = { λ _. None };
-
-    ghost write_faults = { λ s. s.faults };
+    ghost state = { λ s. record { written = W.contents s.inner; faults = s.faults; room = None } };
 
     fn write(&mut self, piece: &[u8]) -> Result<usize, Failed>
         ensures count { TakesSome result piece.now }

@@ -32,12 +32,12 @@ pub struct WriteFault {
 
 /// Writes all the bytes, in pieces. Each turn writes at least one byte or ends.
 pub fn write_all<K: Sink>(sink: &mut K, bytes: &[u8]) -> Result<(), WriteFault>
-    requires { HasRoom (K.room sink.old) (length bytes.now) }
-    ensures all { OnOk result (Appends (K.written sink.old) (K.written sink.new) bytes.now) }
+    requires { HasRoom (K.state sink.old).room (length bytes.now) }
+    ensures all { OnOk result (Appends (K.state sink.old).written (K.state sink.new).written bytes.now) }
     ensures part { IfErr result (λ e. (e.written < length bytes.now)
-        × Appends (K.written sink.old) (K.written sink.new) (take e.written bytes.now)) }
-    ensures room { OnOk result (RoomFalls (K.room sink.old) (K.room sink.new) (length bytes.now)) }
-    ensures cause { HasCause (K.write_faults sink.old) (K.write_faults sink.new) result }
+        × Appends (K.state sink.old).written (K.state sink.new).written (take e.written bytes.now)) }
+    ensures room { OnOk result (RoomFalls (K.state sink.old).room (K.state sink.new).room (length bytes.now)) }
+    ensures cause { HasCause (K.state sink.old).faults (K.state sink.new).faults result }
 {
     let mut written = 0;
     while written < bytes.len() {
@@ -61,17 +61,17 @@ fn read_some<S: Source>(source: &mut S, bytes: &mut Vec<u8>, limit: usize) -> Re
     requires { vec_len bytes.old ≤ limit }
     // A turn takes at least one byte, or the source is at its end.
     ensures more { result ≡ Ok Turn.More → vec_len bytes.old < vec_len bytes.new }
-    ensures end { result ≡ Ok Turn.End → IsAtEnd (S.left source.new) }
-    ensures kept { OnOk result (KeepsWhatItTakes (S.left source.old) (S.left source.new)
+    ensures end { result ≡ Ok Turn.End → IsAtEnd (S.state source.new).left }
+    ensures kept { OnOk result (KeepsWhatItTakes (S.state source.old).left (S.state source.new).left
         bytes.old.items bytes.new.items) }
     ensures within { OnOk result (vec_len bytes.new ≤ limit) }
     ensures too_long { IsErrOf result ReadEnd.TooLong →
-        TookCount (S.left source.old) (S.left source.new) (limit + 1 - vec_len bytes.old) }
+        TookCount (S.state source.old).left (S.state source.new).left (limit + 1 - vec_len bytes.old) }
     ensures no_more { OnErr result (result ≢ Err ReadEnd.TooLong →
-        TookAtMost (S.left source.old) (S.left source.new) (limit - vec_len bytes.old)) }
-    ensures later { S.read_faults source.old ≤ S.read_faults source.new }
-    ensures fault { IsErrOf result ReadEnd.ReadFault → Rose (S.read_faults source.old) (S.read_faults source.new) }
-    ensures quiet { result ≢ Err ReadEnd.ReadFault → S.read_faults source.new ≡ S.read_faults source.old }
+        TookAtMost (S.state source.old).left (S.state source.new).left (limit - vec_len bytes.old)) }
+    ensures later { (S.state source.old).faults ≤ (S.state source.new).faults }
+    ensures fault { IsErrOf result ReadEnd.ReadFault → Rose (S.state source.old).faults (S.state source.new).faults }
+    ensures quiet { result ≢ Err ReadEnd.ReadFault → (S.state source.new).faults ≡ (S.state source.old).faults }
 {
     let mut buffer = [0u8; 4096];
     let room = limit - bytes.len();
@@ -95,18 +95,18 @@ fn read_some<S: Source>(source: &mut S, bytes: &mut Vec<u8>, limit: usize) -> Re
 /// Reads all bytes up to the end of the source, in pieces, at most `limit`. It takes no more than one byte past the limit,
 /// and memory only as the bytes come.
 pub fn read_all<S: Source>(alloc: Global, source: &mut S, limit: usize) -> Result<Vec<u8>, ReadEnd>
-    ensures all { IfOk result (λ v. Consumes (S.left source.old) (S.left source.new) v.items) }
-    ensures end { OnOk result (IsAtEnd (S.left source.new)) }
+    ensures all { IfOk result (λ v. Consumes (S.state source.old).left (S.state source.new).left v.items) }
+    ensures end { OnOk result (IsAtEnd (S.state source.new).left) }
     ensures within { IfOk result (λ v. vec_len v ≤ limit) }
     // Byte limit + 1 was taken in this case and in no other.
     ensures too_long { IsErrOf result ReadEnd.TooLong →
-        TookCount (S.left source.old) (S.left source.new) (limit + 1) }
+        TookCount (S.state source.old).left (S.state source.new).left (limit + 1) }
     ensures no_more { OnErr result (result ≢ Err ReadEnd.TooLong →
-        TookAtMost (S.left source.old) (S.left source.new) limit) }
+        TookAtMost (S.state source.old).left (S.state source.new).left limit) }
     // A fault is answered only where the count rose, and always where it grew.
-    ensures later { S.read_faults source.old ≤ S.read_faults source.new }
-    ensures fault { IsErrOf result ReadEnd.ReadFault → Rose (S.read_faults source.old) (S.read_faults source.new) }
-    ensures quiet { result ≢ Err ReadEnd.ReadFault → S.read_faults source.new ≡ S.read_faults source.old }
+    ensures later { (S.state source.old).faults ≤ (S.state source.new).faults }
+    ensures fault { IsErrOf result ReadEnd.ReadFault → Rose (S.state source.old).faults (S.state source.new).faults }
+    ensures quiet { result ≢ Err ReadEnd.ReadFault → (S.state source.new).faults ≡ (S.state source.old).faults }
 {
     let mut bytes = Vec::new(alloc);
     loop {

@@ -1,11 +1,12 @@
-ghost use Rattle.std.specs.Prelude.{◌≡◌, ℕ, ◌<◌, ◌↔◌, List, length, slice_get, IsTrue};
+ghost use Rattle.std.specs.Prelude.{◌≡◌, ℕ, ◌<◌, ◌↔◌, List, length, slice_get, slice_set, IsTrue};
 ghost use Rattle.lvdc_vote.specs.Bits.{TwoAre};
 ghost use Rattle.lvdc_vote.specs.Latches.{majority_of, IsMajority, flipped_at, forced_at};
 
+use crate::{flipped, forced};
 use lvdc_word::Word;
 
 /// The state of a module: latches that can be voted over and hurt.
-pub trait Vote: Drop {
+pub trait Vote: Drop + Sized {
     /// How many latches a state has.
     ghost LATCHES: { ℕ };
 
@@ -25,15 +26,26 @@ pub trait Vote: Drop {
         ensures words { latches result ≡ majority_of (latches a.now) (latches b.now) (latches c.now) }
         ensures bits { IsMajority (latches a.now) (latches b.now) (latches c.now) (latches result) };
 
+    /// The state with this word in one latch.
+    fn with(&self, index: u8, word: Word) -> Self
+        requires { index < LATCHES }
+        ensures { latches result ≡ slice_set (latches self.now) index word };
+
     /// The state with the bits under the mask turned over in one latch.
     fn with_flip(&self, index: u8, mask: Word) -> Self
         requires { index < LATCHES }
-        ensures { latches result ≡ flipped_at (latches self.now) index mask };
+        ensures { latches result ≡ flipped_at (latches self.now) index mask }
+    {
+        self.with(index, flipped(self.latch(index), mask))
+    }
 
     /// The state in one latch of which the bits under the mask are those of `value`.
     fn with_force(&self, index: u8, mask: Word, value: Word) -> Self
         requires { index < LATCHES }
-        ensures { latches result ≡ forced_at (latches self.now) index mask value };
+        ensures { latches result ≡ forced_at (latches self.now) index mask value }
+    {
+        self.with(index, forced(self.latch(index), mask, value))
+    }
 
     /// Have both states the same words?
     fn same(&self, other: &Self) -> bool

@@ -15,22 +15,18 @@ returns-clause-headline g c =
 
 pub returns-clause-inadmissible : goal.returns-clause-inadmissible
 returns-clause-inadmissible g c =
-    IfOk-weaker c.join.result _ _ (λ r h is. reply_runs c.args.command c.args.bytes.now Judges IsInadmissible 5 (inl refl) (record { of_job = c.statuses_caused.ensures.inadmissible; of_session = c.session_statuses.ensures.inadmissible; of_save = c.save_statuses.ensures.inadmissible; of_resume = c.resume_statuses.ensures.inadmissible }) _ is h) c.join.ensures.reply
-
-pub returns-clause-inadmissible_always : goal.returns-clause-inadmissible_always
-returns-clause-inadmissible_always g c =
-    IfOk-weaker c.join.result _ _ (λ r h free runs. reply_is c.args.command c.args.bytes.now Judges IsInadmissible 5 (record { of_job = c.statuses_caused.ensures.inadmissible_always; of_session = c.session_statuses.ensures.inadmissible_always; of_save = c.save_statuses.ensures.inadmissible_always; of_resume = c.resume_statuses.ensures.inadmissible_always }) _ free h runs) c.join.ensures.reply
+    IfOk-weaker c.join.result _ _ (λ r h. record {
+      only = λ is. reply_runs c.args.command c.args.bytes.now Judges IsInadmissible 5 (inl refl) (record { of_job = c.statuses_caused.ensures.inadmissible; of_session = c.session_statuses.ensures.inadmissible; of_save = c.save_statuses.ensures.inadmissible; of_resume = c.resume_statuses.ensures.inadmissible }) _ is h;
+      always = λ free runs. reply_is c.args.command c.args.bytes.now Judges IsInadmissible 5 (record { of_job = c.statuses_caused.ensures.inadmissible_always; of_session = c.session_statuses.ensures.inadmissible_always; of_save = c.save_statuses.ensures.inadmissible_always; of_resume = c.resume_statuses.ensures.inadmissible_always }) _ free h runs;
+    }) c.join.ensures.reply
 
 pub returns-clause-stopped : goal.returns-clause-stopped
 returns-clause-stopped g c =
-    IfOk-weaker c.join.result _ _ (λ r h is. reply_runs c.args.command c.args.bytes.now Stops IsStop 6 (inr refl) (record { of_job = c.statuses_caused.ensures.stopped; of_session = c.session_statuses.ensures.stopped; of_save = c.save_statuses.ensures.stopped; of_resume = c.resume_statuses.ensures.stopped }) _ is h) c.join.ensures.reply
-
-pub returns-clause-stopped_always : goal.returns-clause-stopped_always
-returns-clause-stopped_always g c =
-    IfOk-weaker c.join.result _ _ (λ r h free runs. reply_is c.args.command c.args.bytes.now Stops IsStop 6 (record { of_job = c.statuses_caused.ensures.stopped_always; of_session = c.session_statuses.ensures.stopped_always; of_save = c.save_statuses.ensures.stopped_always; of_resume = c.resume_statuses.ensures.stopped_always }) _ free h runs) c.join.ensures.reply
+    IfOk-weaker c.join.result _ _ (λ r h. record {
+      only = λ is. reply_runs c.args.command c.args.bytes.now Stops IsStop 6 (inr refl) (record { of_job = c.statuses_caused.ensures.stopped; of_session = c.session_statuses.ensures.stopped; of_save = c.save_statuses.ensures.stopped; of_resume = c.resume_statuses.ensures.stopped }) _ is h;
+      always = λ free runs. reply_is c.args.command c.args.bytes.now Stops IsStop 6 (record { of_job = c.statuses_caused.ensures.stopped_always; of_session = c.session_statuses.ensures.stopped_always; of_save = c.save_statuses.ensures.stopped_always; of_resume = c.resume_statuses.ensures.stopped_always }) _ free h runs;
+    }) c.join.ensures.reply
 
 pub returns-clause-kept : goal.returns-clause-kept
-returns-clause-kept g c = IfOk-weaker c.join.result _ _ (λ r h refused. reply_kept _ refused h) c.join.ensures.reply
-
-pub returns-clause-quiet : goal.returns-clause-quiet
-returns-clause-quiet g c = IfOk-weaker c.join.result _ _ (λ r h free. reply_quiet _ free h) c.join.ensures.reply
+returns-clause-kept g c =
+    IfOk-weaker c.join.result _ _ (λ r h. record { refused = λ refused. reply_kept _ refused h; quiet = λ free. reply_quiet _ free h }) c.join.ensures.reply

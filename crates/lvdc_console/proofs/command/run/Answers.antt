@@ -12,7 +12,7 @@ returns-clause-ends g c = end_over rack c.is_whole.ensures.rack c.lvdc.ensures.e
 pub returns-clause-answer : goal.returns-clause-answer
 returns-clause-answer g c =
     λ bytes told free.
-    answer_over (texts c.args.words.now) bytes (g.K.Sink.written c.args.sink.now) (g.K.Sink.written c.lvdc.new.sink) c.lvdc.result _ _ rack c.is_whole.ensures.rack (c.lvdc.ensures.answer bytes told free)
+    answer_over (texts c.args.words.now) bytes (g.K.Sink.state c.args.sink.now).written (g.K.Sink.state c.lvdc.new.sink).written c.lvdc.result _ _ rack c.is_whole.ensures.rack (c.lvdc.ensures.answer bytes told free)
 
 pub returns-clause-headline : goal.returns-clause-headline
 returns-clause-headline g c = λ asked free short. headline_over rack c.is_whole.ensures.rack (c.lvdc.ensures.headline asked free short)

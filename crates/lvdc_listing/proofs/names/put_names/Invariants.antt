@@ -1,5 +1,5 @@
 use Rattle.std.proofs.Common.{◌≡◌, ◌++◌, drop, flat_map}
-use Rattle.lvdc_image.specs.Image.{text_of}
+use Rattle.lvdc_text.specs.Joined.{text_of}
 use Rattle.lvdc_listing.specs.Listing.{placed_items, item_names}
 use Rattle.lvdc_listing.proofs.names.put_names.Given as goal
 

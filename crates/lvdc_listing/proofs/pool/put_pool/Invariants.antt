@@ -1,7 +1,7 @@
 use Rattle.std.proofs.Common.{◌≡◌, ◌++◌, drop, map}
 use Rattle.std.specs.Map.{values_of}
 use Rattle.lvdc_map.specs.Memory.{Memory, IsMemory}
-use Rattle.lvdc_image.specs.Image.{text_of}
+use Rattle.lvdc_text.specs.Joined.{text_of}
 use Rattle.lvdc_listing.specs.Rows.{pool_row}
 use Rattle.lvdc_listing.proofs.pool.put_pool.Given as goal
 

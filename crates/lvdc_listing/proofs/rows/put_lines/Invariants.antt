@@ -1,6 +1,6 @@
 use Rattle.std.proofs.Common.{◌≡◌, ◌++◌, ◌≤◌, drop, length, map}
 use Rattle.lvdc_map.specs.Memory.{memory_of}
-use Rattle.lvdc_image.specs.Image.{text_of}
+use Rattle.lvdc_text.specs.Joined.{text_of}
 use Rattle.lvdc_text.specs.Lines.{numbered}
 use Rattle.lvdc_listing.specs.Listing.{placed_items, item_field}
 use Rattle.lvdc_listing.specs.Rows.{line_rows}

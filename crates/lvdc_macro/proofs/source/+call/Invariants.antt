@@ -16,6 +16,6 @@ invariant-loop-line l = record {
   number : l.number < 1000;
   some : 0 < l.left;
   rest : (result : Result (Unit {0}) MacroFault) (new : Out) →
-      Meets result (body_from l.left (macros_of l.bytes l.macros) l.origin (progress_of l.out) (map (substituted l.number (map (λ a. a.now) l.entered.arguments.items)) (map (part_of l.bytes) (drop l.line-index l.body)))) l.out new →
-      Meets result (called l.left (macros_of l.bytes l.macros) l.origin (progress_of l.fn.out) l.labelled l.operand (map (part_of l.bytes) l.body)) l.fn.out new;
+      Meets result (body_from l.left (macros_of l.bytes l.macros) l.calling.origin (progress_of l.out) (map (substituted l.number (map (λ a. a.now) l.entered.arguments.items)) (map (part_of l.bytes) (drop l.line-index l.calling.body.now)))) l.out new →
+      Meets result (called l.left (macros_of l.bytes l.macros) l.calling.origin (progress_of l.fn.out) l.calling.labelled l.calling.operand.now (map (part_of l.bytes) l.calling.body.now)) l.fn.out new;
 }

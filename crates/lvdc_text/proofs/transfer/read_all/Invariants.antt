@@ -6,8 +6,8 @@ use Rattle.lvdc_text.proofs.transfer.read_all.Given as goal
 abbrev pub invariant-loop-bytes : goal.invariant-loop-bytes
 invariant-loop-bytes g l = record {
   within : vec_len l.bytes ≤ l.limit;
-  taken : Consumes (g.S.Source.left l.initial.source) (g.S.Source.left l.source) l.bytes.items;
-  quiet : g.S.Source.read_faults l.source ≡ g.S.Source.read_faults l.initial.source;
+  taken : Consumes (g.S.Source.state l.initial.source).left (g.S.Source.state l.source).left l.bytes.items;
+  quiet : (g.S.Source.state l.source).faults ≡ (g.S.Source.state l.initial.source).faults;
 }
 
 -- each turn takes at least one byte, or is the last

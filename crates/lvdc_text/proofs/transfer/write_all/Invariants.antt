@@ -7,9 +7,9 @@ use Rattle.lvdc_text.proofs.transfer.write_all.Given as goal
 abbrev pub invariant-loop-written : goal.invariant-loop-written
 invariant-loop-written g l = record {
   within : l.written ≤ length l.bytes;
-  appended : Appends (g.K.Sink.written l.initial.sink) (g.K.Sink.written l.sink) (take l.written l.bytes);
-  room : RoomFalls (g.K.Sink.room l.initial.sink) (g.K.Sink.room l.sink) l.written;
-  quiet : g.K.Sink.write_faults l.sink ≡ g.K.Sink.write_faults l.initial.sink;
+  appended : Appends (g.K.Sink.state l.initial.sink).written (g.K.Sink.state l.sink).written (take l.written l.bytes);
+  room : RoomFalls (g.K.Sink.state l.initial.sink).room (g.K.Sink.state l.sink).room l.written;
+  quiet : (g.K.Sink.state l.sink).faults ≡ (g.K.Sink.state l.initial.sink).faults;
 }
 
 abbrev pub decreases-loop-written : goal.decreases-loop-written
