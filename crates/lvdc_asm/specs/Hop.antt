@@ -53,6 +53,7 @@ abbrev pub hop_by : Spot → DataPlace → Option ℕ → Option HopConstant
 hop_by at assumed None = None
 hop_by at assumed (Some syl) = Some (hop_at at syl assumed)
 
+-- the HOP constant of what a name means, where that is a line of code
 abbrev pub hop_to : Target → Option HopConstant
 hop_to target = hop_by target.at target.assumed target.syl
 

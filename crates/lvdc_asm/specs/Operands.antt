@@ -86,6 +86,7 @@ abbrev pub hop_word : ℕ → Option HopConstant → Result ℕ AsmFault
 hop_word line None = Err (OutOfSector line)
 hop_word line (Some hop) = Ok (word_of_hop hop)
 
+-- the word of the HOP constant of a name, or what is wrong
 abbrev pub name_word : ℕ → Option Target → Result ℕ AsmFault
 name_word line None = Err (UndefinedName line)
 name_word line (Some target) = hop_word line (hop_to target)

@@ -63,6 +63,7 @@ abbrev pub end_by : Option Stop → ℕ → Option PlainEnd
 end_by None times = None
 end_by (Some why) times = Some (plain.Stopped (3 * times - 1) why)
 
+-- the same, of a plain state
 abbrev pub end_in : PlainState → Option PlainEnd
 end_in p = end_by p.stop p.times
 

@@ -133,12 +133,15 @@ Has P Q (Some command) bytes devices = RunsThat P Q command (input_of command by
 
 -- ---- what the words and the bytes alone decide leaves the devices as they were
 
+-- the words are no command line
 abbrev pub usage_answer : List Device → Answer
 usage_answer devices = answer_with 1 usage_text devices
 
+-- a read failed
 abbrev pub read_fault_answer : List Device → Answer
 read_fault_answer devices = answer_with 7 read_fault_text devices
 
+-- the input is longer than the limit
 abbrev pub too_long_answer : List Device → Answer
 too_long_answer devices = answer_with 11 too_long_text devices
 
@@ -148,6 +151,7 @@ memory_answer devices = answer_with 9 [] devices
 
 -- ---- the whole
 
+-- the answer to a command, or to words that are none, over these bytes and devices
 abbrev pub answer_by : Option Command → List ℕ → List Device → Answer
 answer_by None bytes devices = usage_answer devices
 answer_by (Some command) bytes devices =

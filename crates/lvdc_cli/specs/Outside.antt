@@ -8,5 +8,6 @@ pub record Outside (B : Type 0) : Type 0 where
   pub sink : SinkState
   pub devices : List B
 
+-- a source, a sink and devices as one
 abbrev pub outside : {B : Type 0} → SourceState → SinkState → List B → Outside B
 outside source sink devices = record { source = source; sink = sink; devices = devices }

@@ -34,6 +34,7 @@ use Rattle.lvdc_command_run.specs.Refusals.{refused_answer}
 abbrev pub account_text : Trial → Account → Voted → List ℕ
 account_text o told v = account_front o told ++ wrong_text v.counts ++ repairs_text v.repairs
 
+-- the answer of `run`: the status of the account's end, its report, and the devices that are left
 abbrev pub account_answer : Trial → Account → Voted → Answer
 account_answer o told v = answer_with (end_status told.end) (account_text o told v) told.devices
 
@@ -55,6 +56,7 @@ soak_account_text number told v =
     number_line (codes "LVDC SOAK") number ++ end_text told.end ++ times_line told.plain.times ++ word_line (codes "A") told.plain.a
     ++ number_line (codes "WRONG") (all_counts v.counts) ++ number_line (codes "REPAIRS") (length v.repairs)
 
+-- the answer of a soak run, by its account
 abbrev pub soak_answer : ℕ → Account → Voted → Answer
 soak_answer number told v = answer_with (end_status told.end) (soak_account_text number told v) told.devices
 

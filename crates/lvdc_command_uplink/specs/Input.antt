@@ -89,6 +89,7 @@ pub record Request : Type 0 where
   pub image : Contents
   pub messages : List (List ℕ)
 
+-- the image that was read, with the lines that are sent to it; or its refusal
 abbrev pub with_image : List (List ℕ) → Result Contents ImageFault → Result Request PatchFault
 with_image messages (Ok image) = Ok (record { image = image; messages = messages })
 with_image messages (Err fault) = Err (faults.Image fault)

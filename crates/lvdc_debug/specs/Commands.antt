@@ -31,6 +31,7 @@ abbrev pub alone_in : Command → List (List ℕ) → Option Command
 alone_in command [] = Some command
 alone_in command _ = None
 
+-- BREAK, where the place and the syllable have their form
 abbrev pub break_of : Option Spot → Option ℕ → Option Command
 break_of (Some at) (Some syl) = Some (Break (record { at = at; syl = syl }))
 break_of _ _ = None
@@ -50,6 +51,7 @@ abbrev pub mem_in : List (List ℕ) → Option Command
 mem_in (pair ∷ sector ∷ loc ∷ n ∷ []) = mem_of (place_in pair sector loc) (count_in n)
 mem_in _ = None
 
+-- DIS, where all is in its form and the instructions end within the sector
 abbrev pub dis_of : Option Spot → Option ℕ → Option ℕ → Option Command
 dis_of (Some at) (Some syl) (Some count) = if nat_le (at.loc + count) 256 then Some (Dis at syl count) else None
 dis_of _ _ _ = None

@@ -201,6 +201,7 @@ abbrev pub line_answer : Subject → Course → Option Command → List ℕ
 line_answer s c (Some command) = answer s c command
 line_answer s c None = codes "BAD COMMAND\n"
 
+-- where the session stands after a line: what is no command changes nothing
 abbrev pub line_course : Subject → Course → Option Command → Course
 line_course s c (Some command) = after_command s c command
 line_course s c None = c

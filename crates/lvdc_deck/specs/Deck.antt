@@ -74,6 +74,7 @@ abbrev pub count_by : Bool → ℕ → Option ℕ → Result ℕ DeckFault
 count_by true next (Some count) = Ok count
 count_by complete next count = Err (BadSection next)
 
+-- the count of these sections, where none is missing
 abbrev pub count_in : Bool → ℕ → Sections → Result ℕ DeckFault
 count_in debugging next s = count_by (not debugging || is_debug s.section) next s.count
 
@@ -88,6 +89,7 @@ abbrev pub by_image : Result Contents ImageFault → Result Program DeckFault
 by_image (Ok contents) = Ok (programs.Image contents)
 by_image (Err fault) = Err (Image fault)
 
+-- the same of an assembled source
 abbrev pub by_assembly : Result Assembled AsmFault → Result Program DeckFault
 by_assembly (Ok assembled) = Ok (programs.Source assembled)
 by_assembly (Err fault) = Err (Asm fault)
@@ -150,6 +152,7 @@ deck_with contents start told count =
       other_line = told.sections.other_line;
     }
 
+-- the deck of a program and of what the sections told, where START names a line of code or a constant
 abbrev pub made_of : Program → Told → ℕ → Result Deck DeckFault
 made_of program told count = and_then (start_in program told.sections.start) (λ start. Ok (deck_with (image_in program) start told count))
 

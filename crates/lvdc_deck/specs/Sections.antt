@@ -117,6 +117,7 @@ entry_by kind number token (Some w) = Some (Constant (hop_of w))
 entry_by Source number token None = if is_name token then Some (Name number token) else None
 entry_by Image number token None = None
 
+-- what a token of START means: a HOP constant, or before a source a name
 abbrev pub entry_in : ProgramKind → ℕ → List ℕ → Option EntryPoint
 entry_in kind number token = entry_by kind number token (word_in token)
 

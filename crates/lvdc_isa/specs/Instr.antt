@@ -19,6 +19,7 @@ fourteen address =
 abbrev pub operations : List Op
 operations = Hop ∷ Mpy ∷ Sub ∷ Div ∷ Tnz ∷ Mph ∷ And ∷ Add ∷ Tra ∷ Xor ∷ Pio ∷ Sto ∷ Tmi ∷ Rsu ∷ Cds ∷ Cla ∷ []
 
+-- the operation of a code; code 14 is told apart by the address
 abbrev pub operation : ℕ → ℕ → Op
 operation c address = if c == 14 then fourteen address else slice_index_or operations c Cla
 

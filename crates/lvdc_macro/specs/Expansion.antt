@@ -29,6 +29,7 @@ pub record Piece : Type 0 where
   pub lines : List Written
   pub after : Progress
 
+-- a piece of these lines, after which the expansion has come so far
 abbrev pub piece_of : List Written → Progress → Piece
 piece_of lines after = record { lines = lines; after = after }
 
@@ -83,6 +84,7 @@ pub record State : Type 0 where
   pub pending : Option Macro
   pub progress : Progress
 
+-- before the first line nothing is defined and nothing is written
 abbrev pub start : State
 start = record { macros = []; pending = None; progress = record { calls = 0; size = 0 } }
 
@@ -91,6 +93,7 @@ pub record Step : Type 0 where
   pub lines : List Written
   pub state : State
 
+-- what these lines bring, and the state after them
 abbrev pub step_of : List Written → State → Step
 step_of lines state = record { lines = lines; state = state }
 

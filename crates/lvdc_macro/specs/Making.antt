@@ -19,6 +19,7 @@ pub record Out : Type 0 where
   pub origins : List ℕ
   pub calls : ℕ
 
+-- how far the expansion has come: the calls that began, and the bytes that were written
 abbrev pub progress_of : Out → Progress
 progress_of out = record { calls = out.calls; size = length out.bytes }
 
@@ -28,6 +29,7 @@ pub record IsWritten (piece : Piece) (old new : Out) : Type 0 where
   pub origins : new.origins ≡ old.origins ++ origins_of piece.lines
   pub after : progress_of new ≡ piece.after
 
+-- a piece that the definition has was written; where it refuses, nothing is said
 abbrev pub Writes : Result Piece MacroFault → Out → Out → Type 0
 Writes (Ok piece) old new = IsWritten piece old new
 Writes (Err fault) old new = ⊥
@@ -41,6 +43,7 @@ Meets (Err fault) due old new = fault ≢ WantsMemory → due ≡ Err fault
 abbrev pub macro_of : List ℕ → List ℕ × List Line → Macro
 macro_of bytes entry = record { name = entry.0; body = map (part_of bytes) entry.1 }
 
+-- the macros of a table
 abbrev pub macros_of : List ℕ → List (List ℕ × List Line) → List Macro
 macros_of bytes entries = map (macro_of bytes) entries
 
@@ -82,6 +85,7 @@ pub record IsBrought (step : Step) (old new : Out) (left : State) : Type 0 where
   pub origins : new.origins ≡ old.origins ++ origins_of step.lines
   pub state : step.state ≡ left
 
+-- what the definition says of a line was done; where it refuses, nothing is said
 abbrev pub Brings : Result Step MacroFault → Out → Out → State → Type 0
 Brings (Ok step) old new left = IsBrought step old new left
 Brings (Err fault) old new left = ⊥

@@ -84,6 +84,7 @@ spot_in _ slot = None
 abbrev pub next_slot : Body → Slot → List Slot → Slot
 next_slot body slot places = if begins_block body then slice_index_or places 0 slot else slot_after slot (size_of body)
 
+-- the places of the blocks that are still to begin after this line
 abbrev pub later_places : Body → List Slot → List Slot
 later_places body places = if begins_block body then drop 1 places else places
 

@@ -20,6 +20,7 @@ fetched_by None zero p = Some (fetch_of p.banks p.place)
 fetched_by None (suc hold) p = None
 fetched_by (Some s) hold p = None
 
+-- the address that is fetched in the next time of a plain state, if any
 abbrev pub fetched : PlainState → Option Spot
 fetched p = fetched_by p.stop p.hold p
 
@@ -29,6 +30,7 @@ spot_of (Memory at) = Some at
 spot_of Pq = None
 spot_of (Saver at) = Some at
 
+-- the address of an instruction's operand in memory, where it takes one there
 abbrev pub operand_of : PlainState → Instr → Option Spot
 operand_of p i = if takes_operand i.op then spot_of (operand_place p i.address) else None
 
@@ -38,6 +40,7 @@ operand_by None zero p = operand_of p (fetched_instr p)
 operand_by None (suc hold) p = None
 operand_by (Some s) hold p = None
 
+-- the address that is read as an operand in the next time, if any
 abbrev pub operand : PlainState → Option Spot
 operand p = operand_by p.stop p.hold p
 
@@ -46,15 +49,18 @@ pub record Store : Type 0 where
   pub at : Spot
   pub word : ℕ
 
+-- what STO stores at a place: A in memory, the saver in a saver's word, nothing in memory at PQ
 abbrev pub store_to : PlainState → Place → Option Store
 store_to p (Memory at) = Some (record { at = at; word = p.a })
 store_to p (Saver at) = Some (record { at = at; word = p.saver })
 store_to p Pq = None
 
+-- what an instruction stores in memory, if anything
 abbrev pub store_of : PlainState → Op → ℕ → Option Store
 store_of p Sto address = store_to p (operand_place p address)
 store_of p _ address = None
 
+-- what is stored in the next time: nothing where the machine has stopped or holds
 abbrev pub store_by : Option Stop → ℕ → PlainState → Option Store
 store_by None zero p = store_of p (fetched_instr p).op (fetched_instr p).address
 store_by None (suc hold) p = None

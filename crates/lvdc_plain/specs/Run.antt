@@ -36,6 +36,7 @@ abbrev pub time_by : Option Stop → List Unplug → World → World
 time_by (Some s) unplugs w = w
 time_by None unplugs w = step w.plain (plugged unplugs w.plain.times w.devices)
 
+-- one time of a run, of a plain state and its devices
 abbrev pub time : List Unplug → World → World
 time unplugs w = time_by w.plain.stop unplugs w
 

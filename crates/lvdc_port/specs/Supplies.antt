@@ -36,6 +36,7 @@ pub record IsSuppliedInPart (supplies : List Supply) (old new : List Device) : T
 abbrev pub ports_of : List Device → List ℕ
 ports_of devices = map (λ device. device.port) devices
 
+-- the kinds of devices
 abbrev pub kinds_of : List Device → List Kind
 kinds_of devices = map (λ device. device.kind) devices
 

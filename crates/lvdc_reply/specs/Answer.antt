@@ -3,11 +3,13 @@ use Rattle.std.specs.Prelude.{ℕ, List, ◌++◌, codes, decimal}
 use Rattle.lvdc_port.specs.Device.{Device}
 use Rattle.lvdc_reply.specs.declared.reply.Reply.{Reply}
 
+-- what is answered: a status, a text, and what the devices are then
 pub record Answer : Type 0 where
   pub status : ℕ
   pub text : List ℕ
   pub devices : List Device
 
+-- the answer of these three
 abbrev pub answer_with : ℕ → List ℕ → List Device → Answer
 answer_with status text devices = record { status = status; text = text; devices = devices }
 

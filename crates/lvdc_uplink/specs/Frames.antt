@@ -31,6 +31,7 @@ pub record Fits (frame : Frame) : Type 0 where
   pub sector : frame.at.sector < 16
   pub stays : stays frame ≡ true
 
+-- a frame that is staged fits an image
 abbrev pub FitsIfStaged : Option Frame → Type 0
 FitsIfStaged None = Unit {0}
 FitsIfStaged (Some frame) = Fits frame

@@ -36,6 +36,7 @@ named id (Some load) = if load.id == id then Some load else None
 
 -- ---- OPEN, by the load that is open
 
+-- what OPEN is answered, by the load that is open: the same one again, another one, none
 abbrev pub opens : ℕ → ℕ → Link → Option Load → Step
 opens id count link (Some load) =
     says (if load.id == id && length load.frames == count then Opened id else Busy load.id) link
@@ -63,6 +64,7 @@ files number frame check load =
     else (if check == frame_check load.id number frame then stages number frame load (staged load number)
     else record { answer = Check (frame_check load.id number frame); load = load })
 
+-- what FRAME is answered and what it changes, by the open load of its id
 abbrev pub frames : ℕ → Frame → ℕ → Link → Option Load → Step
 frames number frame check link None = says NoLoad link
 frames number frame check link (Some load) =
@@ -75,6 +77,7 @@ abbrev pub refusal_by : ℕ → Load → Option ℕ → Option Answer
 refusal_by check load (Some number) = Some (Missing number)
 refusal_by check load None = if check == load_check load then None else Some (Check (load_check load))
 
+-- what stands against a commit: a frame that is missing, or a wrong check word
 abbrev pub refusal_of : ℕ → Load → Option Answer
 refusal_of check load = refusal_by check load (missing_in load)
 
@@ -84,6 +87,7 @@ applies check link load (Some answer) = says answer link
 applies check link load None =
     record { answer = Committed load.id; link = record { image = patched link.image load; load = None; last = load.id; check = check } }
 
+-- what COMMIT is answered and what it changes, by the open load of its id
 abbrev pub commits : ℕ → Link → Option Load → Step
 commits check link None = says NoLoad link
 commits check link (Some load) = applies check link load (refusal_of check load)
@@ -95,18 +99,21 @@ recommits id check link =
 
 -- ---- ABANDON, by the open load of its id
 
+-- what ABANDON is answered and what it changes
 abbrev pub abandons : Link → Option Load → Step
 abandons link None = says NoLoad link
 abandons link (Some load) = record { answer = Abandoned load.id; link = record link { load = None } }
 
 -- ---- messages
 
+-- what a message is answered and what the link is then
 abbrev pub after_message : Link → Message → Step
 after_message link (messages.Open id count) = opens id count link link.load
 after_message link (messages.Frame id number frame check) = frames number frame check link (named id link.load)
 after_message link (messages.Commit id check) = recommits id check link
 after_message link (messages.Abandon id) = abandons link (named id link.load)
 
+-- the same of a line, which may be no message
 abbrev pub by_message : Link → Option Message → Step
 by_message link None = says Form link
 by_message link (Some message) = after_message link message
@@ -125,10 +132,12 @@ is_acknowledged (Committed id) = true
 is_acknowledged (Abandoned id) = true
 is_acknowledged _ = false
 
+-- the answer acknowledges OPEN
 abbrev pub is_opened : Answer → Bool
 is_opened (Opened id) = true
 is_opened _ = false
 
+-- the answer acknowledges COMMIT
 abbrev pub is_committed : Answer → Bool
 is_committed (Committed id) = true
 is_committed _ = false

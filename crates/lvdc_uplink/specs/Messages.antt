@@ -28,6 +28,7 @@ abbrev pub and_words : Option ℕ → Option (List ℕ) → Option (List ℕ)
 and_words (Some word) (Some words) = Some (word ∷ words)
 and_words _ _ = None
 
+-- the words of these texts, where each is one
 abbrev pub words_in : List (List ℕ) → Option (List ℕ)
 words_in [] = Some []
 words_in (text ∷ texts) = and_words (word_in text) (words_in texts)
@@ -38,6 +39,7 @@ content_in texts = if nat_lt 0 (length texts) && nat_le (length texts) 8 then wo
 
 -- ---- forms
 
+-- OPEN, where each field has its form
 abbrev pub open_of : Option ℕ → Option ℕ → Option Message
 open_of (Some id) (Some count) = Some (messages.Open id count)
 open_of _ _ = None
@@ -56,10 +58,12 @@ abbrev pub checked_of : Spot → Option (List ℕ) → Option ℕ → Option (Fr
 checked_of at (Some words) (Some check) = Some (frame_at at words, check)
 checked_of at _ _ = None
 
+-- a frame at an address and its check word, by the texts behind the address
 abbrev pub checked_in : Spot → List (List ℕ) → Option (Frame × ℕ)
 checked_in at texts =
     checked_of at (content_in (take (length texts - 1) texts)) (word_in (slice_index_or texts (length texts - 1) []))
 
+-- FRAME, where each field has its form
 abbrev pub frame_of : Option ℕ → Option ℕ → Option (Frame × ℕ) → Option Message
 frame_of (Some id) (Some number) (Some checked) = Some (messages.Frame id number checked.0 checked.1)
 frame_of _ _ _ = None
@@ -70,6 +74,7 @@ frame_in (id ∷ number ∷ pair ∷ sector ∷ loc ∷ rest) =
     frame_of (id_in id) (count_in number) (option_and_then (λ at. checked_in at rest) (place_in pair sector loc))
 frame_in _ = None
 
+-- COMMIT, where each field has its form
 abbrev pub commit_of : Option ℕ → Option ℕ → Option Message
 commit_of (Some id) (Some check) = Some (messages.Commit id check)
 commit_of _ _ = None
