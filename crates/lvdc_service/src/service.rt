@@ -1,0 +1,91 @@
+ghost use Rattle.std.specs.Prelude.{◌≡◌, length, None};
+ghost use Rattle.lvdc_text.specs.Room.{HasRoom};
+ghost use Rattle.lvdc_cli.specs.Outside.{source_state, sink_state};
+ghost use Rattle.lvdc_cli.specs.Top.{IsTold};
+ghost use Rattle.lvdc_service.specs.Service.{IsServiceEnd};
+ghost use Rattle.lvdc_service.specs.Served.{reply_with, usage_text};
+ghost use Rattle.lvdc_service.specs.Turns.{stream, IsFinished, IsTurn};
+
+use crate::due::USAGE;
+use crate::frame::{Next, next_frame};
+use crate::write::{bad_frame, write_reply};
+use lvdc_frames::Reader;
+use lvdc_text::{Sink, Source, write_all};
+use std::alloc::Global;
+
+/// Writes the last reply, and answers the status that goes with it, or 8.
+fn finish<K: Sink>(sink: &mut K, status: u8, text: &[u8]) -> u8
+    requires { K.room sink.old ≡ None }
+    ensures { IsFinished (sink_state (K.written sink.old) (K.write_faults sink.old) (K.room sink.old))
+        (sink_state (K.written sink.new) (K.write_faults sink.new) (K.room sink.new)) (reply_with status text.now) result }
+{
+    if write_reply(sink, status, text) {
+        status
+    } else {
+        8
+    }
+}
+
+/// Uses the next frame and answers it. Where the service ends, it says with which status.
+fn turn<S: Source, K: Sink>(
+    alloc: Global,
+    number: u32,
+    reader: &mut Reader,
+    source: &mut S,
+    sink: &mut K,
+) -> Option<u8>
+    requires { K.room sink.old ≡ None }
+    ensures { IsTurn number (stream reader.old (source_state (S.left source.old) (S.read_faults source.old)))
+        (stream reader.new (source_state (S.left source.new) (S.read_faults source.new)))
+        (sink_state (K.written sink.old) (K.write_faults sink.old) (K.room sink.old))
+        (sink_state (K.written sink.new) (K.write_faults sink.new) (K.room sink.new)) result }
+{
+    match next_frame(alloc, reader, source) {
+        Next::Request(due) => {
+            if write_reply(sink, due.status(), due.text()) {
+                None
+            } else {
+                Some(8)
+            }
+        }
+        Next::Ended => Some(0),
+        Next::BadFrame => Some(finish(sink, 2, bad_frame(number).as_slice())),
+        Next::ReadFault => Some(finish(sink, 7, b"REFUSED ReadFault\n")),
+    }
+}
+
+/// Answers the frames of a source, one reply to each, in their order, and answers the exit status. A reply is written before
+/// any byte of the next frame is waited for. `sink` is one that doesn't tell its room.
+pub fn serve<S: Source, K: Sink>(alloc: Global, source: &mut S, sink: &mut K) -> u8
+    requires { K.room sink.old ≡ None }
+
+    // What is written is the replies that are due over the bytes of the source, and the status is the one that is due; where a
+    // read failed, those to some first frames; where a write failed, a front of them.
+    ensures { IsServiceEnd (source_state (S.left source.old) (S.read_faults source.old))
+        (source_state (S.left source.new) (S.read_faults source.new))
+        (sink_state (K.written sink.old) (K.write_faults sink.old) (K.room sink.old))
+        (sink_state (K.written sink.new) (K.write_faults sink.new) (K.room sink.new)) result }
+{
+    let mut reader = Reader::new();
+    let mut number = 0;
+    while number < u32::MAX {
+        number += 1;
+        match turn(alloc, number, &mut reader, source, sink) {
+            Some(status) => return status,
+            None => {}
+        }
+    }
+    0
+}
+
+/// Writes the usage text, for a call of the program with words, and answers the status that goes with it, or 8.
+pub fn refuse<K: Sink>(sink: &mut K) -> u8
+    requires { HasRoom (K.room sink.old) (length usage_text) }
+    ensures { IsTold (sink_state (K.written sink.old) (K.write_faults sink.old) (K.room sink.old))
+        (sink_state (K.written sink.new) (K.write_faults sink.new) (K.room sink.new)) 1 usage_text result }
+{
+    match write_all(sink, USAGE) {
+        Ok(()) => 1,
+        Err(_) => 8,
+    }
+}
