@@ -1,5 +1,5 @@
 -- What the top call promises over boxes is what it promises over the devices that the boxes are.
-use Rattle.std.proofs.Common.{◌≡◌, ℕ, List, map, false, Ok, refl, sym, subst, ◌∙◌}
+use Rattle.std.proofs.Common.{◌≡◌, ◌≢◌, ℕ, List, map, false, Ok, Err, Result, IfOk, refl, sym, subst, ◌∙◌}
 use Rattle.std.proofs.lemmas.List.{map-id}
 use Rattle.std.specs.declared.option.Option.{Option}
 use Rattle.std.specs.Io.KnownBytes.{Appends}
@@ -9,13 +9,17 @@ use Rattle.lvdc_deck.specs.Deck.{deck_of}
 use Rattle.lvdc_deck.specs.declared.deck.Deck.{Deck}
 use Rattle.lvdc_reply.specs.Answer.{Answer, answer_with}
 use Rattle.lvdc_reply.specs.Replies.{answered, failed}
+use Rattle.lvdc_reply.specs.declared.reply.Reply.{Reply as Told}
+use Rattle.lvdc_word.specs.declared.memory.NoMemory.{NoMemory}
+use Rattle.lvdc_command_run.specs.declared.job.Engine.TheVariants.{Guarded}
 use Rattle.lvdc_command_run.specs.Headline.{Headline}
 use Rattle.lvdc_command_run.specs.Trials.{trial_of}
 use Rattle.lvdc_cli.specs.declared.command.Command.{Command}
-use Rattle.lvdc_cli.specs.Commands.{IsReplyTo, answer}
+use Rattle.lvdc_cli.specs.declared.command.Command.TheVariants.{Run}
+use Rattle.lvdc_cli.specs.Commands.{IsReplyTo, HoldsFor, answer}
 use Rattle.lvdc_cli.specs.Outside.{Outside, outside}
 use Rattle.lvdc_cli.specs.Top.{IsDue, usage, read_fault, too_long, replied, wants_memory, IsEnd, CarriesHeadline}
-use Rattle.lvdc_console.specs.Over.{IsReplyOver, answered as answered_over, failed as failed_over, IsDueOver, usage as usage_over, read_fault as read_fault_over, too_long as too_long_over, replied as replied_over, wants_memory as wants_memory_over, IsAnswerOver, CarriesHeadlineOver}
+use Rattle.lvdc_console.specs.Over.{IsReplied, IsReplyOver, answered as answered_over, failed as failed_over, IsDueOver, usage as usage_over, read_fault as read_fault_over, too_long as too_long_over, replied as replied_over, wants_memory as wants_memory_over, IsAnswerOver, CarriesHeadlineOver}
 
 module _ {B : Type 0} {device_of : B → Device} {faults : B → ℕ} where
   reply_over : {command : Command} {bytes : List ℕ} {old new : List B} {reply : Answer}
@@ -64,3 +68,17 @@ pub answer_over : (words : List (List ℕ)) (bytes : List ℕ) (written now : Op
     → (status ≡ (answer words bytes devices).status) × Appends written now (answer words bytes devices).text
 answer_over words bytes written now status old left devices is said =
     subst (λ (ds : List Device). (status ≡ (answer words bytes ds).status) × Appends written now (answer words bytes ds).text) is (said.0, said.1)
+
+-- ---- a reply with no source and no sink
+
+-- what holds of a reply over boxes holds of it over the devices that the boxes are
+pub replied_over_rack : {B : Type 0} (device_of : B → Device) (faults : B → ℕ) (command : Command) (bytes : List ℕ) (result : Result Told NoMemory) (old new : List B) (devices : List Device) → map device_of old ≡ devices
+    → IfOk result (λ reply. IsReplyTo device_of faults command bytes old new (answer_with reply.status reply.text (map device_of new)))
+    → IfOk result (λ reply. HoldsFor command bytes (map device_of old) (answer_with reply.status reply.text (map device_of new)))
+    → IfOk result (λ reply. reply.status ≢ 10 → (deck : Deck) → command ≡ Run Guarded → deck_of bytes (map device_of old) false ≡ Ok deck
+    → Headline (trial_of (map device_of old) deck) deck.count (answer_with reply.status reply.text (map device_of new)))
+    → IfOk result (λ reply. IsReplied devices command bytes reply.status reply.text)
+replied_over_rack device_of faults command bytes (Err e) old new devices is reply holds headline = tt
+replied_over_rack device_of faults command bytes (Ok told) old new devices is reply holds headline =
+    subst (λ (ds : List Device). IsReplied ds command bytes told.status told.text) is
+    (record { left = map device_of new; is_reply = reply_over reply; holds = holds; headline = headline })

@@ -1,12 +1,18 @@
 -- How the program answers: as the top call does over devices of which only the start is known outside.
-use Rattle.std.specs.Prelude.{◌≡◌, ℕ, ◌+◌, true, List, [], IsSome}
+use Rattle.std.specs.Prelude.{◌≡◌, ◌≢◌, ℕ, ◌+◌, true, false, List, [], IsSome, Ok}
 use Rattle.std.specs.declared.option.Option.TheVariants.{None, Some}
 use Rattle.lvdc_text.specs.Causes.{Rose}
 use Rattle.lvdc_text.specs.Streams.{SourceState, SinkState}
 use Rattle.lvdc_text.specs.Transfer.{TookCount, TookAtMost}
 use Rattle.lvdc_port.specs.Device.{Device}
-use Rattle.lvdc_reply.specs.Answer.{Answer}
+use Rattle.lvdc_deck.specs.Deck.{deck_of}
+use Rattle.lvdc_deck.specs.declared.deck.Deck.{Deck}
+use Rattle.lvdc_reply.specs.Answer.{Answer, answer_with}
+use Rattle.lvdc_command_run.specs.declared.job.Engine.TheVariants.{Guarded}
+use Rattle.lvdc_command_run.specs.Headline.{Headline}
+use Rattle.lvdc_command_run.specs.Trials.{trial_of}
 use Rattle.lvdc_cli.specs.declared.command.Command.{Command}
+use Rattle.lvdc_cli.specs.declared.command.Command.TheVariants.{Run}
 use Rattle.lvdc_cli.specs.Words.{command_of, reads, limit_for}
 use Rattle.lvdc_cli.specs.Texts.{usage_text, read_fault_text, too_long_text}
 use Rattle.lvdc_cli.specs.Commands.{command_answer, FailsInCommand, HoldsFor}
@@ -19,6 +25,15 @@ pub data IsReplyOver (devices : List Device) (command : Command) (bytes : List �
   answered : reply ≡ command_answer command bytes devices → IsReplyOver devices command bytes reply
   failed : (step port : ℕ) → FailsInCommand command bytes devices step port reply → reply.status ≡ 10
       → IsReplyOver devices command bytes reply
+
+-- A command's reply over these bytes and devices, by its status and text: what holds of a reply holds of it with some devices that
+-- are left; and where no device fails, the headline does too.
+pub record IsReplied (devices : List Device) (command : Command) (bytes : List ℕ) (status : ℕ) (text : List ℕ) : Type 0 where
+  pub left : List Device
+  pub is_reply : IsReplyOver devices command bytes (answer_with status text left)
+  pub holds : HoldsFor command bytes devices (answer_with status text left)
+  pub headline : status ≢ 10 → (deck : Deck) → command ≡ Run Guarded → deck_of bytes devices false ≡ Ok deck
+      → Headline (trial_of devices deck) deck.count (answer_with status text left)
 
 -- The status and the text that are due over these devices, by the words and by the source before and after: the cases of the top call.
 pub data IsDueOver (devices : List Device) (words : List (List ℕ)) (before after : SourceState) : ℕ → List ℕ → Type 0 where

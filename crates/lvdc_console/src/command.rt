@@ -9,7 +9,7 @@ ghost use Rattle.lvdc_cli.specs.Commands.{answer, room_for};
 ghost use Rattle.lvdc_cli.specs.Top.{IsInput, IsUnhindered};
 ghost use Rattle.lvdc_console.specs.Over.{IsAnswerOver, CarriesHeadlineOver};
 
-use crate::devices::{four_tapes, other_devices, plug_in_four};
+use crate::devices::{four_tapes, other_devices, plug_in_four, sixteen_devices};
 use crate::rack::is_whole;
 use lvdc_cli::lvdc;
 use lvdc_text::{Sink, Source};
@@ -43,15 +43,6 @@ pub fn run<S: Source, K: Sink>(
     // Where there is no memory for the devices, nothing was read and nothing written.
     ensures err { OnErr result ((source.new ≡ source.old) × (sink.new ≡ sink.old)) }
 {
-    let mut devices = Vec::with_capacity(alloc, 16)?;
-    let low = four_tapes(alloc, 0o0)?;
-    plug_in_four(&mut devices, 0o0, low.0, low.1, low.2, low.3);
-    let middle = four_tapes(alloc, 0o4)?;
-    plug_in_four(&mut devices, 0o4, middle.0, middle.1, middle.2, middle.3);
-    let high = four_tapes(alloc, 0o10)?;
-    plug_in_four(&mut devices, 0o10, high.0, high.1, high.2, high.3);
-    let others = other_devices(alloc)?;
-    plug_in_four(&mut devices, 0o14, others.0, others.1, others.2, others.3);
-    is_whole(&devices);
+    let mut devices = sixteen_devices!(alloc);
     Ok(lvdc(alloc, words, source, sink, &mut devices))
 }

@@ -6,6 +6,28 @@ use lvdc_port::{Latch, PortDevice, Recorder, Tape, Ticker};
 use lvdc_word::NoMemory;
 use std::alloc::Global;
 
+/// A list of the sixteen devices, each as it is before a run: a tape at each of the ports 000 to 013, latches at 014 and 015, a
+/// ticker at 016 and a recorder at 017. It is a macro because a function hands out no box that holds any device: whoever asks
+/// for the list makes the boxes.
+macro_rules! sixteen_devices {
+    ($alloc:expr) => {{
+        let alloc = $alloc;
+        let mut devices = Vec::with_capacity(alloc, 16)?;
+        let low = four_tapes(alloc, 0o0)?;
+        plug_in_four(&mut devices, 0o0, low.0, low.1, low.2, low.3);
+        let middle = four_tapes(alloc, 0o4)?;
+        plug_in_four(&mut devices, 0o4, middle.0, middle.1, middle.2, middle.3);
+        let high = four_tapes(alloc, 0o10)?;
+        plug_in_four(&mut devices, 0o10, high.0, high.1, high.2, high.3);
+        let others = other_devices(alloc)?;
+        plug_in_four(&mut devices, 0o14, others.0, others.1, others.2, others.3);
+        is_whole(&devices);
+        devices
+    }};
+}
+
+pub(crate) use sixteen_devices;
+
 /// Four tapes without words, one for this port and one for each of the next three.
 pub(crate) fn four_tapes(
     alloc: Global,

@@ -4,5 +4,7 @@
 mod command;
 mod devices;
 mod rack;
+mod reply;
 
 pub use command::run;
+pub use reply::reply_over_rack;

@@ -1,0 +1,44 @@
+-- A reply that tells no want of memory and no device that failed is the one that is due.
+use Rattle.std.proofs.Common.{◌≡◌, ◌≢◌, ℕ, true, false, List, [], ◌∷◌, length, map, Some, refl, sym, ap, ◌∙◌, arith, if◌then◌else◌}
+use Rattle.std.specs.Prelude.{nat_lt}
+use Rattle.std.specs.declared.option.Option.{Option}
+use Rattle.std.proofs.lemmas.Bool.Decides.{nat_tests}
+use Rattle.lvdc_reply.specs.Answer.{Answer, answer_with}
+use Rattle.lvdc_cli.specs.declared.command.Command.{Command}
+use Rattle.lvdc_cli.specs.Words.{command_of, limit_of}
+use Rattle.lvdc_cli.specs.Commands.{answer_by, too_long_answer, command_answer, input_of}
+use Rattle.lvdc_console.specs.Rack.{rack}
+use Rattle.lvdc_console.specs.Over.{IsReplyOver, answered, failed}
+use Rattle.lvdc_frames.specs.Frames.{Request}
+use Rattle.lvdc_service.specs.Served.{Reply, reply_of, reply_by, reply_to, IsReplyTo, usage, too_long, replied, wants_memory, AreReplies, IsUnhindered, AreUnhindered}
+
+-- what a command's request is answered, by whether its input is too long
+by_length : (request : Request) (command : Command) (long : _) → command_of request.words ≡ Some command → nat_lt (limit_of command) (length (input_of command request.input)) ≡ long
+    → reply_to request ≡ reply_of (if long then too_long_answer rack else command_answer command (input_of command request.input) rack)
+by_length request command long asked is =
+    ap (λ (c : Option Command). reply_by c request) asked
+    ∙ ap (λ (c : Option Command). reply_of (answer_by c request.input rack)) asked
+    ∙ ap (λ l. reply_of (if l then too_long_answer rack else command_answer command (input_of command request.input) rack)) is
+
+of_answer : (command : Command) (bytes : List ℕ) (reply : Answer) → reply.status ≢ 10 → IsReplyOver rack command bytes reply → reply_of reply ≡ reply_of (command_answer command bytes rack)
+of_answer command bytes reply free (answered is) = ap reply_of is
+of_answer command bytes reply free (failed step port fails ten) = absurd (free ten)
+
+one_due : (request : Request) (reply : Reply) → IsUnhindered reply → IsReplyTo request reply → reply ≡ reply_to request
+one_due request reply free (usage none) = ap (λ (c : Option Command). reply_by c request) (sym none)
+one_due request reply free (too_long command asked l) =
+    let long : nat_lt (limit_of command) (length (input_of command request.input)) ≡ true = grind (arith, nat_tests) in
+    sym (by_length request command true asked long)
+one_due request reply free (replied command status text asked few r) =
+    let short : nat_lt (limit_of command) (length (input_of command request.input)) ≡ false = grind (arith, nat_tests) in
+    of_answer command (input_of command request.input) (answer_with status text r.left) free.no_device_fault r.is_reply ∙ sym (by_length request command false asked short)
+one_due request reply free wants_memory = absurd (free.memory refl)
+
+both : (reply due : Reply) (replies all : List Reply) → reply ≡ due → replies ≡ all → reply ∷ replies ≡ due ∷ all
+both reply due replies all e f = rw (e, f) refl
+
+pub all_due : (requests : List Request) (replies : List Reply) → AreReplies requests replies → AreUnhindered replies → replies ≡ map reply_to requests
+all_due [] [] are free = refl
+all_due [] (reply ∷ replies) are free = absurd are
+all_due (request ∷ requests) [] are free = absurd are
+all_due (request ∷ requests) (reply ∷ replies) are free = both reply (reply_to request) replies (map reply_to requests) (one_due request reply free.0 are.0) (all_due requests replies are.1 free.1)

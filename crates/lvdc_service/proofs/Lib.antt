@@ -1,0 +1,5 @@
+mod Written
+mod Serving
+mod Inputs
+mod Determined
+mod Rows

@@ -1,0 +1,3 @@
+pub mod Served
+pub mod Service
+pub mod Turns

@@ -1,0 +1,130 @@
+-- What requests are answered. No reply depends on another request.
+use Rattle.std.specs.Prelude.{◌≡◌, ◌≢◌, ℕ, List, [], ◌∷◌, ◌++◌, ◌+◌, ◌<◌, ◌≤◌, length, map, codes, decimal, if◌then◌else◌}
+use Rattle.std.specs.declared.option.Option.{Option}
+use Rattle.std.specs.declared.option.Option.TheVariants.{None, Some}
+use Rattle.std.specs.List.{flat_map}
+use Rattle.lvdc_reply.specs.Answer.{Answer}
+use Rattle.lvdc_cli.specs.declared.command.Command.{Command}
+use Rattle.lvdc_cli.specs.Words.{command_of, limit_of}
+use Rattle.lvdc_cli.specs.Texts.{read_fault_text, too_long_text}
+use Rattle.lvdc_cli.specs.Commands.{answer, input_of}
+use Rattle.lvdc_console.specs.Rack.{rack}
+use Rattle.lvdc_console.specs.Over.{IsReplied}
+use Rattle.lvdc_frames.specs.Frames.{Request, Frames, frames_of}
+
+-- ---- a reply
+
+-- a status and a text
+pub record Reply : Type 0 where
+  pub status : ℕ
+  pub text : List ℕ
+
+-- the reply of this status and this text
+abbrev pub reply_with : ℕ → List ℕ → Reply
+reply_with status text = record { status = status; text = text }
+
+-- how a reply is written: a line that says its status and how many bytes follow, and these
+abbrev pub reply_line : ℕ → ℕ → List ℕ
+reply_line status count = codes "REPLY " ++ decimal status ++ codes " " ++ decimal count ++ codes "\n"
+
+-- the bytes of a reply: its line, and its text
+abbrev pub bytes_of : Reply → List ℕ
+bytes_of reply = reply_line reply.status (length reply.text) ++ reply.text
+
+-- replies one after another
+abbrev pub all_bytes : List Reply → List ℕ
+all_bytes replies = flat_map bytes_of replies
+
+-- ---- the texts that stand in the program
+
+-- what the worker answers to other words, and to words of its own
+abbrev pub usage_text : List ℕ
+usage_text =
+    codes "usage: lvdc-worker\n"
+    ++ codes "requests: the commands of lvdc\n"
+    ++ codes "          trace [--through] FIRST COUNT\n"
+    ++ codes "          form\n"
+    ++ codes "          study\n"
+
+-- other words
+abbrev pub usage_reply : Reply
+usage_reply = reply_with 1 usage_text
+
+-- no frame stands where the frame of this number would
+abbrev pub bad_frame_reply : ℕ → Reply
+bad_frame_reply number = reply_with 2 (codes "REFUSED BadFrame " ++ decimal number ++ codes "\n")
+
+-- the input has more bytes than its command takes
+abbrev pub too_long_reply : Reply
+too_long_reply = reply_with 11 too_long_text
+
+-- a read failed
+abbrev pub read_fault_reply : Reply
+read_fault_reply = reply_with 7 read_fault_text
+
+-- there is no memory for the input or the answer
+abbrev pub memory_reply : Reply
+memory_reply = reply_with 9 []
+
+-- ---- what a request is answered
+
+-- status and text of an answer
+abbrev pub reply_of : Answer → Reply
+reply_of a = reply_with a.status a.text
+
+-- the words of a command line of `lvdc` over devices in their first states, or other words
+abbrev pub reply_by : Option Command → Request → Reply
+reply_by None request = usage_reply
+reply_by (Some command) request = reply_of (answer request.words request.input rack)
+
+-- the reply to a request
+abbrev pub reply_to : Request → Reply
+reply_to request = reply_by (command_of request.words) request
+
+-- Which replies may be written to a request.
+pub data IsReplyTo (request : Request) : Reply → Type 0 where
+  -- its words are no command line
+  usage : command_of request.words ≡ None → IsReplyTo request usage_reply
+  -- its input has more bytes than its command takes
+  too_long : (command : Command) → command_of request.words ≡ Some command → limit_of command < length (input_of command request.input)
+      → IsReplyTo request too_long_reply
+  -- its command was carried out over its input and devices in their first states: what holds of a reply by `lvdc` holds of this one
+  replied : (command : Command) (status : ℕ) (text : List ℕ) → command_of request.words ≡ Some command
+      → length (input_of command request.input) ≤ limit_of command
+      → IsReplied rack command (input_of command request.input) status text → IsReplyTo request (reply_with status text)
+  -- there was no memory for it
+  wants_memory : IsReplyTo request memory_reply
+
+-- one reply to each request, in their order
+abbrev pub AreReplies : List Request → List Reply → Type 0
+AreReplies [] [] = Unit {0}
+AreReplies [] (reply ∷ replies) = ⊥
+AreReplies (request ∷ requests) [] = ⊥
+AreReplies (request ∷ requests) (reply ∷ replies) = IsReplyTo request reply × AreReplies requests replies
+
+-- a reply tells neither a want of memory nor a device that failed
+pub record IsUnhindered (reply : Reply) : Type 0 where
+  pub memory : reply.status ≢ 9
+  pub no_device_fault : reply.status ≢ 10
+
+-- none of the replies does
+abbrev pub AreUnhindered : List Reply → Type 0
+AreUnhindered [] = Unit {0}
+AreUnhindered (reply ∷ replies) = IsUnhindered reply × AreUnhindered replies
+
+-- ---- what bytes are answered, where no call fails and there is memory
+
+-- replies and an exit status
+pub record Served : Type 0 where
+  pub replies : List Reply
+  pub status : ℕ
+
+-- one reply to each request, and behind them a refusal of what is no frame
+abbrev pub served_frames : Frames → Served
+served_frames frames =
+    if frames.whole then record { replies = map reply_to frames.requests; status = 0 }
+    else record { replies = map reply_to frames.requests ++ bad_frame_reply (length frames.requests + 1) ∷ []; status = 2 }
+
+-- the replies to the frames of the bytes, each by its frame alone, and behind them a refusal where no frame follows
+abbrev pub served : List ℕ → Served
+served bytes = served_frames (frames_of bytes)

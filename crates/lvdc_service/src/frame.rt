@@ -1,0 +1,160 @@
+ghost use Rattle.std.specs.Prelude.{◌≡◌, ◌≤◌, ℕ, List, length, map, true, false, Some, All};
+ghost use Rattle.std.specs.List.{list_all};
+ghost use Rattle.lvdc_cli.specs.Words.{texts, command_of, reads_for, limit_of};
+ghost use Rattle.lvdc_cli.specs.Commands.{input_of};
+ghost use Rattle.lvdc_frames.specs.Frames.{is_word};
+ghost use Rattle.lvdc_frames.specs.Parts.{part_of, LiesIn};
+ghost use Rattle.lvdc_service.specs.Served.{IsReplyTo};
+ghost use Rattle.lvdc_service.specs.Turns.{due_reply, stream, IsNextInput, IsNext};
+
+use crate::due::Due;
+use lvdc_cli::{Command, read_command};
+use lvdc_console::reply_over_rack;
+use lvdc_frames::{Header, InputEnd, Line, Reader, header_of, words_of};
+use lvdc_text::Source;
+use std::alloc::Global;
+
+/// What comes of the bytes where a frame would begin.
+#[derive(Debug, Drop)]
+pub(crate) enum Next {
+    /// A frame, and what its request is answered.
+    Request(Due),
+    /// No byte: the source is at its end.
+    Ended,
+    /// Bytes that are no frame.
+    BadFrame,
+    /// A read failed.
+    ReadFault,
+}
+
+/// Uses the input of a request that is answered without it, and drops it.
+fn pass<S: Source>(count: usize, reader: &mut Reader, source: &mut S, due: Due) -> Next
+    ensures { (words : List (List ℕ)) → ((input : List ℕ) → length input ≡ count → IsReplyTo (record { words = words; input = input }) (due_reply due))
+        → IsNextInput words count (stream reader.old (S.state source.old))
+        (stream reader.new (S.state source.new)) result }
+{
+    match reader.skip(source, count) {
+        Ok(()) => Next::Request(due),
+        Err(InputEnd::Short) => Next::BadFrame,
+        Err(_) => Next::ReadFault,
+    }
+}
+
+/// What a command answers to an input.
+fn carry_out(alloc: Global, command: Command, input: &[u8]) -> Due
+    requires { length input.now ≤ limit_of command }
+    ensures { (words : List (List ℕ)) (given : List ℕ) → command_of words ≡ Some command → input_of command given ≡ input.now
+        → IsReplyTo (record { words = words; input = given }) (due_reply result) }
+{
+    match reply_over_rack(alloc, command, input) {
+        Ok(reply) => Due::Replied(reply),
+        Err(_) => Due::NoMemory,
+    }
+}
+
+/// What a command that reads its input answers to so many bytes of it. Where it isn't carried out, they are dropped.
+fn read_and_answer<S: Source>(
+    alloc: Global,
+    command: Command,
+    count: usize,
+    reader: &mut Reader,
+    source: &mut S,
+) -> Next
+    requires { reads_for command ≡ true }
+    ensures { (words : List (List ℕ)) → command_of words ≡ Some command
+        → IsNextInput words count (stream reader.old (S.state source.old))
+        (stream reader.new (S.state source.new)) result }
+{
+    if count > command.limit() {
+        return pass(count, reader, source, Due::TooLong);
+    }
+    match reader.input(alloc, source, count) {
+        Ok(input) => Next::Request(carry_out(alloc, command, input.as_slice())),
+        Err(InputEnd::NoMemory) => pass(count, reader, source, Due::NoMemory),
+        Err(InputEnd::Short) => Next::BadFrame,
+        Err(InputEnd::ReadFault) => Next::ReadFault,
+    }
+}
+
+/// What a command answers that passes over its input.
+fn pass_and_answer<S: Source>(
+    alloc: Global,
+    command: Command,
+    count: usize,
+    reader: &mut Reader,
+    source: &mut S,
+) -> Next
+    requires { reads_for command ≡ false }
+    ensures { (words : List (List ℕ)) → command_of words ≡ Some command
+        → IsNextInput words count (stream reader.old (S.state source.old))
+        (stream reader.new (S.state source.new)) result }
+{
+    match reader.skip(source, count) {
+        Ok(()) => Next::Request(carry_out(alloc, command, &[])),
+        Err(InputEnd::Short) => Next::BadFrame,
+        Err(_) => Next::ReadFault,
+    }
+}
+
+/// What a request with these words is answered, and so many bytes of input. Where further words have an answer of their own,
+/// they stand here.
+fn answer<S: Source>(
+    alloc: Global,
+    words: &[String],
+    count: usize,
+    reader: &mut Reader,
+    source: &mut S,
+) -> Next
+    ensures { IsNextInput (texts words.now) count (stream reader.old (S.state source.old))
+        (stream reader.new (S.state source.new)) result }
+{
+    match read_command(words) {
+        Some(command) => {
+            if command.reads() {
+                read_and_answer(alloc, command, count, reader, source)
+            } else {
+                pass_and_answer(alloc, command, count, reader, source)
+            }
+        }
+        None => pass(count, reader, source, Due::Usage),
+    }
+}
+
+/// What the request of a frame is answered, whose line was used.
+fn answer_frame<S: Source>(
+    alloc: Global,
+    line: &[u8],
+    header: &Header,
+    reader: &mut Reader,
+    source: &mut S,
+) -> Next
+    requires within { All (LiesIn line.now) header.now.words.items }
+    requires words { list_all is_word (map (part_of line.now) header.now.words.items) ≡ true }
+    ensures { IsNextInput (map (part_of line.now) header.now.words.items) header.now.count
+        (stream reader.old (S.state source.old))
+        (stream reader.new (S.state source.new)) result }
+{
+    match words_of(alloc, line, header) {
+        Ok(words) => answer(alloc, words.as_slice(), header.count, reader, source),
+        Err(_) => pass(header.count, reader, source, Due::NoMemory),
+    }
+}
+
+/// Uses the next frame, with all of its input, and finds what is due to it.
+pub(crate) fn next_frame<S: Source>(alloc: Global, reader: &mut Reader, source: &mut S) -> Next
+    ensures { IsNext (stream reader.old (S.state source.old))
+        (stream reader.new (S.state source.new)) result }
+{
+    match reader.line(source) {
+        Ok(Line::Ended(line)) => {
+            let text = line.as_slice();
+            match header_of(text) {
+                Some(header) => answer_frame(alloc, text, &header, reader, source),
+                None => Next::BadFrame,
+            }
+        }
+        Ok(Line::Nothing) => Next::Ended,
+        Ok(Line::Open) => Next::BadFrame,
+        Err(_) => Next::ReadFault,
+    }
+}
