@@ -57,9 +57,13 @@ const MachineView = (() => {
     const SENTENCE = 'Each part of the computer exists three times: copies 1, 2 and 3. '
         + 'In every step a voter takes, bit by bit, what at least two of the three say.';
     const DIFFERED = 'differed from the vote, in so many steps';
-    const ONLY_DECK = { well: 'named by no fault', hurt: 'named by a fault' };
+    const ONLY_DECK = { well: 'no fault line names it', hurt: 'a fault line names it' };
     const ONLY_REPORT = { well: 'never differed from the vote', differed: DIFFERED };
-    const BOTH = { well: 'named by no fault, never differed from the vote', hurt: 'named by a fault, never differed from the vote', differed: DIFFERED };
+    const BOTH = {
+        well: 'no fault line names it, and it never differed from the vote',
+        hurt: 'a fault line names it, and it never differed from the vote',
+        differed: DIFFERED,
+    };
 
     function keyFor(known) {
         if (!known.report) return ONLY_DECK;

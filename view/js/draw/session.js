@@ -46,7 +46,7 @@ const SessionView = (() => {
     }
 
     function lampSays(copy, own, apart, hurt) {
-        const says = own ? `says ${apart ? 'something that no other copy says' : 'what another copy says'}` : 'was not asked';
+        const says = own ? `agrees with ${apart ? 'no other copy' : 'another copy'}` : 'was not asked';
         return `Copy ${copy} ${says}${hurt ? ', and a fault acted on it' : ''}.`;
     }
 
@@ -72,8 +72,8 @@ const SessionView = (() => {
             html('ol', { class: 'copies' }, ...Parts.COPIES.map((copy) => lamp(module, copy, copies, faults))));
     }
 
-    const KEY = { well: 'says what another copy says', differed: 'says something that no other copy says' };
-    const KEY_WITH_FAULTS = { ...KEY, hurt: 'a fault acted on it since the machine last stood' };
+    const KEY = { well: 'agrees with another copy', differed: 'agrees with no other copy' };
+    const KEY_WITH_FAULTS = { ...KEY, hurt: 'a fault acted on it in the steps just made' };
 
     // ---- the commands
 
