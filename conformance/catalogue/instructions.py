@@ -133,4 +133,6 @@ CASES = [
     Case("code-in-sector-17", "A HOP constant has four bits for the sector of an instruction.", "run",
          deck("HOP 000 goes to sector 17, where CLA 001 stands.", "00000", "036000016 000000044", 2, "0 17 000 000017001"),
          has="PLACE 0 17 0 001\nA 000000044"),
+    Case("shf-shifts-a-and-not-the-operand", "SHF: it is A that is shifted, not the operand of before.", "run",
+         deck("1 and 2, one place to the left.", "17000 07001 16220", "000000001 000000002", 3), has="A 000000006"),
 ]
