@@ -187,6 +187,10 @@ CASES = [
             "BadMacro %d" % (chain("X M17").count("\n") + 1)),
     refused("the-level-before-the-count", "The thousandth call on level 17 is TooDeep.", chain(" M17") + 983 * " M17\n" + " M1\n",
             "TooDeep %d" % (chain(" M17").count("\n") + 984)),
+    Case("a-cr-at-the-end-of-a-last-line", "Each line of an expansion ends with LF: a CR that stood at the end of the last line is dropped.",
+         "macro --image", " ORG 0,00,0,000\n CLA 5\n END\r", text="LVDC 1\n0 00 000 000017005\nEND"),
+    Case("two-crs-in-a-source-with-macros", "The same of a second CR before LF.", "macro --image",
+         " ORG 0,00,0,000\n CLA 5\n END\r\r\n", text="LVDC 1\n0 00 000 000017005\nEND"),
     refused("no-end-after-macros", "With --image a missing END is named at one more than the last line of the source.",
             "M MACRO\n* A\n* B\n MEND\n CODE\n M\n", "MissingEnd 7", "macro --image"),
 ]

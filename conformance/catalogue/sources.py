@@ -257,6 +257,8 @@ CASES = [
                 END
         """, "0 00 000 000017000\n0 01 000 000000005"),
     source("tabs-in-a-source", "Tabs part the three fields of a line.", "\tORG\t0,00,0,000\nA\tTRA\tA\n\tEND\n", "0 00 000 000010000"),
+    Case("a-cr-at-the-end", "A CR at the end of a last line without LF is part of the last word.", "asm --image",
+         " CODE\n CLA 5\n END\r", 3, "REFUSED UnknownOperation 3"),
     refused("a-syllable-2", "A syllable is 0 or 1.", " ORG 0,00,2,000\n END\n", "BadDirective 1"),
     refused("use-with-a-location", "USE has a pair and a sector.", " USE 0,01,000\n END\n", "BadDirective 1"),
     refused("bss-0", "BSS is of one word at least.", " WORDS 0,01\n BSS 0\n END\n", "BadDirective 2"),
