@@ -9,7 +9,8 @@ which were there before the program."""
 import textwrap
 from collections.abc import Sequence
 
-from simulation.words import written
+from simulation.modules import LATCHES
+from simulation.words import code, written
 
 
 class Case:
@@ -103,3 +104,19 @@ SUM_REPORT = "LVDC RUN\nEND DONE" + SUM_REGISTERS.rstrip() + SUM_MEMORY + "MEM 0
 def sum_deck(note: str, run: int | str = 3, **more: str) -> str:
     """The deck of that sum with more sections."""
     return deck(note, SUM_CODE, SUM_WORDS, run, **more)
+
+
+AT_START = {2: "000000004 000000000", 4: "000000012"}
+
+
+def state(latches: dict[int, str], words: Sequence[str], count: int, lines: str = "", steps: int = 3) -> str:
+    """A saved text in which all copies of a module have these latches, or those of a start, and memory has these words; then lines."""
+    text = "LVDC SAVE 1\nSTEPS %d\nCOUNT %d\n" % (steps, count)
+    for m, number in enumerate(LATCHES, 1):
+        kept = latches.get(m, AT_START.get(m, " ".join(number * ["000000000"])))
+        text += "".join("COPY %d %d 0 %s\n" % (m, c, kept) for c in (1, 2, 3))
+    text += "SELECT 0 0 0 0\n"
+    cells = ["%s %010o\n" % (word[:8], code(int(word[9:], 8))) for word in words]
+    text += "".join("CELL %d %s" % (twin, cell) for twin in (0, 1) for cell in cells)
+    text += "".join("WORD %s\n" % word for word in words)
+    return text + lines + "ABCDEFGHIJKLMNOPQRSTU\nEND\n"

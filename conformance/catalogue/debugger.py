@@ -84,4 +84,15 @@ CASES = [
     Case("a-step-that-nobody-asked-for", "A session that asks for no time up to the inadmissible step has status 0.", "debug",
          sum_deck("Two copies of the decoder in step 4.", faults=TWO_WRONG, debug="STEP 1\nREGS"), has="AT 1 0 00 0 001\nTIMES 1"),
     Case("no-command", "A session without a command.", "debug", sum_deck("DEBUG is the last line.", debug="\n"), text="LVDC DEBUG"),
+    Case("inner-blanks-of-a-command", "A command is shown with the blanks between its words, and without those around it.", "debug",
+         sum_deck("Two blanks and a tab.", debug="STEP  \t1"), has="> STEP  \t1\nAT 1 0 00 0 001"),
+    Case("more-bad-commands", "REGS and COPIES out of form; sectors above 17, locations above 377, a count of 0.", "debug",
+         sum_deck("Nothing here is a command.", debug="REGS 1\nCOPIES 01\nBREAK 0 20 0 000\nBREAK 0 00 0 400\nMEM 0 20 000 1\n"
+                  "DIS 0 00 0 400 1\nMEM 0 01 000 0"),
+         text="LVDC DEBUG\n" + "".join("> %s\nBAD COMMAND\n" % command for command in (
+             "REGS 1", "COPIES 01", "BREAK 0 20 0 000", "BREAK 0 00 0 400", "MEM 0 20 000 1", "DIS 0 00 0 400 1", "MEM 0 01 000 0"))),
+    Case("a-breakpoint-of-another-pair", "A breakpoint is of its pair.", "debug",
+         sum_deck("The machine doesn't leave pair 0.", debug="BREAK 1 00 0 001\nGO"), text="LVDC DEBUG\n> BREAK 1 00 0 001\nBREAKS 1\n> GO\nLIMIT 3"),
+    Case("the-step-that-ends", "A step that comes to the end is answered its END line.", "debug",
+         deck("EXM.", "16600", "", 5, debug="STEP 1"), 6, "LVDC DEBUG\n> STEP 1\nEND STOPPED 2 EXM"),
 ]

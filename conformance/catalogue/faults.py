@@ -17,6 +17,7 @@ FORCE 1 2 0 5 0 377777777 000000002
 FORCE 7 1 0 5 1 377777777 000000143
 FORCE 7 2 0 5 1 377777777 000000143
 """
+READ_EVERY_STEP = EVERY_STEP_C.replace("a write of A to port 014", "a read of port 000").replace("143", "004")
 ENDED = """LVDC RUN
 END INADMISSIBLE 4 LOGIC 3
 TIMES 1
@@ -184,4 +185,43 @@ CASES = [
          "000000003 010000000", 30, faults="\n".join("FORCE %d %d %d %d %d 377777777 %s" % (m, c, t, t, i, w) for m, i, t,
          w in ((5, 0, 5, "123456701"), (3, 0, 12, "000013775"), (2, 0, 20, "000004004"), (6, 1, 31, "000000103"), (6, 4, 32,
          "252525252"), (4, 0, 41, "000000710"), (5, 1, 46, "000000076"), (7, 1, 58, "000026341")) for c in (1, 2)))),
+    Case("events-in-the-order-of-the-script", "Where two events act on one copy the order of their lines counts, not when they began.",
+         "debug", sum_deck("The force begins a step earlier than the flip that stands before it. Both act in step 2.",
+                           faults="FLIP 5 2 2 2 0 000000077\nFORCE 5 2 1 2 0 000000007 000000000", debug="STEP 1\nCOPIES 5"),
+         has="COPY 5 2 177777700 177777777"),
+    Case("a-force-leaves-the-bits-beside-its-mask", "A value's bits beside the mask don't count.", "debug",
+         sum_deck("A is 200000000 after step 5. The mask has bit 0 alone, the value bits 0 and 1.",
+                  faults="FORCE 5 2 5 5 0 000000001 000000003", debug="STEP 2\nCOPIES 5"), has="COPY 5 2 200000001 000000001"),
+    once("a-deaf-copy-that-lags-too", "DEAF and LAG in one step: the copy keeps its old latches, whatever it hears.",
+         "DEAF 5 2 2 2\nLAG 5 2 2 2", "WRONG 5 2 1\n"),
+    Case("three-copies-wrong-in-three-bits", "Three copies that all differ: the vote is bit by bit, and here it is right.",
+         "run --through", sum_deck("Bits 0, 1 and 2 of A after step 2.",
+                                   faults="FLIP 5 1 2 2 0 1\nFLIP 5 2 2 2 0 2\nFLIP 5 3 2 2 0 4"),
+         text=SUM_REPORT.replace("RUN", "THROUGH") + "WRONG 5 1 1\nWRONG 5 2 1\nWRONG 5 3 1\n"),
+    Case("exchanges-of-one-time-in-their-order", "Where one time has several exchanges the log has them as they came.", "run --through",
+         sum_deck("PHASE and REQUEST of two copies are forced: steps 1 to 5 read the tape at port 000.", 2,
+                  ports="TAPE 000 7 2 5 1", faults=READ_EVERY_STEP),
+         has="IN 0 000 000000007\nIN 0 000 000000002\nIN 1 000 000000005\nIN 1 000 000000001\nIN 1 000 000000000"),
+    Case("unplugged-while-the-voted-phase-is-wrong",
+         "A device is taken away as its time begins, whatever the voted PHASE is then.", "run --through",
+         sum_deck("The same, and the tape is taken away at time 1.", 2, ports="TAPE 000 7 2 5 1\nUNPLUG 000 1",
+                  faults=READ_EVERY_STEP),
+         has="IN 0 000 000000007\nIN 0 000 000000002\nIN 1 000 000000000", lacks=["IN 1 000 000000005"]),
+    Case("a-read-without-a-good-cell-makes-no-step", "A step whose read finds no good cell isn't made: here the last of a time.",
+         "run --through", sum_deck("PHASE of the vote is 0 in step 2, where both twins are dead.",
+                                   faults="FORCE 1 1 1 1 0 3 0\nFORCE 1 2 1 1 0 3 0\nDEAD 0 0 2 2\nDEAD 1 0 2 2"), 6,
+         has="END STOPPED 2 MEMORY 0 00 000\nTIMES 0"),
+    Case("a-request-of-kind-5-asks-for-nothing", "Kinds of REQUEST above 4 ask for nothing.", "run --through",
+         deck("TRA 001 loads the saver; then step 4 asks for kind 5 at 0 01 004.", "10001 17000 17000", "", 3,
+              faults="FORCE 7 1 4 4 1 377777777 4045\nFORCE 7 2 4 4 1 377777777 4045"), has="END DONE\nWRONG 7 3 1",
+         lacks=["MEM 0 01 004"]),
+    Case("a-phase-b-that-reads-nothing-carries-0", "Where phase B reads no operand the bus carries the word 0 for it.", "debug",
+         deck("In step 4, phase B of TRA 000, a copy of the decoder hears a timer that stands in A: it takes a syllable of what was "
+              "read. OPERAND has the syllable of TRA 000 itself.", "17000 10000", "000010000", 2,
+              faults="FLIP 1 1 3 3 0 000000001\nDEAF 3 1 4 5", debug="STEP 2\nCOPIES 3"),
+         has="COPY 3 1 000000000\nCOPY 3 2 000010000\nCOPY 3 3 000010000"),
+    Case("a-phase-c-that-reads-nothing-carries-0", "Phase C reads no memory, so there the bus carries the word 0.", "debug",
+         sum_deck("In step 2, phase C, a copy of the decoder hears a timer that stands in A: it takes a syllable of what was read.",
+                  faults="FLIP 1 1 1 1 0 000000002\nDEAF 3 1 2 2", debug="STEP 1\nCOPIES 3"),
+         has="COPY 3 1 000000000\nCOPY 3 2 000017000\nCOPY 3 3 000017000"),
 ]

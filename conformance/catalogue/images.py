@@ -51,4 +51,12 @@ CASES = [
           "LVDC 1\n0 01 000 000000001\n0 00 000 400000000\nEND\n", "AddressOrder 4"),
     image("an-end-with-blanks", "END with blanks ends the program, but is no line of an image.", "LVDC 1\n END\n",
           "BadImageLine 3"),
+    image("simplex-pairs-of-an-image-that-fall", "A SIMPLEX line whose pairs don't rise is a word line without its form.",
+          "LVDC 2\nSTART 000000016\nSIMPLEX 1 0\nEND\n", "BadImageLine 4"),
+    image("two-blanks-in-simplex", "The pairs of an image's SIMPLEX line are parted by single spaces.",
+          "LVDC 2\nSTART 000000016\nSIMPLEX 0  1\nEND\n", "BadImageLine 4"),
+    image("two-blanks-in-a-word-line", "The fields of a word line are parted by single spaces.",
+          "LVDC 1\n0 00  000 000000001\nEND\n", "BadImageLine 3"),
+    image("a-start-constant-of-two-digits", "The start constant of an image has nine digits.", "LVDC 2\nSTART 16\nEND\n",
+          "BadImageLine 3"),
 ]

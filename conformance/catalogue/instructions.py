@@ -18,6 +18,13 @@ PQ 000000000
 SAVER 000000000
 """
 
+
+def of_pq(name: str, code: str, words: str, run: int, has: str, shows: str) -> Case:
+    """An operation, by its code in octal, whose operand is PQ: the first word, which is stored there. A is the second."""
+    return Case(name, "An operand 775 is PQ. " + shows, "run",
+                deck(shows + " Memory has no word at 0 17 375.", "17000 13775 17001 %s775 10004" % code, words, run), has=has)
+
+
 CASES = [
     Case("the-start-without-a-time",
          "No time is made: place and data place are those of the start constant 000000016, all else is 0.", "run",
@@ -133,4 +140,19 @@ CASES = [
     Case("code-in-sector-17", "A HOP constant has four bits for the sector of an instruction.", "run",
          deck("HOP 000 goes to sector 17, where CLA 001 stands.", "00000", "036000016 000000044", 2, "0 17 000 000017001"),
          has="PLACE 0 17 0 001\nA 000000044"),
+    Case("shf-shifts-a-and-not-the-operand", "SHF: it is A that is shifted, not the operand of before.", "run",
+         deck("1 and 2, one place to the left.", "17000 07001 16220", "000000001 000000002", 3), has="A 000000006"),
+    of_pq("hop-of-775", "00", "000010016 000000000", 4, "PLACE 0 00 0 004\nDATA 0 01", "HOP: PQ has the HOP constant of location 004."),
+    of_pq("mpy-of-775", "01", "100000000 040000000", 8, "PQ 020000000", "MPY: a quarter by half."),
+    of_pq("sub-of-775", "02", "000000005 000000014", 4, "A 000000007", "SUB: 14 less 5."),
+    of_pq("div-of-775", "03", "100000000 020000000", 12, "PQ 040000000", "DIV: an eighth by half."),
+    of_pq("mph-of-775", "05", "100000000 040000000", 8, "A 020000000\nPQ 020000000", "MPH: a quarter by half."),
+    of_pq("and-of-775", "06", "000000005 000000014", 4, "A 000000004", "AND: bit by bit."),
+    of_pq("xor-of-775", "11", "000000005 000000014", 4, "A 000000011", "XOR: bit by bit."),
+    of_pq("rsu-of-775", "15", "000000005 000000014", 4, "A 377777771", "RSU: 5 less 14."),
+    Case("the-saver-of-location-377", "A transfer at location 377 loads the saver with the HOP constant of location 000.", "run",
+         deck("The start is at location 377.", "", "", 1, "0 00 377 000010005", start="000776016"),
+         has="PLACE 0 00 0 005\nSAVER 000000016"),
+    Case("reading-375-of-sector-17", "Where the data sector is 17 and A9 is 0, reading 375 is reading memory, not PQ.", "run",
+         deck("CDS 017, then CLA 375.", "16017 17375", "", 2, "0 17 375 000000007"), has="A 000000007"),
 ]

@@ -53,4 +53,6 @@ NAME X 0 01 - 000
     Case("256-instructions", "A full sector: the last one stands at 0 00 0 377.", "asm", " CODE\n" + lines(256,
          " CLA 000") + " END\n", has=["    257 0 00 0 377 17000      CLA 000"], worked=True),
     Case("a-refused-listing", "A refusal in place of a listing.", "asm", " CODE\n CLA X\n END\n", 3, "REFUSED UndefinedName 2"),
+    Case("pool-lines-in-the-order-of-use", "POOL lines come in the order of first use, not by address.", "asm",
+         " CODE\n USE 0,02\n CLA =D1\n USE 0,01\n CLA =D1\n END\n", has=["POOL 0 02 000 000000001", "POOL 0 01 000 000000001"]),
 ]

@@ -129,6 +129,18 @@ def levels(count: int) -> str:
     return text + " M%d\n" % count
 
 
+def chain(last: str) -> str:
+    """Macros M1 to M17, of which M1 to M15 call the next one; this line is the body of M16."""
+    text = "M17 MACRO\n* DONE\n MEND\nM16 MACRO\n%s\n MEND\n" % last
+    return text + "".join("M%d MACRO\n M%d\n MEND\n" % (k, k + 1) for k in range(1, 16))
+
+
+def as_long(rest: int) -> str:
+    """A source whose expansion has 1,048,566 bytes and so many more; all of its lines but END are comments."""
+    line = "*" + 118 * "X" + "\n"
+    return "M MACRO\n" + 10 * line + " MEND\n" + 873 * " M\n" + 8 * line + "*" + (rest - 1) * "X" + "\n END\n"
+
+
 CASES = [
     macro("double-with-image", "Arguments are put in for &1 to &9.", DOUBLE % "X,X+1", "macro --image",
           has="0 00 000 000017000\n0 00 001 000007000\n0 00 002 000013001\n0 01 000 000000005", worked=True),
@@ -165,4 +177,20 @@ CASES = [
             "BadMacro 4"),
     refused("an-end-that-is-missing", "With --image a missing END is named at one more than the source's last line.",
             " CODE\n CLA 000\n", "MissingEnd 3", "macro --image"),
+    Case("an-expansion-as-long-as-may-be", "An expansion may have 1,048,576 bytes.", "macro --image", as_long(10),
+         text="LVDC 1\nEND"),
+    refused("an-expansion-a-byte-too-long", "Each line counts with its LF; the one that passes 1,048,576 bytes is named.",
+            as_long(11), "ExpansionTooLong %d" % as_long(11).count("\n"), "macro --image"),
+    refused("a-macro-named-exm", "A macro isn't called EXM.", "EXM MACRO\n MEND\n", "BadMacro 1"),
+    refused("a-macro-named-mend", "Nor MEND.", "MEND MACRO\n MEND\n", "BadMacro 1"),
+    refused("a-label-before-the-level", "A call with a label on level 17 is BadMacro.", chain("X M17") + " M1\n",
+            "BadMacro %d" % (chain("X M17").count("\n") + 1)),
+    refused("the-level-before-the-count", "The thousandth call on level 17 is TooDeep.", chain(" M17") + 983 * " M17\n" + " M1\n",
+            "TooDeep %d" % (chain(" M17").count("\n") + 984)),
+    Case("a-cr-at-the-end-of-a-last-line", "Each line of an expansion ends with LF: a CR that stood at the end of the last line is dropped.",
+         "macro --image", " ORG 0,00,0,000\n CLA 5\n END\r", text="LVDC 1\n0 00 000 000017005\nEND"),
+    Case("two-crs-in-a-source-with-macros", "The same of a second CR before LF.", "macro --image",
+         " ORG 0,00,0,000\n CLA 5\n END\r\r\n", text="LVDC 1\n0 00 000 000017005\nEND"),
+    refused("no-end-after-macros", "With --image a missing END is named at one more than the last line of the source.",
+            "M MACRO\n* A\n* B\n MEND\n CODE\n M\n", "MissingEnd 7", "macro --image"),
 ]

@@ -147,4 +147,11 @@ CASES = [
     Case("stuck-bits-arent-stored", "What is stuck goes with its last step: the cell below is as it was.", "run --through",
          read("Twin 1 shows 6 up to step 2, with good parity; then it is the only one that is alive.",
          "STICK 1 0 01 000 0 2 0000000003 0000000002\nDEAD 0 0 6 8", 3), has="END DONE\nA 000000005"),
+    Case("nothing-is-read-in-a-hold", "While a hold is left nothing is fetched, so nothing is repaired.", "run",
+         deck("MPH in time 0; the next instruction's cell is damaged in the hold.", "05000 17000", "100000000", 4,
+              faults="DAMAGE 0 0 00 001 3 0000000001"), has="END DONE\nPLACE 0 00 0 001", lacks=["REPAIR"]),
+    Case("reading-775-reads-no-memory", "An operand of 775 is PQ: location 375 of sector 17 isn't read, nor judged.", "run",
+         deck("CLA 775. That location is damaged in both twins.", "17775", "", 1,
+              faults="DAMAGE 0 0 17 375 0 0000000001\nDAMAGE 1 0 17 375 0 0000000001"),
+         has="END DONE\nMEM 0 17 375 ?", lacks=["REPAIR"]),
 ]

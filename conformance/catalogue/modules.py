@@ -1,7 +1,7 @@
 """The latches of the seven modules, as a debug session shows them between two times."""
 from collections.abc import Sequence
 
-from . import SUM_WORDS, SUM_CODE, Case, deck, sum_deck
+from . import SUM_REPORT, SUM_WORDS, SUM_CODE, Case, deck, state, sum_deck
 
 TITLE = "modules"
 SHOWS = """The latches of the seven modules between two instruction times, each with its exact bits, by the debugger's command
@@ -96,6 +96,41 @@ CASES = [
             "STO 002 asks for 0 01 002: kind 1, location 2, sector 1. Copy 3 asks for location 003.", 7, "17000 13002",
             "000000005", 2, "STEP 2\nCOPIES 7\nMEM 0 01 002 2", three(7,
             "000000000 000000000") + "MEM 0 01 002 000000005\nMEM 0 01 003 000000000", faults="FLIP 7 3 4 4 1 000000010"),
+    latches("the-multiplier-of-a-product-has-no-sign", "MULTIPLIER: a multiply begins with Q the upper 24 bits of A, without a sign.",
+            "A is negative.", 6, "17000 01001", "200000003 100000000", 2, "STEP 2\nCOPIES 6",
+            three(6, "000000000 000000061 020000000 000000000 040000000")),
+    latches("instr-stays-in-a-hold", "DECODER: INSTR stays while a hold is left.", "MPH in time 1.", 3, "17000 05000 10002",
+            "100000000", 9, "STEP 3\nCOPIES 3", three(3, "000005000")),
+    Case("instr-has-thirteen-bits", "DECODER: INSTR is read by its lowest thirteen bits.", "run --through",
+         sum_deck("Bit 13 of INSTR is 1 in two copies after step 0, and stays till the next fetch.",
+                  faults="FLIP 3 1 0 0 0 000020000\nFLIP 3 2 0 0 0 000020000"),
+         text=SUM_REPORT.replace("RUN", "THROUGH") + "WRONG 3 3 1\n"),
+    Case("unnamed-bits-of-instr", "DECODER: a step that keeps INSTR keeps all of its bits.", "run",
+         sum_deck("Bit 13 of copy 1 is wrong after step 0. In steps 1 and 2 this copy is deaf, and hears itself.",
+                  faults="FLIP 3 1 0 0 0 000020000\nDEAF 3 1 1 2"), text=SUM_REPORT + "WRONG 3 1 3\n"),
+    Case("unnamed-bits-of-hold", "TIMER: HOLD's bits stay in phases A and B.", "run",
+         sum_deck("Bit 3 of copy 1 is wrong after step 2. In steps 3 and 4 this copy is deaf, and hears itself.",
+                  faults="FLIP 1 1 2 2 1 000000010\nDEAF 1 1 3 4"), text=SUM_REPORT + "WRONG 1 1 3\n"),
+    Case("unnamed-bits-of-stop", "EXCHANGE: STOP keeps all of its bits.", "run",
+         sum_deck("Bit 2 of copy 1 is wrong after step 0. In steps 1 to 3 this copy is deaf, and hears itself.",
+                  faults="FLIP 7 1 0 0 0 000000004\nDEAF 7 1 1 3"), text=SUM_REPORT + "WRONG 7 1 4\n"),
+    Case("unnamed-bits-of-control-in-a-divide", "MULTIPLIER: each phase of a divide keeps the unnamed bits of CONTROL.", "debug",
+         deck("Bit 9 of copy 1 is wrong after the issue. Then this copy is deaf, and hears itself.", "03000 17000 17000", "100000000", 3,
+              faults="FLIP 6 1 2 2 1 000001000\nDEAF 6 1 3 5", debug="STEP 2\nCOPIES 6"),
+         has="COPY 6 1 000000000 000001127 020000000 000000000 000000000\nCOPY 6 2 000000000 000000127 020000000 000000000 000000000"),
+    Case("a-unit-without-a-kind", "MULTIPLIER: where the kind is idle all latches stay, though phases are left.", "resume",
+         state({6: "000000001 000000014 000000010 000001000 000000020"}, ["0 00 000 000017000"], 2),
+         has="END DONE\nTIMES 2\nPQ 000000001"),
+    Case("a-unit-without-phases-left", "MULTIPLIER: where no phase is left all latches stay, though the kind is a multiply.", "resume",
+         state({6: "000000001 000000001 000000010 000001000 000000020"}, ["0 00 000 000010000"], 13),
+         has="END DONE\nTIMES 13\nPQ 000000001"),
+    Case("a-landing-in-the-phase-of-an-instruction",
+         "ACCUMULATOR: where MPH's product lands while an instruction is carried out, A is the product.", "resume",
+         state({6: "000000000 000000016 000000000 000001000 000000000"}, ["0 00 000 000017001", "0 01 001 000000005"], 2),
+         has="END DONE\nTIMES 2\nA 000000100\nPQ 000000100"),
+    Case("a-request-isnt-made-in-a-hold", "EXCHANGE: REQUEST is made where no hold is left.", "resume",
+         state({1: "000000000 000000001", 3: "000013002", 5: "000000005 000000000"}, ["0 00 000 000017001"], 2),
+         has="END DONE\nTIMES 2\nA 000000005\nPLACE 0 00 0 000", lacks=["MEM 0 01 002"]),
 ]
 for case in CASES:
     if case.name in ("exchange-after-a-shift-without-meaning", "exchange-after-exm"):

@@ -1,7 +1,7 @@
 """Runs that are saved, and runs that go on."""
 from simulator import answer
 
-from . import SUM_REPORT, Case, deck, sum_deck
+from . import SUM_REPORT, Case, deck, state, sum_deck
 from .faults import TWO_WRONG
 from .memory import READ
 
@@ -30,6 +30,7 @@ def changed(text: str, old: str, new: str) -> str:
 SUM_SAVED = saved(sum_deck("The sum."), 1)
 TWO_SAVED = saved(TWO_DAMAGED, 1)
 DEVICES_SAVED = saved(DEVICES, 5)
+WITH_DEBUG = sum_deck("RUN stands before DEBUG.", debug="GO")
 NUMBER = {line: k + 1 for k, line in reversed(list(enumerate(DEVICES_SAVED.splitlines())))}
 
 
@@ -152,4 +153,65 @@ CASES = [
     refused("no-end", "A text that ends before END is named at one more than its last line.", changed(TWO_SAVED, "\nEND\n", "\n"),
             number(TWO_SAVED, "END")),
     refused("a-line-after-end", "END is the last line.", TWO_SAVED + "\n", number(TWO_SAVED, "END") + 1),
+    Case("words-0-and-bad-cells-of-0", "What memory stores of the word 0 has no line, neither a CELL nor a WORD; the cell 0 has one.",
+         "save 1", sum_deck("0 02 000 is 0 in the image. The cell of 0 02 001 is turned over to 0.", more="0 02 000 000000000",
+                            faults="DAMAGE 0 0 02 001 0 1000020000"),
+         has="CELL 0 0 02 001 0000000000", lacks=["CELL 0 0 02 000", "CELL 1 0 02 00", "WORD 0 02"]),
+    Case("intended-words-by-address", "WORD lines come by address, also those of words that were stored later than others.", "save 3",
+         sum_deck("The sum is stored at 0 01 002, and the image has a word at 0 02 000.", more="0 02 000 000000001"),
+         has=["WORD 0 01 002 200000000", "WORD 0 02 000 000000001"]),
+    Case("unplug-lines-in-the-order-of-the-deck", "UNPLUG lines are saved in the order of the deck.", "save 1",
+         sum_deck("Port 013 stands first.", ports="UNPLUG 013 9\nUNPLUG 001 6"), has="UNPLUG 013 9\nUNPLUG 001 6"),
+    Case("stuck-at-the-end-of-a-saved-run", "What was stuck in the last step is so still where resume makes no step.", "resume",
+         saved(sum_deck("0 01 000 is stuck in both twins in step 8, the last one.",
+                        faults="STICK 0 0 01 000 8 8 1 1\nSTICK 1 0 01 000 8 8 1 0\nSTICK 0 0 01 001 8 8 1 0\nSTICK 1 0 01 001 8 8 1 0"),
+               3), has="END DONE\nTIMES 3\nMEM 0 01 001 ?"),
+    Case("a-device-taken-away-at-the-time-of-the-state", "An UNPLUG line of the very time of the state is still to come.", "resume",
+         changed(DEVICES_SAVED, "UNPLUG 001 6", "UNPLUG 001 5"), has="END DONE\nTIMES 12\nIN 8 001 000000000"),
+    Case("exchanges-of-one-time", "One time may have several exchanges.", "resume",
+         state({}, ["0 00 000 000017001"], 1, "IN 0 377 000000001\nIN 0 376 000000002\nOUT 0 377 000000003\n"),
+         has="IN 0 377 000000001\nIN 0 376 000000002\nOUT 0 377 000000003"),
+    refused("more-steps-than-a-run-has", "STEPS is at most 3,000,000.", changed(TWO_SAVED, "STEPS 3", "STEPS 3000003"), 2),
+    refused("more-times-than-a-run-has", "COUNT is at most 1,000,000.", changed(TWO_SAVED, "COUNT 3", "COUNT 1000001"), 3),
+    refused("a-latch-of-27-bits", "Latches are below 2^26.", changed(TWO_SAVED, "COPY 5 1 0 0", "COPY 5 1 0 4"),
+            number(TWO_SAVED, "COPY 5 1")),
+    refused("a-selection-of-twin-2", "A selection is 0 or 1.", changed(TWO_SAVED, "SELECT 1 0 0 0", "SELECT 1 0 0 2"),
+            number(TWO_SAVED, "SELECT")),
+    refused("a-cell-of-29-bits", "Cells are below 2^28.", changed(TWO_SAVED, "SELECT 1 0 0 0\n",
+            "SELECT 1 0 0 0\nCELL 0 0 00 000 2000020000\n"), number(TWO_SAVED, "SELECT") + 1),
+    refused("a-cell-of-sector-20", "Sectors are at most 17.", changed(TWO_SAVED, "SELECT 1 0 0 0\n",
+            "SELECT 1 0 0 0\nCELL 0 0 20 000 0000000000\n"), number(TWO_SAVED, "SELECT") + 1),
+    refused("a-word-line-of-0", "A WORD line isn't of 0.", changed(TWO_SAVED, "WORD 0 00 001 000010000", "WORD 0 00 001 000000000"),
+            number(TWO_SAVED, "WORD 0 00 001")),
+    refused("a-word-line-of-27-bits", "Words are below 2^26.", changed(TWO_SAVED, "WORD 0 00 001 0", "WORD 0 00 001 4"),
+            number(TWO_SAVED, "WORD 0 00 001")),
+    refused("a-word-line-of-a-bank-that-isnt-there", "Bank 4 is there only where pair 0 is simplex.",
+            TWO_SAVED.replace("REPAIR", "WORD 4 00 000 000000001\nREPAIR", 1), number(TWO_SAVED, "REPAIR")),
+    refused("exchanges-that-fall-in-time", "Exchanges don't fall in time.", state({}, [], 3, "IN 1 000 000000001\nIN 0 000 000000001\n", 6),
+            number(state({}, [], 3, "IN\n"), "IN") + 1),
+    refused("two-repairs-in-one-step", "The steps of repairs rise.", state({}, [], 3, 2 * "REPAIR 1 0 00 000 1\n"),
+            number(state({}, [], 3, "REPAIR\n"), "REPAIR") + 1),
+    refused("a-repair-of-a-step-to-come", "Repairs are of steps that were made.", state({}, [], 3, "REPAIR 3 0 00 000 1\n"),
+            number(state({}, [], 3, "REPAIR\n"), "REPAIR")),
+    refused("a-repair-in-a-bank-that-isnt-there", "Repairs are at addresses that are there.", state({}, [], 3, "REPAIR 1 4 00 000 1\n"),
+            number(state({}, [], 3, "REPAIR\n"), "REPAIR")),
+    refused("state-lines-that-fall-by-port", "STATE lines don't fall by port.", state({}, [], 3, "STATE 001 000000001\nSTATE 000 000000001\n"),
+            number(state({}, [], 3, "STATE\n"), "STATE") + 1),
+    refused("unplugged-twice-in-a-saved-text", "After an UNPLUG line a port has no device.", state({}, [], 3, 2 * "UNPLUG 000 5\n"),
+            number(state({}, [], 3, "UNPLUG\n"), "UNPLUG") + 1, "NoDevice"),
+    refused("unplug-where-nothing-is-in-a-saved-text", "UNPLUG wants a device.", state({}, [], 3, "UNPLUG 020 5\n"),
+            number(state({}, [], 3, "UNPLUG\n"), "UNPLUG"), "NoDevice"),
+    refused("too-many-events-in-a-saved-text", "The 65,537th event.", state({}, [], 3, 65537 * "LAG 1 1 0 0\n"),
+            number(state({}, [], 3, "LAG\n"), "LAG") + 65536),
+    refused("an-order-with-a-blank", "Orders have the printed spelling.", changed(TWO_SAVED, "\nABC", "\n ABC"),
+            number(TWO_SAVED, "ABC")),
+    refused("seventeen-orders-in-a-saved-text", "There are at most sixteen orders.",
+            state({}, [], 3, 16 * "ABCDEFGHIJKLMNOPQRSTU\n"), number(state({}, [], 3), "ABC") + 16),
+    Case("above-a-deck's-length", "A saved text may have more than 1,048,576 bytes.", "resume",
+         state({}, ["0 00 000 000017001"], 1, 22000 * "FORCE 5 1 2999999 2999999 0 377777777 000000000\n"), has="END DONE\nTIMES 1"),
+    Case("more-times-than-a-deck-with-debug-has", "It is RUN's line that is named, wherever the deck ends.", "save 4", WITH_DEBUG, 2,
+         "REFUSED CountTooLarge %d" % number(WITH_DEBUG, "RUN")),
+    Case("the-end-is-the-last-time", "A run that ends in the last time before the save is told by its report.", "save 1",
+         deck("EXM stops in time 0.", "16600", "", 5), 6, has="LVDC RUN\nEND STOPPED 2 EXM\nTIMES 1"),
+    Case("save-with-leading-zeros", "The number of save may begin with zeros.", "save 0000001", sum_deck("The sum."), text=SUM_SAVED),
 ]

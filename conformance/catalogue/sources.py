@@ -249,4 +249,54 @@ CASES = [
     refused("a-digit-8", "Addresses are octal.", " CODE\n CLA 8\n END\n", "BadOperand 2"),
     refused("no-end", "END is missing: one more than the last line is named.", " CODE\n CLA 000\n", "MissingEnd 3"),
     refused("after-end", "Only comments follow END.", " CODE\n END\n* A COMMENT\n CLA 000\n", "AfterEnd 4"),
+    refused("an-offset-of-four-digits", "An offset has at most three digits.", " CODE\nX CLA X+0001\n END\n", "BadOperand 2"),
+    refused("an-address-of-ten-digits", "An octal number has at most nine digits.", " CODE\n CLA 0000000001\n END\n", "BadOperand 2"),
+    source("a-literal-with-a-plus-sign", "A decimal literal may have a plus sign.", """
+                ORG   0,00,0,000
+                CLA   =D+5
+                END
+        """, "0 00 000 000017000\n0 01 000 000000005"),
+    source("tabs-in-a-source", "Tabs part the three fields of a line.", "\tORG\t0,00,0,000\nA\tTRA\tA\n\tEND\n", "0 00 000 000010000"),
+    Case("a-cr-at-the-end", "A CR at the end of a last line without LF is part of the last word.", "asm --image",
+         " CODE\n CLA 5\n END\r", 3, "REFUSED UnknownOperation 3"),
+    refused("a-syllable-2", "A syllable is 0 or 1.", " ORG 0,00,2,000\n END\n", "BadDirective 1"),
+    refused("use-with-a-location", "USE has a pair and a sector.", " USE 0,01,000\n END\n", "BadDirective 1"),
+    refused("bss-0", "BSS is of one word at least.", " WORDS 0,01\n BSS 0\n END\n", "BadDirective 2"),
+    refused("the-label-before-the-operation", "A label that is no name comes before an operation that is none.", "1A FLY\n END\n",
+            "BadLabel 1"),
+    refused("an-instruction-among-words", "Instructions stand in a block of code.", " WORDS 0,01\n CLA 0\n END\n", "BadDirective 2"),
+    source("use-within-a-block", "USE doesn't end a block.", """
+                WORDS 0,01,010
+                OCT   1
+                USE   0,02
+                OCT   2
+                END
+        """, "0 01 010 000000001\n0 01 011 000000002"),
+    refused("code-at-375-of-syllable-1", "Nothing stands at location 375 of sector 17, in neither syllable.",
+            " ORG 0,17,1,375\n CLA 0\n END\n", "Overlap 1"),
+    refused("code-at-375-of-pair-1", "The same in every pair.", " ORG 1,17,0,375\n CLA 0\n END\n", "Overlap 1"),
+    refused("a-floating-word-at-377", "Locations 376 and 377 of sector 17 are for fixed blocks alone.",
+            " WORDS 0,17\n BSS 253\n WORDS 0,17\n OCT 1\n END\n", "NoRoom 3"),
+    refused("noroom-before-overlap", "A fixed block that runs past 377 and overlaps is NoRoom.",
+            " ORG 0,00,0,377\n CLA 0\n ORG 0,00,0,377\n CLA 0\n CLA 0\n END\n", "NoRoom 3"),
+    source("code-in-the-next-pair", "Where pair 0 is full code goes to pair 1.",
+           "".join(" WORDS 0,%02o,000\n BSS %d\n" % (sector, 253 if sector == 15 else 256) for sector in range(16)) + " CODE\n CLA 5\n END\n",
+           "1 00 000 000017005"),
+    source("a-literal-takes-both-syllables", "A literal's word takes the least location with both slots free.", """
+                ORG   0,01,1,000
+                CLA   =D5
+                END
+        """, "0 01 000 360020000\n0 01 001 000000005"),
+    refused("cds-of-sector-20", "CDS of a sector above 17.", " CODE\n CDS 0,20\n END\n", "OutOfRange 2"),
+    source("a-literal-beside-an-equal-word", "A literal has a word of its own, also where an OCT line beside it is the same word.", """
+                WORDS 0,01
+                OCT   5
+                ORG   0,00,0,000
+                CLA   =O5
+                END
+        """, "0 00 000 000017001\n0 01 000 000000005\n0 01 001 000000005"),
+    refused("a-transfer-to-another-pair", "A transfer stays in its pair.",
+            " ORG 0,00,0,000\n TRA X\n ORG 1,00,0,000\nX CLA 0\n END\n", "OutOfSector 2"),
+    refused("a-name-of-another-pair", "An operand stands in the pair in use.", " CODE\n CLA X\n WORDS 1,01\nX OCT 1\n END\n",
+            "OutOfSector 2"),
 ]

@@ -41,4 +41,7 @@ CASES = [
     Case("soak-2", "Another number draws other words and bits, and comes to the same counts.", "soak 2", "", text=SOAK % 2,
          worked=True),
     Case("soak-0001", "Leading zeros are allowed, and aren't printed.", "soak 0001", "", text=SOAK % 1),
+    usage("soak-with-eleven-digits", "The number of soak has one to ten digits.", "soak 00000000001"),
+    usage("asm-plain", "--plain and --through go with run alone.", "asm --plain"),
+    usage("resume-and-a-word", "No word follows resume.", "resume X"),
 ]

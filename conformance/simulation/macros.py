@@ -3,7 +3,7 @@ import re
 from typing import NoReturn
 
 from .assembler import NAME, OPERATIONS, assemble, parted
-from .lines import Refused, is_comment, print_image
+from .lines import Refused, is_comment, lines_of, print_image
 
 MOST_BYTES, MOST_CALLS, MOST_LEVELS = 1_048_576, 999, 16
 
@@ -90,7 +90,7 @@ def image_of_expansion(lines: list[str]) -> str:
     """The text of the image of the expansion; a refusal names the line of the source that it came from."""
     expander = expansion(lines)
     try:
-        return print_image(assemble(expander.out).image())
+        return print_image(assemble(lines_of("".join(line + "\n" for line in expander.out))).image())
     except Refused as refused:
         origins = expander.origins + [len(lines) + 1]
         raise Refused(refused.cause, origins[refused.line - 1], refused.status) from None
