@@ -19,7 +19,9 @@ use Rattle.lvdc_model.specs.Runs.{guarded}
 use Rattle.lvdc_laws_voted.specs.Ends.{IsOpening, Comes, Good, Bad}
 use Rattle.lvdc_laws_voted.specs.Laws.{PortLaw, DeviceWords, BankLaw}
 use Rattle.lvdc_laws_voted.specs.Relation.{Goes, Halts}
-use Rattle.lvdc_masks.specs.Form.{lines_in, one_wrong_before, is_duplex, is_seen, is_lasting, place_of, none_twice, is_one_sound, masks}
+use Rattle.lvdc_masks.specs.Form.{lines_in, one_wrong_before, is_duplex, is_seen, is_lasting, place_of, none_twice, is_one_sound, is_met, masks}
+use Rattle.lvdc_masks.specs.declared.condition.Condition.{Condition}
+use Rattle.lvdc_masks.specs.declared.condition.Condition.TheVariants.{Copies, Pairs, Places, Deaths}
 use Rattle.lvdc_laws_masking.proofs.Lines.{lone}
 use Rattle.lvdc_laws_masking.proofs.Runs.{WordsLaw, HasWords, run-words, HasBanks, read-bank, next-word}
 use Rattle.lvdc_laws_masking.proofs.Recovered.{MasksAt, in-step, after-step}
@@ -36,18 +38,15 @@ pub record Form (script : List Event) (banks count : ℕ) : Type 0 where
 
 pub form : (script : List Event) (banks count : ℕ) → masks script banks count ≡ true → Form script banks count
 form script banks count h =
-    let a = one_wrong_before script (3 * count) in
-    let b = list_all (is_duplex banks) (lines_in count script) in
-    let c = list_all is_seen (lines_in count script) in
-    let d = none_twice (filter_map place_of (lines_in count script)) in
-    let e = list_all (is_lasting count) (lines_in count script) in
-    let f = list_all (is_one_sound (lines_in count script)) (0 ∷ 1 ∷ 2 ∷ 3 ∷ []) in
-    let five = and_parts (a && b && c && d && e) f h in
-    let four = and_parts (a && b && c && d) e five.0 in
-    let three = and_parts (a && b && c) d four.0 in
-    let two = and_parts (a && b) c three.0 in
-    let one = and_parts a b two.0 in
-    record { copies = one.0; duplex = one.1; seen = two.1; apart = three.1; lasting = four.1; sound = five.1 }
+    let lines : List Event = lines_in count script in
+    let met : Condition → Bool = is_met script banks count in
+    let copies = and_parts (met Copies) (met Pairs && (met Places && (met Deaths && true))) h in
+    let pairs = and_parts (met Pairs) (met Places && (met Deaths && true)) copies.1 in
+    let places = and_parts (met Places) (met Deaths && true) pairs.1 in
+    let deaths = and_parts (met Deaths) true places.1 in
+    let each = and_parts (list_all is_seen lines) (none_twice (filter_map place_of lines)) places.0 in
+    let twins = and_parts (list_all (is_lasting count) lines) (list_all (is_one_sound lines) (0 ∷ 1 ∷ 2 ∷ 3 ∷ [])) deaths.0 in
+    record { copies = copies.0; duplex = pairs.0; seen = each.0; apart = each.1; lasting = twins.0; sound = twins.1 }
 
 -- ---- copies
 

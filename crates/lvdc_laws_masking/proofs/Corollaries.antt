@@ -213,13 +213,11 @@ module _ (copy : ℕ → ℕ) (banks count twin : ℕ) where
         let lines : List Event = lines_in count script in
         let in_lines = all_in count (is_of_three copy banks count twin) script all in
         let sound = one_sound lines in_lines in
-        and_from _ _ (and_from _ _ (and_from _ _ (and_from _ _ (and_from _ _
-        (one_wrong (3 * count))
-        (all_implied (is_of_three copy banks count twin) (is_duplex banks) three_duplex lines in_lines))
-        (all_implied (is_of_three copy banks count twin) is_seen three_seen lines in_lines))
-        (once_in count script once))
-        (all_implied (is_of_three copy banks count twin) (is_lasting count) three_lasting lines in_lines))
-        (and_from _ _ (sound 0) (and_from _ _ (sound 1) (and_from _ _ (sound 2) (and_from _ _ (sound 3) refl))))
+        and_from _ _ (one_wrong (3 * count))
+        (and_from _ _ (all_implied (is_of_three copy banks count twin) (is_duplex banks) three_duplex lines in_lines)
+        (and_from _ _ (and_from _ _ (all_implied (is_of_three copy banks count twin) is_seen three_seen lines in_lines) (once_in count script once))
+        (and_from _ _ (and_from _ _ (all_implied (is_of_three copy banks count twin) (is_lasting count) three_lasting lines in_lines)
+        (and_from _ _ (sound 0) (and_from _ _ (sound 1) (and_from _ _ (sound 2) (and_from _ _ (sound 3) refl))))) refl)))
 
 -- ---- lines without a place
 

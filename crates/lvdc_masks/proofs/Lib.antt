@@ -4,4 +4,4 @@ pub mod Steps
 pub mod Marking
 pub mod Naming
 pub mod Gathered
-pub mod Joined
+pub mod Told

@@ -1,14 +1,18 @@
 -- Worked values of the definitions.
-use Rattle.std.proofs.Common.{◌≡◌, refl, [], ◌∷◌, true, false}
+use Rattle.std.proofs.Common.{◌≡◌, refl, [], ◌∷◌, true, false, None, Some}
 use Rattle.lvdc_map.specs.Address.{Spot}
 use Rattle.lvdc_fault.specs.declared.event.Event.TheVariants.{Flip, Lag, Deaf, Damage, Stick, Dead}
-use Rattle.lvdc_masks.specs.Form.{masks}
+use Rattle.lvdc_masks.specs.Form.{masks, first_unmet}
+use Rattle.lvdc_masks.specs.declared.condition.Condition.TheVariants.{Copies, Pairs, Places, Deaths}
 
 abbrev here : Spot
 here = record { pair = 0; sector = 1; loc = 0 }
 
 abbrev there : Spot
 there = record { pair = 0; sector = 1; loc = 1 }
+
+abbrev beyond : Spot
+beyond = record { pair = 1; sector = 1; loc = 0 }
 
 -- ---- copies
 
@@ -89,3 +93,42 @@ both_twins_dead = refl
 
 one_twin_of_each_pair : masks (Dead 0 0 5 11 ∷ Dead 1 1 8 11 ∷ []) 0 4 ≡ true
 one_twin_of_each_pair = refl
+
+-- ---- which condition is told
+
+-- a run of two times has the steps 0 to 5: two lines of one copy, damage of a dead twin, a bit in each half, and a line after the run
+all_met : first_unmet (Flip 5 1 0 9 0 1 ∷ Lag 5 1 2 3 ∷ Lag 4 2 0 5 ∷ Dead 0 1 3 5 ∷ Damage 0 beyond 4 1 ∷ Damage 0 here 2 0o40001
+    ∷ Stick 1 there 0 2 0o40001 0 ∷ Damage 1 here 6 3 ∷ []) 0 2 ≡ None
+all_met = refl
+
+two_copies : first_unmet (Flip 5 1 0 3 0 1 ∷ Lag 5 2 3 9 ∷ []) 0 2 ≡ Some Copies
+two_copies = refl
+
+-- the pair is named by a death that ends early, too
+simplex_before_a_death : first_unmet (Damage 0 here 0 1 ∷ Dead 0 1 0 1 ∷ []) 1 2 ≡ Some Pairs
+simplex_before_a_death = refl
+
+two_lines_at_a_place : first_unmet (Damage 0 here 0 1 ∷ Stick 1 here 5 5 0 0 ∷ []) 0 2 ≡ Some Places
+two_lines_at_a_place = refl
+
+unseen_damage : first_unmet (Damage 0 here 0 3 ∷ []) 0 2 ≡ Some Places
+unseen_damage = refl
+
+unseen_stuck_bits : first_unmet (Stick 0 here 0 5 7 0 ∷ []) 0 2 ≡ Some Places
+unseen_stuck_bits = refl
+
+back_in_the_last_step : first_unmet (Dead 0 1 3 4 ∷ []) 0 2 ≡ Some Deaths
+back_in_the_last_step = refl
+
+other_twin_before_the_death : first_unmet (Dead 0 1 3 5 ∷ Damage 1 beyond 0 1 ∷ []) 0 2 ≡ Some Deaths
+other_twin_before_the_death = refl
+
+-- where none is met the first one is told, and so on
+none_met : first_unmet (Lag 3 1 0 5 ∷ Deaf 3 2 5 9 ∷ Damage 0 here 4 3 ∷ Dead 0 1 0 1 ∷ []) 1 2 ≡ Some Copies
+none_met = refl
+
+all_but_copies : first_unmet (Damage 0 here 4 3 ∷ Dead 0 1 0 1 ∷ []) 1 2 ≡ Some Pairs
+all_but_copies = refl
+
+places_before_deaths : first_unmet (Damage 0 here 4 3 ∷ Dead 0 1 0 1 ∷ []) 0 2 ≡ Some Places
+places_before_deaths = refl

@@ -1,6 +1,6 @@
 -- When a script masks by form: a condition on its lines, the banks and the count of times alone. Whatever program runs, each step
 -- is then admissible.
-use Rattle.std.specs.Prelude.{ℕ, zero, suc, ◌+◌, ◌*◌, ◌/◌, ◌%◌, ◌^◌, Bool, true, false, not, ◌&&◌, ◌||◌, ◌==◌, nat_lt, nat_le, is_none, List, [], ◌∷◌, filter, filter_map, Option, None, Some}
+use Rattle.std.specs.Prelude.{ℕ, zero, suc, ◌+◌, ◌*◌, ◌/◌, ◌%◌, ◌^◌, Bool, true, false, not, ◌&&◌, ◌||◌, ◌==◌, nat_lt, nat_le, is_none, List, [], ◌∷◌, filter, filter_map, find, Option, None, Some}
 use Rattle.std.specs.List.{list_any, list_all}
 use Rattle.lvdc_word.specs.Cell.{ones}
 use Rattle.lvdc_map.specs.Address.{Spot, is_same}
@@ -8,6 +8,8 @@ use Rattle.lvdc_map.specs.Banks.{is_simplex}
 use Rattle.lvdc_fault.specs.Script.{first_of, wrong_module}
 use Rattle.lvdc_fault.specs.declared.event.Event.{Event}
 use Rattle.lvdc_fault.specs.declared.event.Event.TheVariants.{Damage, Stick, Dead}
+use Rattle.lvdc_masks.specs.declared.condition.Condition.{Condition}
+use Rattle.lvdc_masks.specs.declared.condition.Condition.TheVariants.{Copies, Pairs, Places, Deaths}
 
 -- the lines that begin in a run of so many times; a time has three steps
 abbrev pub lines_in : ℕ → List Event → List Event
@@ -83,10 +85,23 @@ is_one_sound lines pair = not (list_any (kills_in pair) lines && list_any (names
 
 -- ---- the form
 
--- at each step each module has at most one wrong copy; each line on memory names a duplex pair; a place is damaged or stuck by one
--- line at most, over both twins, and a reader of parity sees it; a twin that dies stays dead, and the other twin is sound
+-- whether a condition is met: at each step each module has at most one wrong copy; each line on memory names a duplex pair; a place
+-- is damaged or stuck by one line at most, over both twins, and a reader of parity sees it; a twin that dies stays dead, and the
+-- other twin is sound
+abbrev pub is_met : List Event → ℕ → ℕ → Condition → Bool
+is_met script banks count Copies = one_wrong_before script (3 * count)
+is_met script banks count Pairs = list_all (is_duplex banks) (lines_in count script)
+is_met script banks count Places = list_all is_seen (lines_in count script) && none_twice (filter_map place_of (lines_in count script))
+is_met script banks count Deaths = list_all (is_lasting count) (lines_in count script) && list_all (is_one_sound (lines_in count script)) (0 ∷ 1 ∷ 2 ∷ 3 ∷ [])
+
+-- the four conditions in the order in which they are told
+abbrev pub conditions : List Condition
+conditions = Copies ∷ Pairs ∷ Places ∷ Deaths ∷ []
+
+-- a script masks by form where all four are met
 abbrev pub masks : List Event → ℕ → ℕ → Bool
-masks script banks count =
-    one_wrong_before script (3 * count) && list_all (is_duplex banks) (lines_in count script) && list_all is_seen (lines_in count script)
-    && none_twice (filter_map place_of (lines_in count script)) && list_all (is_lasting count) (lines_in count script)
-    && list_all (is_one_sound (lines_in count script)) (0 ∷ 1 ∷ 2 ∷ 3 ∷ [])
+masks script banks count = list_all (is_met script banks count) conditions
+
+-- the first condition that isn't met, where there is one
+abbrev pub first_unmet : List Event → ℕ → ℕ → Option Condition
+first_unmet script banks count = find (λ condition. not (is_met script banks count condition)) conditions

@@ -1,11 +1,10 @@
 //! What each line of a script says by itself.
 
-ghost use Rattle.std.specs.Prelude.{◌≡◌, ◌*◌, ◌/◌, ◌%◌, ◌^◌, ◌<◌, ◌&&◌, nat_lt, [], ◌∷◌, IfOk};
+ghost use Rattle.std.specs.Prelude.{◌≡◌, ◌*◌, ◌/◌, ◌%◌, ◌^◌, ◌<◌, nat_lt, IfOk};
 ghost use Rattle.std.specs.List.{list_all};
 ghost use Rattle.lvdc_fault.specs.Script.{first_of};
-ghost use Rattle.lvdc_masks.specs.Form.{lines_in, is_duplex_pair, is_duplex, is_odd, is_single, is_seen, is_lasting, is_one_sound};
+ghost use Rattle.lvdc_masks.specs.Form.{lines_in, is_duplex_pair, is_duplex, is_odd, is_single, is_seen, is_lasting};
 
-use crate::twins::are_sound;
 use lvdc_fault::{Event, Script};
 use lvdc_map::Banks;
 use lvdc_word::{Cell, NoMemory};
@@ -47,28 +46,22 @@ pub(crate) fn first_step(line: &Event) -> u64
     }
 }
 
-/// Does each line name a duplex pair, is it seen and is it lasting, where it is on memory; and is the other twin sound where one
-/// dies?
-pub(crate) fn are_masked(banks: Banks, count: u64, lines: &[Event]) -> bool
-    ensures { result ≡ (list_all (is_duplex banks) lines.now && list_all is_seen lines.now && list_all (is_lasting count) lines.now
-        && list_all (is_one_sound lines.now) (0 ∷ 1 ∷ 2 ∷ 3 ∷ [])) }
-{
-    are_duplex(banks, lines) && are_seen(lines) && are_lasting(count, lines) && are_sound(lines)
-}
-
-fn are_duplex(banks: Banks, lines: &[Event]) -> bool
+/// Does each line on memory name a duplex pair?
+pub(crate) fn are_duplex(banks: Banks, lines: &[Event]) -> bool
     ensures { result ≡ list_all (is_duplex banks) lines.now }
 {
     lines.iter().all(|line| is_duplex(banks, line))
 }
 
-fn are_seen(lines: &[Event]) -> bool
+/// Is each line on memory seen?
+pub(crate) fn are_seen(lines: &[Event]) -> bool
     ensures { result ≡ list_all is_seen lines.now }
 {
     lines.iter().all(|line| is_seen(line))
 }
 
-fn are_lasting(count: u64, lines: &[Event]) -> bool
+/// Is each twin that a line kills dead up to the last step?
+pub(crate) fn are_lasting(count: u64, lines: &[Event]) -> bool
     ensures { result ≡ list_all (is_lasting count) lines.now }
 {
     lines.iter().all(|line| is_lasting(count, line))

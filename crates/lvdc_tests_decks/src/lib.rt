@@ -1,10 +1,12 @@
-//! Tests of decks, the decks of campaigns and of soak runs, and saved texts, over the public calls of their crates.
+//! Tests of decks and their form, the decks of campaigns and of soak runs, and saved texts, over the public calls of their crates.
 #![tactic(auto)]
 
 #[cfg(test)]
 mod campaign_deck;
 #[cfg(test)]
 mod deck;
+#[cfg(test)]
+mod form;
 #[cfg(test)]
 mod rows;
 #[cfg(test)]

@@ -1,0 +1,5 @@
+mod Rows
+mod Clear
+mod Supplying
+mod Plain
+mod Telling
