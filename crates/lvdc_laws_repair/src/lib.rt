@@ -1,0 +1,31 @@
+//! What a program withstands that reads or stores its words often enough. These are laws over the definitions: each is the
+//! contract of a function that does nothing when it runs, and that a proof cites by calling it.
+#![tactic(auto)]
+
+ghost use Rattle.std.specs.Prelude.{◌≡◌, ℕ, true};
+ghost use Rattle.lvdc_model.specs.Trial.{Trial};
+ghost use Rattle.lvdc_laws_voted.specs.Ends.{IsOpening};
+ghost use Rattle.lvdc_laws_repair.specs.Repairs.{repairs};
+ghost use Rattle.lvdc_laws_repair.specs.Withstood.{Masked, Withstood};
+
+/// Where the program repairs the damage of the script each step of the run is admissible, and each word can be recovered.
+pub fn repair_masks()
+    ensures { (o : Trial) (count : ℕ) → IsOpening o.opening → repairs o count ≡ true → Masked o count }
+{
+    lvdc_laws_voted::ports_match();
+    lvdc_laws_voted::guarded_run();
+    lvdc_port::words_stay();
+    lvdc_map::banks_are_held();
+    lvdc_laws_phases::times_keep_words();
+}
+
+/// So the run comes to what the plain run comes to.
+pub fn repair_withstands()
+    ensures { (o : Trial) (count : ℕ) → IsOpening o.opening → repairs o count ≡ true → Withstood o count }
+{
+    repair_masks();
+    lvdc_laws_voted::guarded_run();
+    lvdc_laws_voted::guarded_times();
+    lvdc_laws_voted::guarded_ends();
+    lvdc_laws_voted::words_known();
+}
