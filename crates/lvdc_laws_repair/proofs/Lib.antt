@@ -6,3 +6,4 @@ pub mod Runs
 pub mod Recovered
 pub mod Admitted
 pub mod Known
+pub mod Spaced

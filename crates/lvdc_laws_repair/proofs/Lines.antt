@@ -84,8 +84,8 @@ sticks-names place twin (Stick w at first last mask value) h =
     and_from (at.pair == place.pair) (w == twin) (eq-eqb at.pair place.pair pair) parts.0
 sticks-names place twin _ h = absurd (true≢false (sym h))
 
-same_self : (at : Spot) → is_same at at ≡ true
-same_self at =
+pub same-self : (at : Spot) → is_same at at ≡ true
+same-self at =
     and_from (at.pair == at.pair && at.sector == at.sector) (at.loc == at.loc)
     (and_from (at.pair == at.pair) (at.sector == at.sector) (eq-eqb at.pair at.pair refl) (eq-eqb at.sector at.sector refl)) (eq-eqb at.loc at.loc refl)
 

@@ -6,6 +6,7 @@ ghost use Rattle.std.specs.Prelude.{◌≡◌, ℕ, true};
 ghost use Rattle.lvdc_model.specs.Trial.{Trial};
 ghost use Rattle.lvdc_laws_voted.specs.Ends.{IsOpening};
 ghost use Rattle.lvdc_laws_repair.specs.Repairs.{repairs};
+ghost use Rattle.lvdc_laws_repair.specs.Scrubs.{Scrubs};
 ghost use Rattle.lvdc_laws_repair.specs.Withstood.{Masked, Withstood};
 
 /// Where the program repairs the damage of the script each step of the run is admissible, and each word can be recovered.
@@ -28,4 +29,12 @@ pub fn repair_withstands()
     lvdc_laws_voted::guarded_times();
     lvdc_laws_voted::guarded_ends();
     lvdc_laws_voted::words_known();
+}
+
+/// A program that reads or stores each word at least every so many steps withstands damage without end, as long as no word is
+/// hit twice within as many steps, in whichever twins.
+pub fn scrub_withstands()
+    ensures { (o : Trial) (count every : ℕ) → IsOpening o.opening → Scrubs o count every → Withstood o count }
+{
+    repair_withstands();
 }
