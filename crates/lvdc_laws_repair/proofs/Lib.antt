@@ -7,3 +7,4 @@ pub mod Recovered
 pub mod Admitted
 pub mod Known
 pub mod Spaced
+mod Rows

@@ -1,15 +1,14 @@
 -- A program that reads or stores each word often enough repairs damage that is as far apart.
-use Rattle.std.proofs.Common.{◌≡◌, ℕ, ◌+◌, ◌*◌, ◌<◌, ◌≤◌, Bool, true, false, not, ◌&&◌, ◌||◌, cond, List, [], ◌∷◌, ◌⊎◌, inl, inr, refl, sym, arith}
+use Rattle.std.proofs.Common.{◌≡◌, ℕ, ◌+◌, ◌*◌, ◌<◌, ◌≤◌, Bool, true, false, not, cond, List, [], ◌∷◌, ◌⊎◌, inl, inr, refl, arith}
 use Rattle.std.specs.Prelude.{nat_le, nat_lt}
 use Rattle.std.specs.List.{list_any, list_all}
 use Rattle.std.proofs.lemmas.Bool.{leb-true, ltb-true, or_cases, or_left, or_right, and_from, and_parts}
 use Rattle.lvdc_map.specs.Address.{Spot, is_same}
 use Rattle.lvdc_fault.specs.Script.{first_of}
 use Rattle.lvdc_fault.specs.declared.event.Event.{Event}
-use Rattle.lvdc_fault.specs.declared.event.Event.TheVariants.{Flip, Force, Lag, Deaf, Damage, Stick, Dead}
+use Rattle.lvdc_fault.specs.declared.event.Event.TheVariants.{Damage}
 use Rattle.lvdc_masks.specs.Form.{lines_in}
 use Rattle.lvdc_model.specs.Trial.{Trial}
-use Rattle.lvdc_map.proofs.Addresses.{same-spot}
 use Rattle.lvdc_laws_repair.specs.Touches.{touches_from, touches_between}
 use Rattle.lvdc_laws_repair.specs.Repairs.{is_limited, are_apart, each_two, repairs}
 use Rattle.lvdc_laws_repair.specs.Scrubs.{damages_it, are_steps_apart, Scrubs}

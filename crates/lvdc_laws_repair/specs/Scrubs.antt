@@ -1,5 +1,5 @@
 -- When a program reads or stores each word often enough for a script.
-use Rattle.std.specs.Prelude.{◌≡◌, ℕ, ◌+◌, ◌*◌, ◌≤◌, Bool, true, false, ◌||◌, nat_le, List}
+use Rattle.std.specs.Prelude.{◌≡◌, ℕ, ◌+◌, ◌*◌, ◌≤◌, Bool, true, false, ◌||◌, nat_le}
 use Rattle.std.specs.List.{list_any}
 use Rattle.lvdc_map.specs.Address.{Spot, is_same}
 use Rattle.lvdc_fault.specs.declared.event.Event.{Event}
