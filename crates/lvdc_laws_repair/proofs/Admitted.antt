@@ -136,10 +136,10 @@ DuplexLaw = (banks twin : ℕ) (at : Spot) → HasBank banks at → is_simplex b
 
 module _ (ports : PortLaw) (devices : DeviceWords) (words : WordsLaw) (banks : BankLaw) (duplex : DuplexLaw) (o : Trial) (count : ℕ) (ok : IsOpening o.opening)
     (comes : Comes Standing o 0) (f : Parts o count) where
-  fits : (k : ℕ) → HasWords (run o.opening k)
+  pub fits : (k : ℕ) → HasWords (run o.opening k)
   fits k = run-words ports devices words o.opening (starts-words o ok comes) k
 
-  small : (at : Spot) (n : ℕ) → word_at (plain_in o n).memory at < 2 ^ 26
+  pub small : (at : Spot) (n : ℕ) → word_at (plain_in o n).memory at < 2 ^ 26
   small at n = (fits (n / 3)).plain.words at
 
   -- ---- words

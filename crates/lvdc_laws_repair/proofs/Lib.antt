@@ -7,4 +7,6 @@ pub mod Recovered
 pub mod Admitted
 pub mod Known
 pub mod Spaced
+pub mod Waiting
+pub mod Noted
 mod Rows

@@ -97,16 +97,16 @@ module _ (o : Trial) (count : ℕ) (at : Spot) (bank : HasBank o.opening.banks a
   abbrev pub Hit : ℕ → ℕ → Type 0
   Hit twin t = list_any (hits place twin t) lines ≡ true
 
-  named : (twin t : ℕ) → Hit twin t → list_any (names_twin pair twin) lines ≡ true
+  pub named : (twin t : ℕ) → Hit twin t → list_any (names_twin pair twin) lines ≡ true
   named twin t h = some-pass (hits place twin t) (names_twin pair twin) (hits-names place twin t) lines h
 
-  not_simplex : (twin : ℕ) → list_any (names_twin pair twin) lines ≡ true → is_simplex o.opening.banks pair ≡ false
-  not_simplex twin h =
+  pub not-simplex : (twin : ℕ) → list_any (names_twin pair twin) lines ≡ true → is_simplex o.opening.banks pair ≡ false
+  not-simplex twin h =
       false_from_ne_true (is_simplex o.opening.banks pair)
       (λ simplex. true≢false (sym h ∙ simplex-unnamed o.opening.banks pair twin lines (omega arith) simplex m.duplex))
 
   -- the place of an address in a duplex pair is the address
-  flat : is_simplex o.opening.banks pair ≡ false → place ≡ at
+  pub flat : is_simplex o.opening.banks pair ≡ false → place ≡ at
   flat duplex = by_case (or_cases (nat_lt at.pair 4) (is_simplex o.opening.banks (at.pair - 4)) bank.there)
     where
       by_case : (nat_lt at.pair 4 ≡ true) ⊎ (is_simplex o.opening.banks (at.pair - 4) ≡ true) → place ≡ at
@@ -130,7 +130,7 @@ module _ (o : Trial) (count : ℕ) (at : Spot) (bank : HasBank o.opening.banks a
   -- between two damages of the place the plain run reads or stores the word
   between : (one other t u : ℕ) → (t ≡ u → one ≡ other → ⊥) → Hit one t → Hit other u → touches_between o at t u ≡ true
   between one other t u differ h k =
-      subst (λ (s : Spot). touches_between o s t u ≡ true) (flat (not_simplex one (named one t h)))
+      subst (λ (s : Spot). touches_between o s t u ≡ true) (flat (not-simplex one (named one t h)))
       (any-two (are_apart (touches_between o)) (hits place one t) (hits place other u) (λ e a b. absurd (one_line e a b)) by_order lines m.apart h k)
     where
       one_line : (e : Event) → hits place one t e ≡ true → hits place other u e ≡ true → ⊥
@@ -166,8 +166,8 @@ module _ (o : Trial) (count : ℕ) (at : Spot) (bank : HasBank o.opening.banks a
   Sound before until twin code cell = (cell ≡ code) ⊎ (Pending before until twin × (is_good cell ≡ false))
 
   -- two damages aren't both pending
-  not_two : (before until one other : ℕ) → before ≤ suc until → (x : Pending before until one) (y : Pending before until other) → (x.step ≡ y.step → one ≡ other → ⊥) → ⊥
-  not_two before until one other le x y differ =
+  pub not-two : (before until one other : ℕ) → before ≤ suc until → (x : Pending before until one) (y : Pending before until other) → (x.step ≡ y.step → one ≡ other → ⊥) → ⊥
+  not-two before until one other le x y differ =
       by_case (or_cases (touches_from o at x.step y.step) (touches_from o at y.step x.step) (between one other x.step y.step differ x.hit y.hit))
     where
       by_case : (touches_from o at x.step y.step ≡ true) ⊎ (touches_from o at y.step x.step ≡ true) → ⊥
@@ -175,9 +175,9 @@ module _ (o : Trial) (count : ℕ) (at : Spot) (bank : HasBank o.opening.banks a
       by_case (inr h) = let early = x.early in true≢false (sym (touches-more o at y.step x.step until (omega arith) h) ∙ y.still)
 
   -- after the damage of a step
-  damaged_sound : (n twin : ℕ) → n < 3 * count → Sound n n twin (code_of (word n)) (cell_before o twin at n)
+  pub damaged-sound : (n twin : ℕ) → n < 3 * count → Sound n n twin (code_of (word n)) (cell_before o twin at n)
       → Sound (suc n) n twin (code_of (word n)) (damaged_at o n twin at (cell_before o twin at n))
-  damaged_sound n twin below sound = by_damage (damage-of (touches_between o) (never-between o) count place twin n below o.script m.seen m.apart) sound
+  damaged-sound n twin below sound = by_damage (damage-of (touches_between o) (never-between o) count place twin n below o.script m.seen m.apart) sound
     where
       cell : ℕ
       cell = cell_before o twin at n
@@ -197,7 +197,7 @@ module _ (o : Trial) (count : ℕ) (at : Spot) (bank : HasBank o.opening.banks a
       by_damage (Struck mask some odd is) (inl e) =
           inr (now some, ap is_good (is cell ∙ ap (λ (c : ℕ). bit_xor c mask) e) ∙ damage-seen (code_of (word n)) mask (good-code (word n) (small n)) odd)
       by_damage (Struck mask some odd is) (inr (p, bad)) =
-          absurd (let early = p.early in not_two (suc n) n twin twin (omega arith) (later p) (now some) (λ e _. omega arith))
+          absurd (let early = p.early in not-two (suc n) n twin twin (omega arith) (later p) (now some) (λ e _. omega arith))
 
   -- what a twin shows of a bad cell that was damaged and isn't stuck
   shown_bad : (n k until twin cell : ℕ) → n < 3 * count → Alive n twin → Pending k until twin → is_good cell ≡ false → is_good (shown_with o n twin at cell) ≡ false
@@ -229,7 +229,7 @@ module _ (o : Trial) (count : ℕ) (at : Spot) (bank : HasBank o.opening.banks a
 
       needs : reads_it (read_at o n) at ≡ true → is_mended o n twin at cell ≡ true
       needs h =
-          and_from _ _ (and_from _ _ (and_from _ _ h (not_from_false (is_simplex o.opening.banks pair) (not_simplex twin (named twin p.step p.hit))))
+          and_from _ _ (and_from _ _ (and_from _ _ h (not_from_false (is_simplex o.opening.banks pair) (not-simplex twin (named twin p.step p.hit))))
           (not_from_false (is_dead o.script n twin pair) alive)) (not_from_false (is_good (shown_with o n twin at cell)) (shown_bad n (suc n) n twin cell below alive p bad))
 
   next_sound : (n twin : ℕ) → n < 3 * count → holds o.opening.banks twin at ≡ true → Alive n twin → Sound n n twin (code_of (word n)) (cell_before o twin at n)
@@ -242,7 +242,7 @@ module _ (o : Trial) (count : ℕ) (at : Spot) (bank : HasBank o.opening.banks a
       cell = damaged_at o n twin at (cell_before o twin at n)
 
       made : Mended n twin cell
-      made = mend n twin cell below alive (damaged_sound n twin below sound)
+      made = mend n twin cell below alive (damaged-sound n twin below sound)
 
       left : ℕ
       left = mended o n twin at cell
@@ -267,11 +267,11 @@ module _ (o : Trial) (count : ℕ) (at : Spot) (bank : HasBank o.opening.banks a
           )
 
   -- before each step
-  pub before_sound : (n twin : ℕ) → n ≤ 3 * count → holds o.opening.banks twin at ≡ true → ((k : ℕ) → k < n → Alive k twin)
+  pub before-sound : (n twin : ℕ) → n ≤ 3 * count → holds o.opening.banks twin at ≡ true → ((k : ℕ) → k < n → Alive k twin)
       → Sound n n twin (code_of (word n)) (cell_before o twin at n)
-  before_sound zero twin le held alive = inl refl
-  before_sound (suc n) twin le held alive =
-      next_sound n twin (omega arith) held (alive n (omega arith)) (before_sound n twin (omega arith) held (λ k lt. alive k (omega arith)))
+  before-sound zero twin le held alive = inl refl
+  before-sound (suc n) twin le held alive =
+      next_sound n twin (omega arith) held (alive n (omega arith)) (before-sound n twin (omega arith) held (λ k lt. alive k (omega arith)))
 
   -- ---- what a twin shows, once its cell is sound
 
@@ -335,7 +335,7 @@ module _ (o : Trial) (count : ℕ) (at : Spot) (bank : HasBank o.opening.banks a
 
   -- the cells of both twins aren't at fault
   one_fault : (before until : ℕ) → before ≤ suc until → Fault before until 0 → Fault before until 1 → ⊥
-  one_fault before until le (inl x) (inl y) = not_two before until 0 1 le x y (λ _ e. omega arith)
+  one_fault before until le (inl x) (inl y) = not-two before until 0 1 le x y (λ _ e. omega arith)
   one_fault before until le (inl x) (inr s) = not-stuck-and-hit (touches_between o) place 1 0 x.step lines m.apart s x.hit
   one_fault before until le (inr s) (inl x) = not-stuck-and-hit (touches_between o) place 0 1 x.step lines m.apart s x.hit
   one_fault before until le (inr s) (inr r) = not-both-stuck (touches_between o) place lines m.apart s r
@@ -353,9 +353,9 @@ module _ (o : Trial) (count : ℕ) (at : Spot) (bank : HasBank o.opening.banks a
   unhurt : (n before until twin code shown : ℕ) → n < 3 * count → is_simplex o.opening.banks pair ≡ true → Out n before until twin code shown → shown ≡ code
   unhurt n before until twin code shown below simplex (Right e) = e
   unhurt n before until twin code shown below simplex (Gone dead bad) =
-      absurd (true≢false (sym simplex ∙ not_simplex twin (dead_named n twin below dead)))
+      absurd (true≢false (sym simplex ∙ not-simplex twin (dead_named n twin below dead)))
   unhurt n before until twin code shown below simplex (Hurt fault bad) =
-      absurd (true≢false (sym simplex ∙ not_simplex twin (fault_named before until twin fault)))
+      absurd (true≢false (sym simplex ∙ not-simplex twin (fault_named before until twin fault)))
 
   recovered : (n before until w : ℕ) (cells : ℕ → ℕ) → n < 3 * count → before ≤ suc until → w < 2 ^ 26 → AreSound n before until (code_of w) cells
       → is_recovered o.opening.banks at w (λ twin. shown_with o n twin at (cells twin)) ≡ true
@@ -379,9 +379,9 @@ module _ (o : Trial) (count : ℕ) (at : Spot) (bank : HasBank o.opening.banks a
   pub in-step : (n : ℕ) → n < 3 * count → is_recoverable o n at ≡ true
   in-step n below =
       recovered n (suc n) n (word n) (λ twin. damaged_at o n twin at (cell_before o twin at n)) below (omega arith) (small n)
-      (λ twin two held alive. damaged_sound n twin below (before_sound n twin (omega arith) held (λ k lt. alive_before n k twin two (omega arith) below alive)))
+      (λ twin two held alive. damaged-sound n twin below (before-sound n twin (omega arith) held (λ k lt. alive_before n k twin two (omega arith) below alive)))
 
   pub after-step : (n : ℕ) → n < 3 * count → is_recoverable_after o (suc n) at ≡ true
   after-step n below =
       recovered n (suc n) (suc n) (word (suc n)) (λ twin. cell_before o twin at (suc n)) below (omega arith) (small (suc n))
-      (λ twin two held alive. before_sound (suc n) twin (omega arith) held (λ k lt. alive_before n k twin two (omega arith) below alive))
+      (λ twin two held alive. before-sound (suc n) twin (omega arith) held (λ k lt. alive_before n k twin two (omega arith) below alive))
