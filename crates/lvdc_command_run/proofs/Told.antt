@@ -46,7 +46,8 @@ line-same : (there : Bool) (banks : ℕ) (words : Memory) (known other : Spot �
 line-same true banks words known other at is same = rw is (ap (λ (b : Bool). told_line b at (word_at words at)) (same is))
 line-same false banks words known other at is same = rw is refl
 
-memory-same : (banks : ℕ) (words others : Memory) (known other : Spot → Bool) → words ≡ others
+-- the lines of memory are the same where the words are, and what is known of each address
+pub memory-same : (banks : ℕ) (words others : Memory) (known other : Spot → Bool) → words ≡ others
     → ((at : Spot) → HasBank banks at → known at ≡ other at) → memory_text banks words known ≡ memory_text banks others other
 memory-same banks words others known other e same =
     ap (λ (m : Memory). memory_text banks m known) e

@@ -1,9 +1,3 @@
-pub mod Seen
-pub mod Lines
-pub mod Deaths
-pub mod Cells
-pub mod Runs
-pub mod Recovered
-pub mod Admitted
-pub mod Known
+pub mod Lasting
+pub mod Repairs
 pub mod Corollaries

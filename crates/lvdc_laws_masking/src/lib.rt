@@ -8,29 +8,21 @@ ghost use Rattle.lvdc_model.specs.Trial.{Trial};
 ghost use Rattle.lvdc_laws_voted.specs.Ends.{IsOpening};
 ghost use Rattle.lvdc_masks.specs.Form.{masks};
 ghost use Rattle.lvdc_laws_masking.specs.Kinds.{InOneCopyEach, OneMemoryDead, OneBitEach, AllThree};
-ghost use Rattle.lvdc_laws_masking.specs.Withstood.{Masked, Withstood};
+ghost use Rattle.lvdc_laws_repair.specs.Withstood.{Masked, Withstood};
 
 /// Under a script that masks by form each step of the run is admissible, and each word can be recovered: for every image,
 /// start, unplugs, devices and count.
 pub fn form_masks()
     ensures { (o : Trial) (count : ℕ) → IsOpening o.opening → masks o.script o.opening.banks count ≡ true → Masked o count }
 {
-    lvdc_laws_voted::ports_match();
-    lvdc_laws_voted::guarded_run();
-    lvdc_port::words_stay();
-    lvdc_map::banks_are_held();
-    lvdc_laws_phases::times_keep_words();
+    lvdc_laws_repair::repair_masks();
 }
 
 /// So the run comes to what the plain run comes to, whatever it computes.
 pub fn form_withstands()
     ensures { (o : Trial) (count : ℕ) → IsOpening o.opening → masks o.script o.opening.banks count ≡ true → Withstood o count }
 {
-    form_masks();
-    lvdc_laws_voted::guarded_run();
-    lvdc_laws_voted::guarded_times();
-    lvdc_laws_voted::guarded_ends();
-    lvdc_laws_voted::words_known();
+    lvdc_laws_repair::repair_withstands();
 }
 
 /// One copy of each module may fail, in any way and at any time, for the whole flight.

@@ -29,7 +29,7 @@ use Rattle.lvdc_laws_voted.specs.Laws.{PortLaw, DeviceWords, BankLaw}
 use Rattle.lvdc_laws_voted.specs.Leaves.{memory_after}
 use Rattle.lvdc_laws_voted.proofs.PlainRuns.{banks-stay}
 use Rattle.lvdc_laws_voted.proofs.PlainTimes.{store_of_wish, made-store, made-words}
-use Rattle.lvdc_laws_masking.proofs.Cells.{word_after}
+use Rattle.lvdc_laws_repair.proofs.Cells.{word_after}
 
 -- ---- words
 

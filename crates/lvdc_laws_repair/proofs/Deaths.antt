@@ -1,14 +1,15 @@
--- Which twins die under a script that masks by form.
-use Rattle.std.proofs.Common.{◌≡◌, ℕ, ◌+◌, ◌*◌, ◌<◌, ◌≤◌, Bool, true, false, not, ◌&&◌, ◌||◌, cond, ◌==◌, List, [], ◌∷◌, ◌⊎◌, inl, inr, refl, sym, ap, ◌∙◌, arith}
+-- Which twins die under a script, and which no line names.
+use Rattle.std.proofs.Common.{◌≡◌, ℕ, ◌*◌, ◌<◌, ◌≤◌, Bool, true, false, not, ◌&&◌, cond, ◌==◌, List, [], ◌∷◌, ◌⊎◌, inl, inr, sym, ap, ◌∙◌, arith}
 use Rattle.std.specs.Prelude.{nat_lt, nat_le}
 use Rattle.std.specs.List.{list_any, list_all}
-use Rattle.std.proofs.lemmas.Bool.{true≢false, eqb-true, lt-ltb, leb-true, le-leb, or_cases, or_from, or_left, or_right, and_from, and_parts, not-true, false_from_ne_true}
+use Rattle.std.proofs.lemmas.Bool.{true≢false, eqb-true, lt-ltb, leb-true, or_cases, or_left, or_right, and_from, and_parts, not-true, false_from_ne_true}
 use Rattle.lvdc_map.specs.Banks.{is_simplex}
 use Rattle.lvdc_fault.specs.Script.{is_within, first_of}
 use Rattle.lvdc_fault.specs.Damage.{kills, is_dead}
 use Rattle.lvdc_fault.specs.declared.event.Event.{Event}
 use Rattle.lvdc_fault.specs.declared.event.Event.TheVariants.{Flip, Force, Lag, Deaf, Damage, Stick, Dead}
-use Rattle.lvdc_masks.specs.Form.{lines_in, is_duplex_pair, is_duplex, is_lasting, names_twin, kills_in, is_one_sound}
+use Rattle.lvdc_masks.specs.Form.{lines_in, is_duplex_pair, is_duplex, names_twin, kills_in, is_one_sound}
+use Rattle.lvdc_laws_repair.proofs.Lines.{none-pass}
 
 -- ---- some line and all lines
 
@@ -31,47 +32,20 @@ any_line count p q implied (e ∷ es) h = by_head (any_line count p q implied es
         rw both.0 (or_left (q e) (list_any q rest) both.1)
     by_head more (inr there) = later (nat_lt (first_of e) (3 * count)) (more there)
 
--- a line that passes one test passes another, where all lines of the run pass a third
-pub any_again : (count : ℕ) (p q r : Event → Bool) → ((e : Event) → p e ≡ true → nat_lt (first_of e) (3 * count) ≡ true) → ((e : Event) → p e ≡ true → r e ≡ true → q e ≡ true)
-    → (script : List Event) → list_all r (lines_in count script) ≡ true → list_any p script ≡ true → list_any q script ≡ true
-any_again count p q r begins implied [] all h = h
-any_again count p q r begins implied (e ∷ es) all h =
-    by_head (any_again count p q r begins implied es) (or_cases (p e) (list_any p es) h)
-  where
-    rest : List Event
-    rest = lines_in count es
-
-    head : (b : Bool) → b ≡ true → list_all r (cond b (e ∷ rest) rest) ≡ true → r e ≡ true
-    head true is k = (and_parts (r e) (list_all r rest) k).0
-    head false is k = absurd (true≢false (sym is))
-
-    tail : (b : Bool) → list_all r (cond b (e ∷ rest) rest) ≡ true → list_all r rest ≡ true
-    tail true k = (and_parts (r e) (list_all r rest) k).1
-    tail false k = k
-
-    by_head : (list_all r rest ≡ true → list_any p es ≡ true → list_any q es ≡ true) → (p e ≡ true) ⊎ (list_any p es ≡ true) → (q e || list_any q es) ≡ true
-    by_head more (inl here) = or_left (q e) (list_any q es) (implied e here (head (nat_lt (first_of e) (3 * count)) (begins e here) all))
-    by_head more (inr there) = or_right (q e) (list_any q es) (more (tail (nat_lt (first_of e) (3 * count)) all) there)
-
-none_pass : (q r : Event → Bool) → ((e : Event) → r e ≡ true → q e ≡ false) → (lines : List Event) → list_all r lines ≡ true → list_any q lines ≡ false
-none_pass q r implied [] all = refl
-none_pass q r implied (e ∷ es) all =
-    let parts = and_parts (r e) (list_all r es) all in
-    or_from (q e) (list_any q es) (implied e parts.0) (none_pass q r implied es parts.1)
-
 -- ---- dead twins
 
-kills_begins : (count step twin pair : ℕ) → step < 3 * count → (e : Event) → kills step twin pair e ≡ true → nat_lt (first_of e) (3 * count) ≡ true
-kills_begins count step twin pair below (Dead w p first last) h =
+-- a line that kills a twin in a step of the run is in the run
+pub kills-begins : (count step twin pair : ℕ) → step < 3 * count → (e : Event) → kills step twin pair e ≡ true → nat_lt (first_of e) (3 * count) ≡ true
+kills-begins count step twin pair below (Dead w p first last) h =
     let within = (and_parts (w == twin && p == pair) (is_within first last step) h).1 in
     let begun : first ≤ step = leb-true first step (and_parts (nat_le first step) (nat_le step last) within).0 in
     lt-ltb first (3 * count) (omega arith)
-kills_begins count step twin pair below (Flip number copy first last index mask) h = absurd (true≢false (sym h))
-kills_begins count step twin pair below (Force number copy first last index mask value) h = absurd (true≢false (sym h))
-kills_begins count step twin pair below (Lag number copy first last) h = absurd (true≢false (sym h))
-kills_begins count step twin pair below (Deaf number copy first last) h = absurd (true≢false (sym h))
-kills_begins count step twin pair below (Damage w at t mask) h = absurd (true≢false (sym h))
-kills_begins count step twin pair below (Stick w at first last mask value) h = absurd (true≢false (sym h))
+kills-begins count step twin pair below (Flip number copy first last index mask) h = absurd (true≢false (sym h))
+kills-begins count step twin pair below (Force number copy first last index mask value) h = absurd (true≢false (sym h))
+kills-begins count step twin pair below (Lag number copy first last) h = absurd (true≢false (sym h))
+kills-begins count step twin pair below (Deaf number copy first last) h = absurd (true≢false (sym h))
+kills-begins count step twin pair below (Damage w at t mask) h = absurd (true≢false (sym h))
+kills-begins count step twin pair below (Stick w at first last mask value) h = absurd (true≢false (sym h))
 
 kills_here : (step twin pair : ℕ) (e : Event) → kills step twin pair e ≡ true → kills_in pair e ≡ true
 kills_here step twin pair (Dead w p first last) h = (and_parts (w == twin) (p == pair) (and_parts (w == twin && p == pair) (is_within first last step) h).0).1
@@ -96,32 +70,11 @@ kills_names step twin pair (Stick w at first last mask value) h = absurd (true�
 -- a twin that is dead at a step of the run dies by a line of the run, and is named by it
 pub dead-dies : (count step twin pair : ℕ) (script : List Event) → step < 3 * count → is_dead script step twin pair ≡ true → list_any (kills_in pair) (lines_in count script) ≡ true
 dead-dies count step twin pair script below h =
-    any_line count (kills step twin pair) (kills_in pair) (λ e k. (kills_begins count step twin pair below e k, kills_here step twin pair e k)) script h
+    any_line count (kills step twin pair) (kills_in pair) (λ e k. (kills-begins count step twin pair below e k, kills_here step twin pair e k)) script h
 
 pub dead-named : (count step twin pair : ℕ) (script : List Event) → step < 3 * count → is_dead script step twin pair ≡ true → list_any (names_twin pair twin) (lines_in count script) ≡ true
 dead-named count step twin pair script below h =
-    any_line count (kills step twin pair) (names_twin pair twin) (λ e k. (kills_begins count step twin pair below e k, kills_names step twin pair e k)) script h
-
-kills_stays : (count twin pair earlier later : ℕ) → earlier ≤ later → later < 3 * count → (e : Event) → kills earlier twin pair e ≡ true → is_lasting count e ≡ true → kills later twin pair e ≡ true
-kills_stays count twin pair earlier later le below (Dead w p first last) h lasts =
-    let parts = and_parts (w == twin && p == pair) (is_within first last earlier) h in
-    let begun : first ≤ earlier = leb-true first earlier (and_parts (nat_le first earlier) (nat_le earlier last) parts.1).0 in
-    let long : 3 * count ≤ last + 1 = leb-true (3 * count) (last + 1) lasts in
-    and_from (w == twin && p == pair) (is_within first last later) parts.0
-    (and_from (nat_le first later) (nat_le later last) (le-leb first later (omega arith)) (le-leb later last (omega arith)))
-kills_stays count twin pair earlier later le below (Flip number copy first last index mask) h lasts = h
-kills_stays count twin pair earlier later le below (Force number copy first last index mask value) h lasts = h
-kills_stays count twin pair earlier later le below (Lag number copy first last) h lasts = h
-kills_stays count twin pair earlier later le below (Deaf number copy first last) h lasts = h
-kills_stays count twin pair earlier later le below (Damage w at t mask) h lasts = h
-kills_stays count twin pair earlier later le below (Stick w at first last mask value) h lasts = h
-
--- a dead twin stays dead
-pub dead-stays : (count twin pair earlier later : ℕ) (script : List Event) → list_all (is_lasting count) (lines_in count script) ≡ true → earlier ≤ later → later < 3 * count
-    → is_dead script earlier twin pair ≡ true → is_dead script later twin pair ≡ true
-dead-stays count twin pair earlier later script lasting le below h =
-    any_again count (kills earlier twin pair) (kills later twin pair) (is_lasting count) (kills_begins count earlier twin pair (omega arith))
-    (kills_stays count twin pair earlier later le below) script lasting h
+    any_line count (kills step twin pair) (names_twin pair twin) (λ e k. (kills-begins count step twin pair below e k, kills_names step twin pair e k)) script h
 
 -- ---- twins that no line names
 
@@ -146,7 +99,7 @@ duplex_named banks pair twin small simplex e duplex = false_from_ne_true (names_
     clash (Deaf number copy first last) d h = true≢false (sym h)
 
 pub simplex-unnamed : (banks pair twin : ℕ) (lines : List Event) → pair < 4 → is_simplex banks pair ≡ true → list_all (is_duplex banks) lines ≡ true → list_any (names_twin pair twin) lines ≡ false
-simplex-unnamed banks pair twin lines small simplex all = none_pass (names_twin pair twin) (is_duplex banks) (duplex_named banks pair twin small simplex) lines all
+simplex-unnamed banks pair twin lines small simplex all = none-pass (names_twin pair twin) (is_duplex banks) (duplex_named banks pair twin small simplex) lines all
 
 -- where both twins of a pair are named, none dies
 pub both-live : (pair : ℕ) (lines : List Event) → is_one_sound lines pair ≡ true → list_any (names_twin pair 0) lines ≡ true → list_any (names_twin pair 1) lines ≡ true
