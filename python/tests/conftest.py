@@ -23,6 +23,11 @@ def input_of(case: Path) -> bytes:
     return gzip.decompress(packed.read_bytes()) if packed.exists() else (case / "input").read_bytes()
 
 
+def name_of(path: Path) -> str:
+    """The name of a test by its file or folder."""
+    return f"{path.parent.name}/{path.stem}"
+
+
 @pytest.fixture(scope="session")
 def worker() -> Iterator[Worker]:
     """A worker; what wants one is skipped where LVDC_WORKER is unset and none is beside the package or on the path."""

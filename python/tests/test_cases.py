@@ -4,7 +4,7 @@ from pathlib import Path
 from typing import Any
 
 import pytest
-from conftest import TOP, cases, input_of
+from conftest import TOP, cases, input_of, name_of
 
 from lvdc import CampaignRows, Deck, Expansion, Image, Listing, Refused, Report, Saved, Session, Soak, Unread, Uplink
 from lvdc.lines import decode, encode
@@ -13,11 +13,6 @@ EXAMPLES = TOP / "examples"
 READERS: dict[str, Callable[[str], Any]] = {
     "run": Report.read, "asm": Listing.read, "asm --image": Image.read, "macro": Expansion.read, "macro --image": Image.read,
     "debug": Session.read, "resume": Report.read, "campaign": CampaignRows.read, "uplink": Uplink.read}
-
-
-def name_of(path: Path) -> str:
-    """The name of a test by its file or folder."""
-    return f"{path.parent.name}/{path.stem}"
 
 
 def reader_of(words: list[str], text: str) -> Callable[[str], Any]:
