@@ -1,6 +1,4 @@
 """Values, faults and decks that hypothesis draws."""
-from typing import Any
-
 from hypothesis import strategies as st
 
 from lvdc import Address, Damage, Dead, Deaf, Deck, Fault, Flip, Force, Hop, Image, Lag, Source, Stick, Tape, Unplug, Word
@@ -23,9 +21,10 @@ times = numbers(0, 1_000_000)
 def faults(draw: st.DrawFn, last: int = LAST_STEP) -> Fault:
     """A fault of any kind whose steps are at most the last."""
     end = draw(numbers(0, last))
-    span = draw(numbers(0, end)), end
+    first = draw(numbers(0, end))
+    span = first, end
     module, copy, twin, place = draw(numbers(1, 7)), draw(numbers(1, 3)), draw(bits), draw(addresses)
-    at: tuple[Any, ...] = twin, place.bank, place.sector, place.location
+    at = twin, place.bank, place.sector, place.location
     latch = draw(numbers(0, len(LATCHES[module]) - 1))
     made: list[Fault] = [
         Flip(module, copy, *span, latch, draw(words)), Force(module, copy, *span, latch, draw(words), draw(words)), Lag(module, copy, *span),
@@ -55,7 +54,7 @@ def decks(draw: st.DrawFn) -> Deck:
     start = draw(st.none() | hops | st.sampled_from(["A", "Z9"])) if isinstance(program, Source) else draw(st.none() | hops)
     return Deck(program, draw(times), start, tuple(sorted(draw(st.sets(numbers(0, 3))))), tuple(draw(st.lists(ports, max_size=3))),
                 tuple(draw(st.lists(faults(), max_size=4))), tuple(draw(st.lists(st.permutations(LETTERS).map("".join), max_size=2))),
-                draw(st.none() | st.lists(commands, max_size=3).map(tuple)))
+                None if draw(st.booleans()) else tuple(draw(st.lists(commands, max_size=3))))
 
 
 @st.composite

@@ -114,8 +114,8 @@ def test_wilson(count: int, more: int) -> None:
 
 
 def test_wilson_by_known_values() -> None:
-    assert wilson(0, 10) == (0, pytest.approx(0.2775, abs=1e-4))
-    assert wilson(5, 10) == (pytest.approx(0.2366, abs=1e-4), pytest.approx(0.7634, abs=1e-4))
+    assert [round(it, 4) for it in wilson(0, 10)] == [0, 0.2775]
+    assert [round(it, 4) for it in wilson(5, 10)] == [0.2366, 0.7634]
     assert wilson(0, 0) == (0, 1)
     assert math.isnan(Share(0, 0).share)
     assert str(Share(1, 4)) == "1 of 4, 25.0% (4.6% to 69.9%)"

@@ -103,8 +103,9 @@ class NearFlips(Scripts):
 
     def __iter__(self) -> Iterator[Script]:
         for index in range(len(self.flips)):
+            one = self.flips.script(index)
             for other in range(index + 1, self._partners(index)[1]):
-                yield self._script(index, other)
+                yield _both(one, self.flips.script(other))
 
     def draw(self, below: Below) -> Script:
         # Any flip and any offset in the widest window are equally likely; a partner that isn't there is drawn anew, with its flip.
@@ -113,7 +114,7 @@ class NearFlips(Scripts):
             first, end = self._partners(index)
             other = first + below((2 * self.within + 1) * self.flips.each_step)
             if other < end and other != index:
-                return self._script(min(index, other), max(index, other))
+                return _both(self.flips.script(min(index, other)), self.flips.script(max(index, other)))
 
     def _partners(self, index: int) -> tuple[int, int]:
         """The first flip near this one, and one more than the last."""
@@ -121,11 +122,14 @@ class NearFlips(Scripts):
         step = steps[index // each]
         return bisect.bisect_left(steps, step - self.within) * each, bisect.bisect_right(steps, step + self.within) * each
 
-    def _script(self, index: int, other: int) -> Script:
-        one, two = self.flips.script(index), self.flips.script(other)
-        distance = int(two.about["step"]) - int(one.about["step"])
-        more = {f"second_{name}": value for name, value in two.about.items() if name != "kind"}
-        return Script(one.faults + two.faults, {**one.about, **more, "kind": "two flips", "distance": distance})
+
+def _both(one: Script, two: Script) -> Script:
+    """Two flips of which the second isn't the earlier."""
+    first, second = one.about, two.about
+    distance = int(second["step"]) - int(first["step"])
+    about: dict[str, int | str] = {**first, "kind": "two flips", "distance": distance, "second_module": second["module"], "second_latch": second["latch"],
+             "second_copy": second["copy"], "second_step": second["step"], "second_bit": second["bit"]}
+    return Script(one.faults + two.faults, about)
 
 
 class Lasting(Indexed):
