@@ -127,8 +127,9 @@ def _both(one: Script, two: Script) -> Script:
     """Two flips of which the second isn't the earlier."""
     first, second = one.about, two.about
     distance = int(second["step"]) - int(first["step"])
-    about: dict[str, int | str] = {**first, "kind": "two flips", "distance": distance, "second_module": second["module"], "second_latch": second["latch"],
-             "second_copy": second["copy"], "second_step": second["step"], "second_bit": second["bit"]}
+    about: dict[str, int | str] = {
+        **first, "kind": "two flips", "distance": distance, "second_module": second["module"], "second_latch": second["latch"],
+        "second_copy": second["copy"], "second_step": second["step"], "second_bit": second["bit"]}
     return Script(one.faults + two.faults, about)
 
 
