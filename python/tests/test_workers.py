@@ -74,6 +74,7 @@ def test_a_worker_is_safe_from_threads(fake: Worker) -> None:
     wrong: list[int] = []
 
     def go(number: int) -> None:
+        """Asks again and again, and notes wrong replies."""
         text = b"%d" % number * 1000
         wrong.extend(number for _ in range(50) if fake.ask(["echo"], text).text != text)
 

@@ -38,6 +38,7 @@ class Memory:
 
 
 Verdict: TypeAlias = Admissible | Logic | Memory
+ADMISSIBLE = Admissible()
 
 
 @dataclass(frozen=True, slots=True)
@@ -110,4 +111,4 @@ def verdict_of(groups: tuple[str, ...]) -> Verdict:
     _, logic, module, memory, address = groups
     if logic is not None:
         return Logic(int(logic), int(module))
-    return Admissible() if memory is None else Memory(int(memory), Address.read(address))
+    return ADMISSIBLE if memory is None else Memory(int(memory), Address.read(address))

@@ -14,17 +14,20 @@ END_OF_STEPS = 3_000_000
 
 
 def _check_copy(module: int, copy: int, first: int, last: int) -> None:
+    """Wants a module, a copy, and steps."""
     check("a module", module, 8, 1)
     check("a copy", copy, 4, 1)
     _check_steps(first, last)
 
 
 def _check_steps(first: int, last: int) -> None:
+    """Wants a first step that is no later than the last."""
     check("the last step", last, END_OF_STEPS)
     check("the first step", first, last + 1)
 
 
 def _check_place(twin: int, pair: int, sector: int, location: int) -> None:
+    """Wants a place of a twin."""
     check("a twin", twin, 2)
     check("a pair", pair, 4)
     check("a sector", sector, 16)
@@ -32,6 +35,7 @@ def _check_place(twin: int, pair: int, sector: int, location: int) -> None:
 
 
 def _check_latch(module: int, latch: int, *words: int) -> None:
+    """Wants a latch that the module has, and words."""
     check(f"a latch of module {module}", latch, len(LATCHES[module]))
     for word in words:
         check("a word", word, 1 << Word.BITS)
@@ -175,6 +179,7 @@ MemoryFault: TypeAlias = Damage | Stick | Dead
 
 
 def _octal(most: int) -> tuple[str, int]:
+    """The form of an octal number of at most so many digits."""
     return f"[0-7]{{1,{most}}}", 8
 
 

@@ -47,6 +47,7 @@ def area(address: Address) -> str:
 
 
 def _address(text: str) -> Address:
+    """An address as a listing prints it of words."""
     return Address.read(text.replace(" - ", " "))
 
 

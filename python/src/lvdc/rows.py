@@ -40,6 +40,7 @@ class Differs:
 
 
 Outcome: TypeAlias = Same | Differs
+SAME, DIFFERS = Same(), Differs()
 
 
 @dataclass(frozen=True, slots=True)
@@ -137,12 +138,14 @@ def _rows(lines: Lines, form: re.Pattern[str], scripts: Sequence[Script]) -> lis
 
 
 def _campaign_row(found: re.Match[str], script: Script | None) -> CampaignRow:
+    """A row of a campaign."""
     name, *groups = found.groups()
     verdict, same = verdict_of(tuple(groups[:GROUPS_OF_VERDICT])), groups[GROUPS_OF_VERDICT]
-    return CampaignRow(name, verdict, Same() if same == "SAME" else Differs(), script)
+    return CampaignRow(name, verdict, SAME if same == "SAME" else DIFFERS, script)
 
 
 def _study_row(found: re.Match[str], script: Script | None) -> StudyRow:
+    """A row of a study."""
     name, *groups = found.groups()
     outcome, time, address, copies, repairs, first, form = groups[GROUPS_OF_VERDICT:]
     return StudyRow(name, verdict_of(tuple(groups[:GROUPS_OF_VERDICT])), _outcome(outcome, time, address), int(copies), int(repairs),
@@ -150,6 +153,7 @@ def _study_row(found: re.Match[str], script: Script | None) -> StudyRow:
 
 
 def _outcome(text: str, time: str | None, address: str | None) -> Outcome:
+    """The outcome of a row of a study."""
     if text == "SAME":
-        return Same()
+        return SAME
     return Differs(text.split(" ")[1], None if time is None else int(time), None if address is None else Address.read(address))

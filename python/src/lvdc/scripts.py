@@ -62,6 +62,7 @@ class Indexed(Scripts):
         return map(self.script, range(len(self)))
 
     def draw(self, below: Below) -> Script:
+        """One of them, each as likely."""
         return self.script(below(len(self)))
 
 
@@ -79,6 +80,7 @@ class Flips(Indexed):
         return len(self.steps) * self.each_step
 
     def script(self, index: int) -> Script:
+        """The script of this number."""
         rest, bit = divmod(index, len(self.bits))
         rest, group = divmod(rest, len(self.groups))
         at, place = divmod(rest, len(self.places))
@@ -108,6 +110,7 @@ class NearFlips(Scripts):
                 yield _both(one, self.flips.script(other))
 
     def draw(self, below: Below) -> Script:
+        """One of them, each as likely."""
         # Any flip and any offset in the widest window are equally likely; a partner that isn't there is drawn anew, with its flip.
         while True:
             index = below(len(self.flips))
@@ -146,6 +149,7 @@ class Lasting(Indexed):
         return _product(self.axes)
 
     def script(self, index: int) -> Script:
+        """The script of this number."""
         at = _places(index, self.axes)
         first, length, module, copy = self.axes[0][at[0]], self.axes[1][at[1]], self.axes[3][at[3]], self.axes[4][at[4]]
         kind = self.axes[2][at[2]]
@@ -165,6 +169,7 @@ class Damages(Indexed):
         return _product((self.steps, self.places, self.twins, self.bits))
 
     def script(self, index: int) -> Script:
+        """The script of this number."""
         at = _places(index, (self.steps, self.places, self.twins, self.bits))
         step, place, twin, bit = self.steps[at[0]], self.places[at[1]], self.twins[at[2]], self.bits[at[3]]
         fault = Damage(twin, place.bank, place.sector, place.location, step, 1 << bit)
@@ -182,6 +187,7 @@ class DamagePairs(Indexed):
         return _product((self.distances, self.steps, self.places, self.bits))
 
     def script(self, index: int) -> Script:
+        """The script of this number."""
         at = _places(index, (self.distances, self.steps, self.places, self.bits))
         distance, step, place, bit = self.distances[at[0]], self.steps[at[1]], self.places[at[2]], self.bits[at[3]]
         faults = tuple(Damage(twin, place.bank, place.sector, place.location, step + twin * distance, 1 << bit) for twin in TWINS)
@@ -201,18 +207,22 @@ class Mixed:
         return (self._draw(lambda end: int(chance.random() * end)) for _ in range(count))
 
     def _draw(self, below: Below) -> Script:
+        """A script."""
         faults = tuple(self._fault(below) for _ in range(1 + below(self.most)))
         return Script(faults, {"kind": "mixed", "faults_drawn": len(faults)})
 
     def _fault(self, below: Below) -> Fault:
+        """A fault of any kind."""
         kind = below(7)
         return self._copy_fault(kind, below) if kind < 4 else self._memory_fault(kind, below)
 
     def _span(self, below: Below) -> tuple[int, int]:
+        """A first step, and a last one at most three later."""
         first = below(self.last + 1)
         return first, min(self.last, first + below(4))
 
     def _copy_fault(self, kind: int, below: Below) -> Fault:
+        """A fault of a copy."""
         module, copy, (first, last) = 1 + below(7), 1 + below(3), self._span(below)
         if kind == 0:
             return Lag(module, copy, first, last)
@@ -224,6 +234,7 @@ class Mixed:
         return Force(module, copy, first, last, latch, mask, below(1 << Word.BITS))
 
     def _memory_fault(self, kind: int, below: Below) -> Fault:
+        """A fault of a memory."""
         twin, place, (first, last), mask = below(2), self.places[below(len(self.places))], self._span(below), 1 << below(Cell.BITS)
         if kind == 4:
             return Damage(twin, place.bank, place.sector, place.location, first, mask)

@@ -194,4 +194,5 @@ def _disassembled(found: re.Match[str]) -> Disassembled:
 
 
 def _refuse(lines: Lines) -> Answer:
+    """The next line is no answer."""
     raise lines.unread("an answer")

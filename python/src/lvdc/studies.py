@@ -149,8 +149,8 @@ def _findings(command: str, deck: Deck, scripts: Iterable[Script], read: Callabl
     asked: list[tuple[str, list[Script]]] = []
 
     def requests() -> Iterator[Request]:
-        for first, piece in _pieces(head, scripts, most):
-            text = head + _scripts_text(first, piece)
+        """The requests, one for each piece."""
+        for text, piece in _pieces(head, scripts, most):
             asked.append((text, piece))
             yield Request((command,), encode(text))
 
@@ -173,26 +173,23 @@ def _replies(requests: Iterator[Request], worker: Asker) -> Iterator[Reply]:
     return (worker.ask(it.words, it.given) for it in requests)
 
 
-def _scripts_text(first: int, piece: Sequence[Script]) -> str:
-    """The lines of scripts, whose names count on from the number of the first."""
-    return "".join(f"SCRIPT {name_of(at)}\n{script}" for at, script in enumerate(piece, first))
-
-
-def _pieces(head: str, scripts: Iterable[Script], most: int) -> Iterator[tuple[int, list[Script]]]:
-    """The scripts in pieces that one request takes, each with the number of its first script."""
+def _pieces(head: str, scripts: Iterable[Script], most: int) -> Iterator[tuple[str, list[Script]]]:
+    """The scripts in pieces that one request takes, each with its text; names count on through all of them."""
     room = MOST_BYTES - len(encode(head))
+    parts: list[str] = []
     piece: list[Script] = []
-    first = faults = size = 0
+    faults = size = 0
     for index, script in enumerate(scripts):
-        length = len("SCRIPT F0000001\n") + sum(len(str(it)) + 1 for it in script.faults)
-        if piece and (len(piece) == most or faults + len(script.faults) > MOST_FAULTS or size + length > room):
-            yield first, piece
-            first, faults, size, piece = index, 0, 0, []
+        part = f"SCRIPT {name_of(index)}\n{script}"
+        if piece and (len(piece) == most or faults + len(script.faults) > MOST_FAULTS or size + len(part) > room):
+            yield head + "".join(parts), piece
+            faults, size, parts, piece = 0, 0, [], []
+        parts.append(part)
         piece.append(script)
         faults += len(script.faults)
-        size += length
+        size += len(part)
     if piece:
-        yield first, piece
+        yield head + "".join(parts), piece
 
 
 def _column(row: Row, name: str) -> int | str:

@@ -1,6 +1,7 @@
 """Values of the machine: words, cells, addresses, places of instructions and HOP constants. Words and addresses are printed in octal
 digits, as in every text of the program."""
 import dataclasses
+import functools
 from dataclasses import dataclass
 from typing import Self
 
@@ -78,14 +79,20 @@ class Address:
         check("a sector", self.sector, 16)
         check("a location", self.location, 256)
 
-    @classmethod
-    def read(cls, text: str) -> Self:
+    @staticmethod
+    def read(text: str) -> "Address":
         """An address from its three octal numbers."""
-        bank, sector, location = text.split(" ")
-        return cls(int(bank, 8), int(sector, 8), int(location, 8))
+        return _read_address(text)
 
     def __str__(self) -> str:
         return f"{self.bank:o} {self.sector:02o} {self.location:03o}"
+
+
+@functools.lru_cache(maxsize=1 << 14)
+def _read_address(text: str) -> Address:
+    """An address from its text; the same few are read again and again."""
+    bank, sector, location = text.split(" ")
+    return Address(int(bank, 8), int(sector, 8), int(location, 8))
 
 
 @dataclass(frozen=True, slots=True, order=True)

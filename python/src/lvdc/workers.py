@@ -17,7 +17,7 @@ MOST_BYTES = 134_217_728
 MOST_WORDS, MOST_OF_LINE = 8, 255
 _WORD = re.compile("[!-~]+")
 _HEAD = re.compile(rb"REPLY ([0-9]+) ([0-9]+)\n")
-_AT_ONCE = 1 << 16
+_AT_ONCE, _FRONT = 1 << 20, 1 << 16
 _SECONDS_TO_END = 1.0
 
 
@@ -181,7 +181,7 @@ def _write(file: int, frame: bytes, deadline: float | None) -> None:
     left = memoryview(frame)
     while left:
         try:
-            left = left[os.write(file, left[:_AT_ONCE * 16]):]
+            left = left[os.write(file, left[:_AT_ONCE]):]
         except BlockingIOError:
             _await(file, select.POLLOUT, deadline)
         except BrokenPipeError as error:
@@ -193,7 +193,7 @@ def _read(file: int, most: int, deadline: float | None) -> bytes:
     while True:
         _await(file, select.POLLIN, deadline)
         try:
-            found = os.read(file, max(most, 1))
+            found = os.read(file, min(most, _AT_ONCE))
         except BlockingIOError:
             continue
         if not found:
@@ -207,7 +207,7 @@ def _read_head(file: int, deadline: float | None) -> tuple[re.Match[bytes], byte
     while b"\n" not in text:
         if len(text) > MOST_OF_LINE:
             break
-        text += _read(file, _AT_ONCE, deadline)
+        text += _read(file, _FRONT, deadline)
     found = _HEAD.match(text)
     if found is None:
         raise WorkerFailed(f"the worker wrote {text[:80]!r}, which is no reply")
