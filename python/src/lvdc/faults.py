@@ -11,10 +11,13 @@ from lvdc.lines import tokens
 from lvdc.values import LATCHES, Cell, Word, check
 
 END_OF_STEPS = 3_000_000
+END_OF_WORDS = 1 << Word.BITS
 
 
 def _check_copy(module: int, copy: int, first: int, last: int) -> None:
     """Wants a module, a copy, and steps."""
+    if 0 < module < 8 and 0 < copy < 4 and 0 <= first <= last < END_OF_STEPS:
+        return
     check("a module", module, 8, 1)
     check("a copy", copy, 4, 1)
     _check_steps(first, last)
@@ -36,9 +39,11 @@ def _check_place(twin: int, pair: int, sector: int, location: int) -> None:
 
 def _check_latch(module: int, latch: int, *words: int) -> None:
     """Wants a latch that the module has, and words."""
+    if 0 <= latch < len(LATCHES[module]) and 0 <= min(words) <= max(words) < END_OF_WORDS:
+        return
     check(f"a latch of module {module}", latch, len(LATCHES[module]))
     for word in words:
-        check("a word", word, 1 << Word.BITS)
+        check("a word", word, END_OF_WORDS)
 
 
 @dataclass(frozen=True, slots=True)

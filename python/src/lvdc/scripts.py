@@ -25,7 +25,7 @@ class Script:
     about: Mapping[str, int | str] = field(default_factory=dict)
 
     def __str__(self) -> str:
-        return "".join(f"{it}\n" for it in self.faults)
+        return "".join([f"{it}\n" for it in self.faults])
 
 
 class Scripts(ABC):
@@ -75,6 +75,7 @@ class Flips(Indexed):
         chosen = list(latches)
         self.places = [(module, latch) for module in modules for latch in chosen if latch < len(LATCHES[module])]
         self.each_step = len(self.places) * len(self.groups) * len(self.bits)
+        self._names = ["+".join(map(str, it)) for it in self.groups]
 
     def __len__(self) -> int:
         return len(self.steps) * self.each_step
@@ -84,9 +85,9 @@ class Flips(Indexed):
         rest, bit = divmod(index, len(self.bits))
         rest, group = divmod(rest, len(self.groups))
         at, place = divmod(rest, len(self.places))
-        (module, latch), copies, step = self.places[place], self.groups[group], self.steps[at]
-        faults = tuple(Flip(module, copy, step, step, latch, 1 << self.bits[bit]) for copy in copies)
-        return Script(faults, {"kind": "flip", "module": module, "latch": latch, "copy": "+".join(map(str, copies)), "step": step,
+        (module, latch), step, mask = self.places[place], self.steps[at], 1 << self.bits[bit]
+        faults = tuple([Flip(module, copy, step, step, latch, mask) for copy in self.groups[group]])
+        return Script(faults, {"kind": "flip", "module": module, "latch": latch, "copy": self._names[group], "step": step,
                                "bit": self.bits[bit]})
 
 

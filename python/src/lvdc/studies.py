@@ -145,12 +145,11 @@ def name_of(index: int) -> str:
 def _findings(command: str, deck: Deck, scripts: Iterable[Script], read: Callable[[str, Sequence[Script]], Any], most: int,
               worker: Asker | None, progress: bool | None) -> Findings[Any]:
     """Asks in pieces, and reads the rows."""
-    head = campaign_text(deck, [], ports=True)
     asked: list[tuple[str, list[Script]]] = []
 
     def requests() -> Iterator[Request]:
         """The requests, one for each piece."""
-        for text, piece in _pieces(head, scripts, most):
+        for text, piece in pieces(deck, scripts, most):
             asked.append((text, piece))
             yield Request((command,), encode(text))
 
@@ -173,8 +172,9 @@ def _replies(requests: Iterator[Request], worker: Asker) -> Iterator[Reply]:
     return (worker.ask(it.words, it.given) for it in requests)
 
 
-def _pieces(head: str, scripts: Iterable[Script], most: int) -> Iterator[tuple[str, list[Script]]]:
-    """The scripts in pieces that one request takes, each with its text; names count on through all of them."""
+def pieces(deck: Deck, scripts: Iterable[Script], most: int) -> Iterator[tuple[str, list[Script]]]:
+    """The scripts in pieces that one request takes, of at most so many scripts, each with its text; names count on through all of them."""
+    head = campaign_text(deck, [], ports=True)
     room = MOST_BYTES - len(encode(head))
     parts: list[str] = []
     piece: list[Script] = []
