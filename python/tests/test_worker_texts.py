@@ -1,4 +1,5 @@
 """Traces, forms and studies: the texts of tests/texts are read and printed again, and a worker that answers them answers the same."""
+import pickle
 from collections.abc import Callable
 from pathlib import Path
 from typing import Any
@@ -6,7 +7,8 @@ from typing import Any
 import pytest
 from conftest import name_of
 
-from lvdc import Address, Damage, Differs, Done, Form, Inadmissible, Logic, Refused, StudyRows, Trace, Word, Worker
+from lvdc import (Address, Damage, Differs, Done, Error, Form, Inadmissible, Logic, NoMemory, Refused, StudyRows, TimeLimit, Trace, Word,
+                  Worker, WorkerFailed)
 from lvdc.lines import Unread, decode
 from lvdc.traces import MemoryExchange, PortExchange, ReadRepair
 
@@ -91,6 +93,13 @@ def test_a_refusal_has_the_text_of_its_line() -> None:
     assert str(refused) == "BadLine at line 2: 'LVDC 3'"
     assert Refused(2, "REFUSED BadSection 9\n", "IMAGE\n").line == ""
     assert Refused(10, "REFUSED Device 014\n", "").number == 0o14
+
+
+@pytest.mark.parametrize("error", [Refused(2, "REFUSED BadLine 2\n", "IMAGE\nLVDC 3\n"), Unread(3, "X", "END"), NoMemory("run"),
+                                   TimeLimit("late"), WorkerFailed("gone")])
+def test_exceptions_are_pickled(error: Error) -> None:
+    again = pickle.loads(pickle.dumps(error))
+    assert (type(again), str(again), again.__dict__) == (type(error), str(error), error.__dict__)
 
 
 def test_a_fault_is_its_line() -> None:

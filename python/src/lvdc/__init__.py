@@ -7,10 +7,12 @@ texts that are asked and reads those that are answered, whole: a line that it do
     print(lvdc.run(deck).registers.a)
 """
 from lvdc import scripts
-from lvdc.commands import (Expansion, ask, assemble, assemble_image, debug, expand, form, resume, run, save, shared_worker, soak, trace,
+from lvdc.commands import (ask, assemble, assemble_image, debug, expand, form, resume, run, save, shared_worker, soak, trace,
                            uplink)
 from lvdc.decks import Deck, Source, Tape, Unplug
 from lvdc.ends import Admissible, DeviceFailed, Done, End, Inadmissible, Logic, Memory, Stopped, Verdict
+from lvdc.errors import Error
+from lvdc.expansions import Expansion
 from lvdc.faults import Damage, Dead, Deaf, Fault, Flip, Force, Lag, Stick, read_fault
 from lvdc.images import Image
 from lvdc.intervals import Share, wilson
@@ -30,10 +32,10 @@ from lvdc.values import Address, Cell, Hop, Place, Word
 from lvdc.workers import NoWorker, Reply, TimeLimit, Worker, WorkerFailed
 
 __all__ = [
-    "Address", "Admissible", "CampaignRow", "CampaignRows", "Cell", "Damage", "Dead", "Deaf", "Deck", "DeviceFailed", "Differs", "Done", "End",
-    "Exchange", "Expansion", "Fault", "Findings", "Flip", "Force", "Form", "Hop", "Image", "Inadmissible", "Kind", "Lag", "Listing", "Logic",
-    "Memory", "NoAnswer", "NoMemory", "NoWorker", "NotACommand", "Outcome", "Place", "Pool", "Refused", "Registers", "Repair", "Reply",
-    "Report", "Request", "Same", "Saved", "Script", "Session", "Share", "Soak", "Source", "Step", "Stick", "Stopped", "StudyRow", "StudyRows",
-    "Tape", "TimeLimit", "Trace", "Unplug", "Unread", "Uplink", "Verdict", "Word", "Worker", "WorkerFailed", "ask", "assemble",
-    "assemble_image", "campaign", "debug", "expand", "form", "is_admissible", "is_different", "is_inadmissible", "read_fault", "resume", "run",
-    "save", "scripts", "shared_worker", "soak", "study", "trace", "uplink", "wilson"]
+    "Address", "Admissible", "CampaignRow", "CampaignRows", "Cell", "Damage", "Dead", "Deaf", "Deck", "DeviceFailed", "Differs", "Done",
+    "End", "Error", "Exchange", "Expansion", "Fault", "Findings", "Flip", "Force", "Form", "Hop", "Image", "Inadmissible", "Kind", "Lag",
+    "Listing", "Logic", "Memory", "NoAnswer", "NoMemory", "NoWorker", "NotACommand", "Outcome", "Place", "Pool", "Refused", "Registers",
+    "Repair", "Reply", "Report", "Request", "Same", "Saved", "Script", "Session", "Share", "Soak", "Source", "Step", "Stick", "Stopped",
+    "StudyRow", "StudyRows", "Tape", "TimeLimit", "Trace", "Unplug", "Unread", "Uplink", "Verdict", "Word", "Worker", "WorkerFailed", "ask",
+    "assemble", "assemble_image", "campaign", "debug", "expand", "form", "is_admissible", "is_different", "is_inadmissible", "read_fault",
+    "resume", "run", "save", "scripts", "shared_worker", "soak", "study", "trace", "uplink", "wilson"]

@@ -5,12 +5,13 @@ when it is first asked. `limit` is a time limit in seconds."""
 import atexit
 import functools
 import os
+import threading
 from collections.abc import Sequence
-from dataclasses import dataclass, field
 from pathlib import Path
-from typing import Self, TypeAlias
+from typing import TypeAlias
 
-from lvdc.decks import Deck, without_commands
+from lvdc.decks import Deck, Source, without_commands
+from lvdc.expansions import Expansion
 from lvdc.images import Image
 from lvdc.lines import decode, encode
 from lvdc.listings import Listing
@@ -22,31 +23,22 @@ from lvdc.traces import Form, Trace
 from lvdc.uplinks import Uplink
 from lvdc.workers import Asker, Reply, Worker
 
-Given: TypeAlias = Deck | Image | Saved | str | bytes | os.PathLike[str]
+Given: TypeAlias = Deck | Source | Image | Saved | str | bytes | os.PathLike[str]
 ANSWERED = (0, 5, 6, 10)
 USAGE, WANT_OF_MEMORY = 1, 9
 MOST_STEPS = 100_000
+_LOCK = threading.Lock()
 
 
-@dataclass(frozen=True, slots=True)
-class Expansion:
-    """A source that was written out from one with macros: its lines."""
-
-    lines: tuple[str, ...]
-    text: str = field(repr=False, compare=False)
-
-    @classmethod
-    def read(cls, text: str) -> Self:
-        """Reads the lines, each of which ends with LF."""
-        return cls(tuple(text.split("\n")[:-1]), text)
-
-    def __str__(self) -> str:
-        return "".join(f"{it}\n" for it in self.lines)
+def shared_worker() -> Worker:
+    """The worker that is asked where none is named. It ends with this process."""
+    with _LOCK:
+        return _shared_worker()
 
 
 @functools.cache
-def shared_worker() -> Worker:
-    """The worker that is asked where none is named. It ends with this process."""
+def _shared_worker() -> Worker:
+    """The same, once."""
     worker = Worker()
     atexit.register(worker.close)
     return worker

@@ -1,7 +1,7 @@
 """Decks: what is run. A deck is made in code, or read from a text; `str` prints it in the one form that docs/FORMATS.md shows, without
 comments. What a deck may say is the program's to judge: a deck that it refuses can be made here."""
 import re
-from collections.abc import Iterable
+from collections.abc import Iterable, Sequence
 from dataclasses import dataclass, replace
 from typing import Self, TypeAlias
 
@@ -38,7 +38,7 @@ class Tape:
     """Words that are supplied to the tape at a port before the run."""
 
     port: int
-    words: tuple[int, ...]
+    words: Sequence[int]
 
     def __post_init__(self) -> None:
         check("a port", self.port, 256)
@@ -78,11 +78,17 @@ class Deck:
     program: Image | Source
     count: int
     start: Hop | str | None = None
-    simplex: tuple[int, ...] = ()
-    ports: tuple[PortLine, ...] = ()
-    faults: tuple[Fault, ...] = ()
-    orders: tuple[str, ...] = ()
-    commands: tuple[str, ...] | None = None
+    simplex: Sequence[int] = ()
+    ports: Sequence[PortLine] = ()
+    faults: Sequence[Fault] = ()
+    orders: Sequence[str] = ()
+    commands: Sequence[str] | None = None
+
+    def __post_init__(self) -> None:
+        for name in ("simplex", "ports", "faults", "orders"):
+            object.__setattr__(self, name, tuple(getattr(self, name)))
+        if self.commands is not None:
+            object.__setattr__(self, "commands", tuple(self.commands))
 
     @classmethod
     def read(cls, text: str) -> Self:

@@ -6,6 +6,8 @@ import re
 from collections.abc import Callable, Iterator
 from typing import Any, Protocol, TypeVar
 
+from lvdc.errors import Error
+
 ENCODING, ERRORS = "utf-8", "surrogateescape"
 
 # Parts of lines, as they are printed: each is one group of a pattern.
@@ -55,7 +57,7 @@ class Ordered(Protocol):
 Key = TypeVar("Key", bound=Ordered)
 
 
-class Unread(ValueError):
+class Unread(Error, ValueError):
     """A text that isn't one of its kind: `number` is that of the line, from 1, where it shows, and `line` is that line."""
 
     def __init__(self, number: int, line: str, wanted: str) -> None:

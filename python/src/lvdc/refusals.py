@@ -1,12 +1,13 @@
 """What the program answers in place of a text: refusals, the usage text, and want of memory."""
 import re
 
+from lvdc.errors import Error
 from lvdc.lines import sections
 
 _REFUSED = re.compile(r"REFUSED ([A-Za-z]+)(?: ([0-9]+))?\n")
 
 
-class NoAnswer(Exception):
+class NoAnswer(Error):
     """A request that has no answer. `status` is the exit status that the program gives it, `text` what it writes."""
 
     def __init__(self, message: str, status: int, text: str = "") -> None:

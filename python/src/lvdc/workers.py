@@ -12,6 +12,8 @@ from pathlib import Path
 from types import TracebackType
 from typing import Protocol, Self
 
+from lvdc.errors import Error
+
 PROGRAM = "lvdc-worker"
 MOST_BYTES = 134_217_728
 MOST_WORDS, MOST_OF_LINE = 8, 255
@@ -21,15 +23,15 @@ _AT_ONCE, _FRONT = 1 << 20, 1 << 16
 _SECONDS_TO_END = 1.0
 
 
-class NoWorker(Exception):
+class NoWorker(Error):
     """There is no program lvdc-worker, or it can't be started."""
 
 
-class WorkerFailed(Exception):
+class WorkerFailed(Error):
     """The worker has gone while it was asked, twice in a row, or has written what is no reply."""
 
 
-class TimeLimit(TimeoutError):
+class TimeLimit(Error, TimeoutError):
     """The request wasn't answered within its time limit. Its worker was ended; the next request starts another one."""
 
 
