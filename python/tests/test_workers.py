@@ -96,6 +96,23 @@ def test_a_pool_answers_in_order(program: Path) -> None:
         assert pool.ask(["echo"], b"X").text == b"X"
 
 
+def test_an_exception_ends_a_pool_at_once(program: Path) -> None:
+    began = time.monotonic()
+    with pytest.raises(KeyboardInterrupt), Pool(2, program=program) as pool:
+        threading.Thread(target=lambda: pytest.raises(WorkerFailed, pool.ask, ["sleep", "30"]), daemon=True).start()
+        pool.ask(["echo"])
+        raise KeyboardInterrupt
+    assert time.monotonic() - began < 10
+
+
+def test_a_killed_worker_isnt_started_again(fake: Worker, program: Path) -> None:
+    fake.ask(["echo"])
+    fake.kill()
+    with pytest.raises(WorkerFailed):
+        fake.ask(["echo"])
+    assert starts(program) == 1
+
+
 def test_a_child_has_a_worker_of_its_own(fake: Worker, program: Path) -> None:
     fake.ask(["echo"])
     child = os.fork()

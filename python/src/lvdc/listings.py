@@ -80,7 +80,7 @@ class Listing:
         rows: list[Row] = []
         while (found := lines.may(_ROW)) is not None:
             inner = _FIELD.fullmatch(found[2])
-            if inner is None or len(found[1]) < 7 or int(found[1]) != len(rows) + 1:
+            if inner is None or found[1] != f"{len(rows) + 1:7d}":
                 raise lines.fault("a row of a listing")
             rows.append(Row(int(found[1]), _field(inner), found[3]))
         if not rows:

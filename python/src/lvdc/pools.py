@@ -25,8 +25,8 @@ class Request:
 class Pool:
     """Workers that answer requests side by side: so many, else one for each processor that this process may use.
 
-    A Pool may be asked wherever a Worker may, from any number of threads. `limit` is the time in seconds that each request has. Where it
-    isn't used as a context manager, `close` ends the workers."""
+    A Pool may be asked wherever a Worker may, from any number of threads. `limit` is the time in seconds that each request has. As a
+    context manager it ends the workers at once where an exception comes, an interrupt too; else `close` does."""
 
     def __init__(self, workers: int | None = None, *, program: str | os.PathLike[str] | None = None, limit: float | None = None) -> None:
         count = workers or len(os.sched_getaffinity(0))
@@ -42,6 +42,9 @@ class Pool:
         return self
 
     def __exit__(self, kind: type[BaseException] | None, error: BaseException | None, trace: TracebackType | None) -> None:
+        if error is not None:
+            for worker in self._workers:
+                worker.kill()
         self.close()
 
     def __len__(self) -> int:

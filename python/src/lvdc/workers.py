@@ -90,6 +90,7 @@ class Worker:
         self.program = find_worker() if program is None else Path(program)
         self.limit = limit
         self._lock = threading.Lock()
+        self._is_killed = False
         self._process: subprocess.Popen[bytes] | None = None
         self._owner = 0
 
@@ -112,6 +113,8 @@ class Worker:
                 return self._exchange(frame, deadline)
             except WorkerFailed:
                 self._end(0)
+                if self._is_killed:
+                    raise
             except BaseException:
                 self._end(0)
                 raise
@@ -126,12 +129,22 @@ class Worker:
         with self._lock:
             self._end(_SECONDS_TO_END)
 
+    def kill(self) -> None:
+        """Ends the process at once, from any thread, also while it is asked: that request has then failed, and so has each later one."""
+        self._is_killed = True
+        process = self._process
+        if process is not None and self._owner == os.getpid():
+            process.kill()
+
     def _start(self) -> subprocess.Popen[bytes]:
         """The process; one that was started before a fork belongs to the parent, and another one is started."""
+        if self._is_killed:
+            raise WorkerFailed(f"{self.program} was ended")
         if self._process is not None and self._owner == os.getpid():
             return self._process
         try:
-            process = subprocess.Popen([self.program], stdin=subprocess.PIPE, stdout=subprocess.PIPE, bufsize=0)
+            # in a process group of its own, so that an interrupt from the keyboard comes to this process alone
+            process = subprocess.Popen([self.program], stdin=subprocess.PIPE, stdout=subprocess.PIPE, bufsize=0, process_group=0)
         except OSError as error:
             raise NoWorker(f"{self.program} can't be started: {error.strerror}") from error
         assert process.stdin is not None and process.stdout is not None
