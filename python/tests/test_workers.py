@@ -90,6 +90,8 @@ def test_a_pool_answers_in_order(program: Path) -> None:
     with Pool(3, program=program) as pool:
         requests = (Request(("echo",), b"%d" % it) for it in range(200))
         assert [int(it.text) for it in pool.ask_each(requests)] == list(range(200))
+        requests = (Request(("echo",), b"%d" % it) for it in range(50))
+        assert [int(it.text) for it in pool.ask_each(requests, chunk=7)] == list(range(50))
         assert starts(program) <= 3
         with pytest.raises(WorkerFailed):
             list(pool.ask_each([Request(("echo",)), Request(("die",)), Request(("echo",))]))

@@ -1,4 +1,5 @@
 """As many workers as processors."""
+import itertools
 import os
 import queue
 from collections import deque
@@ -58,9 +59,10 @@ class Pool:
         finally:
             self._free.put(worker)
 
-    def ask_each(self, requests: Iterable[Request], *, progress: bool | None = False) -> Iterator[Reply]:
-        """The replies of requests, in their order. Requests are taken as workers become free, so there may be any number of them."""
-        return shown(self._replies(requests), progress, "requests")
+    def ask_each(self, requests: Iterable[Request], *, chunk: int = 1, progress: bool | None = False) -> Iterator[Reply]:
+        """The replies of requests, in their order. Requests are taken as workers become free, so there may be any number of them; `chunk`
+        of them go to one worker together, which costs less where they are small."""
+        return shown(self._replies(iter(requests), chunk), progress, "requests")
 
     def close(self) -> None:
         """Ends the workers, once what was asked is answered. Nothing can be asked afterwards."""
@@ -68,16 +70,20 @@ class Pool:
         for worker in self._workers:
             worker.close()
 
-    def _replies(self, requests: Iterable[Request]) -> Iterator[Reply]:
+    def _ask_all(self, requests: Sequence[Request]) -> list[Reply]:
+        """The replies of some requests."""
+        return [self.ask(it.words, it.given) for it in requests]
+
+    def _replies(self, requests: Iterator[Request], chunk: int) -> Iterator[Reply]:
         """The replies, with some requests ahead of them."""
-        waiting: deque[Future[Reply]] = deque()
+        waiting: deque[Future[list[Reply]]] = deque()
         try:
-            for request in requests:
-                waiting.append(self._threads.submit(self.ask, request.words, request.given))
+            while some := list(itertools.islice(requests, chunk)):
+                waiting.append(self._threads.submit(self._ask_all, some))
                 if len(waiting) >= (1 + _AHEAD) * len(self):
-                    yield waiting.popleft().result()
+                    yield from waiting.popleft().result()
             while waiting:
-                yield waiting.popleft().result()
+                yield from waiting.popleft().result()
         finally:
             for future in waiting:
                 future.cancel()
