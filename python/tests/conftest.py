@@ -5,11 +5,17 @@ from collections.abc import Iterator
 from pathlib import Path
 
 import pytest
+from hypothesis import settings
 
 from lvdc import NoWorker, Worker
 from lvdc.workers import find_worker
 
 TOP = Path(__file__).resolve().parents[2]
+
+# The same examples each time, on however busy a machine; --hypothesis-profile=others draws others.
+settings.register_profile("same", deadline=None, derandomize=True)
+settings.register_profile("others", deadline=None)
+settings.load_profile("same")
 
 
 def cases() -> list[Path]:

@@ -78,6 +78,7 @@ def test_pictures(found: Findings[CampaignRow], tmp_path: Path) -> None:
     from lvdc import plots
     plots.share({"one": found, "two": found}, by="step").savefig(tmp_path / "share.png")
     plots.failures(found).savefig(tmp_path / "failures.png")
+    plots.failures(found, by=None).savefig(tmp_path / "outcomes.png")
     assert (tmp_path / "share.png").stat().st_size > 1000
     assert (tmp_path / "failures.png").stat().st_size > 1000
 

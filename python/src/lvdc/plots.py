@@ -7,10 +7,11 @@ from typing import Any
 
 from lvdc.ends import Admissible, Logic
 from lvdc.rows import CampaignRow, Row, StudyRow
-from lvdc.studies import Findings, is_different, is_inadmissible
+from lvdc.studies import Findings, column, is_different, is_inadmissible
 from lvdc.values import MODULES, NAMES
 
 AnyFindings = Findings[StudyRow] | Findings[CampaignRow]
+MEMORY = "memory"
 SIZE = (7.0, 4.0)  # inches
 
 
@@ -32,24 +33,34 @@ def share(findings: AnyFindings | Mapping[str, AnyFindings], by: str = "distance
     return figure
 
 
-def failures(findings: AnyFindings) -> Any:
-    """Inadmissible runs by the module that has two wrong copies, or memory: those with the same outcome, and those that differ."""
-    counts: Counter[tuple[str, bool]] = Counter()
+def failures(findings: AnyFindings, by: str | None = "kind") -> Any:
+    """Inadmissible runs by the module that has two wrong copies, or memory: one bar for each, parted by a column, as the kind of the
+    script; or with None by whether the outcome is the same."""
+    counts: Counter[tuple[str, str]] = Counter()
     for row in findings:
         if not isinstance(row.verdict, Admissible):
-            where = NAMES[row.verdict.module] if isinstance(row.verdict, Logic) else "memory"
-            counts[where, is_different(row)] += 1
+            where = NAMES[row.verdict.module] if isinstance(row.verdict, Logic) else MEMORY
+            counts[where, _part(row, by)] += 1
     figure, axes = _axes()
-    places = [*(NAMES[it] for it in MODULES), "memory"]
+    places = [*(NAMES[it] for it in MODULES), MEMORY]
     below = [0] * len(places)
-    for label, differs in (("the same outcome", False), ("another outcome", True)):
-        heights = [counts[place, differs] for place in places]
-        axes.bar(places, heights, bottom=below, label=label)
-        below = heights
+    for part in sorted({it for _, it in counts}):
+        heights = [counts[place, part] for place in places]
+        axes.bar(places, heights, bottom=below, label=part)
+        below = [low + height for low, height in zip(below, heights)]
     axes.set(ylabel="inadmissible runs")
     axes.tick_params(axis="x", rotation=30)
-    axes.legend()
+    if counts:
+        axes.set_ylim(0, 1.05 * max(below))
+        axes.legend()
     return figure
+
+
+def _part(row: Row, by: str | None) -> str:
+    """The part of a bar that a row is counted in."""
+    if by is None:
+        return "another outcome" if is_different(row) else "the same outcome"
+    return str(column(row, by))
 
 
 def _axes() -> tuple[Any, Any]:

@@ -49,7 +49,7 @@ class Findings(Generic[AnyRow]):
         """The same for each value of a column, as distance or module; the values rise."""
         counts: dict[int | str, list[int]] = {}
         for row in self.rows:
-            count = counts.setdefault(_column(row, by), [0, 0])
+            count = counts.setdefault(column(row, by), [0, 0])
             count[0] += of(row)
             count[1] += 1
         return {value: Share(*counts[value]) for value in sorted(counts, key=lambda it: (isinstance(it, str), it))}
@@ -192,7 +192,7 @@ def pieces(deck: Deck, scripts: Iterable[Script], most: int) -> Iterator[tuple[s
         yield head + "".join(parts), piece
 
 
-def _column(row: Row, name: str) -> int | str:
+def column(row: Row, name: str) -> int | str:
     """The value of a column of a row."""
     if row.script is not None and name in row.script.about:
         return row.script.about[name]
