@@ -1,0 +1,199 @@
+"""Reports of runs: how a run ended, its registers, exchanges, words, wrong counts and repairs. Each object keeps the text that it was
+read from, and `str` prints it again from what was read."""
+from collections.abc import Iterator, Mapping
+from dataclasses import dataclass, field
+from enum import Enum
+from types import MappingProxyType
+from typing import Self
+
+from lvdc.ends import END, End, end_of
+from lvdc.lines import ADDRESS, COPY, MODULE, NUMBER, PORT, TWIN, WORD, Lines, pattern
+from lvdc.values import Address, Place, Word
+
+PLACE = r"([0-7] (?:0[0-7]|1[0-7]) [01] [0-3][0-7]{2})"
+_TIMES = pattern("TIMES", NUMBER)
+_PLACE = pattern("PLACE", PLACE)
+_DATA = pattern("DATA", "([0-7])", "(0[0-7]|1[0-7])")
+_DUP = pattern("DUP", "([01])", "([01])")
+_REGISTER = {name: pattern(name, WORD) for name in ("A", "PQ", "SAVER")}
+EXCHANGE = pattern("(IN|OUT)", NUMBER, PORT, WORD)
+MEM = pattern("MEM", ADDRESS, rf"(?:{WORD}|\?)")
+_WRONG = pattern("WRONG", MODULE, COPY, "([1-9][0-9]*)")
+REPAIR = pattern("REPAIR", NUMBER, ADDRESS, TWIN + "( SWITCH)?")
+_SOAK = pattern("LVDC", "SOAK", NUMBER)
+_COUNT = {name: pattern(name, NUMBER) for name in ("WRONG", "REPAIRS")}
+
+
+class Kind(Enum):
+    """Which run a report is of: judged at each step, of the plain machine, or through every fault."""
+
+    RUN = "RUN"
+    PLAIN = "PLAIN"
+    THROUGH = "THROUGH"
+
+
+_TITLE = pattern("LVDC", "(" + "|".join(it.value for it in Kind) + ")")
+
+
+@dataclass(frozen=True, slots=True)
+class Registers:
+    """The registers: how many instruction times were made, the place, the data place, both DUP bits, and three words."""
+
+    times: int
+    place: Place
+    data_module: int
+    data_sector: int
+    dupin: int
+    dupdn: int
+    a: Word
+    pq: Word
+    saver: Word
+
+    @classmethod
+    def take(cls, lines: Lines) -> Self:
+        """Reads the seven lines."""
+        times = int(lines.need(_TIMES, "TIMES")[1])
+        place = Place.read(lines.need(_PLACE, "PLACE")[1])
+        data, dup = lines.need(_DATA, "DATA"), lines.need(_DUP, "DUP")
+        a, pq, saver = (Word.read(lines.need(_REGISTER[name], name)[1]) for name in ("A", "PQ", "SAVER"))
+        return cls(times, place, int(data[1], 8), int(data[2], 8), int(dup[1]), int(dup[2]), a, pq, saver)
+
+    def __str__(self) -> str:
+        return (f"TIMES {self.times}\nPLACE {self.place}\nDATA {self.data_module:o} {self.data_sector:02o}\nDUP {self.dupin} {self.dupdn}\n"
+                f"A {self.a}\nPQ {self.pq}\nSAVER {self.saver}\n")
+
+
+@dataclass(frozen=True, slots=True)
+class Exchange:
+    """A word that went through a port at an instruction time; `is_write` where the program wrote it."""
+
+    time: int
+    port: int
+    word: Word
+    is_write: bool
+
+    def __str__(self) -> str:
+        return f"{'OUT' if self.is_write else 'IN'} {self.time} {self.port:03o} {self.word}"
+
+
+@dataclass(frozen=True, slots=True)
+class Repair:
+    """A cell of a twin that the read of a step found bad and rewrote; `is_switch` where the other twin was selected by it."""
+
+    step: int
+    address: Address
+    twin: int
+    is_switch: bool
+
+    def __str__(self) -> str:
+        return f"REPAIR {self.step} {self.address} {self.twin}" + " SWITCH" * self.is_switch
+
+
+def take_exchanges(lines: Lines) -> Iterator[Exchange]:
+    """Reads a port log."""
+    for found in lines.each(EXCHANGE):
+        yield Exchange(int(found[2]), int(found[3], 8), Word.read(found[4]), found[1] == "OUT")
+
+
+def take_repairs(lines: Lines) -> Iterator[Repair]:
+    """Reads repairs."""
+    for found in lines.each(REPAIR):
+        yield Repair(int(found[1]), Address.read(found[2]), int(found[3]), found[4] is not None)
+
+
+def take_words(lines: Lines) -> Iterator[tuple[Address, Word | None]]:
+    """Reads lines MEM, whose addresses rise."""
+    for address, found in lines.rising(MEM, lambda it: Address.read(it[1])):
+        yield address, None if found[2] is None else Word.read(found[2])
+
+
+def _take_wrong(lines: Lines) -> dict[tuple[int, int], int]:
+    """Reads lines WRONG, whose copies rise."""
+    return {copy: int(found[3]) for copy, found in lines.rising(_WRONG, lambda it: (int(it[1]), int(it[2])))}
+
+
+def mem_line(address: Address, word: Word | None) -> str:
+    """A line MEM."""
+    return f"MEM {address} {'?' if word is None else word}"
+
+
+@dataclass(frozen=True, slots=True)
+class Report:
+    """What a run comes to.
+
+    `words` are those that aren't 0, by address, and None where the word can't be recovered. `wrong` has for each copy (module, copy)
+    that differed from the vote in how many steps it did. A report of the plain machine has neither wrong counts nor repairs."""
+
+    kind: Kind
+    end: End
+    registers: Registers
+    exchanges: tuple[Exchange, ...]
+    words: Mapping[Address, Word | None]
+    wrong: Mapping[tuple[int, int], int]
+    repairs: tuple[Repair, ...]
+    text: str = field(repr=False, compare=False)
+
+    @classmethod
+    def read(cls, text: str) -> Self:
+        """Reads a report whole."""
+        lines = Lines(text)
+        kind = Kind(lines.need(_TITLE, "the title of a report")[1])
+        end = end_of(lines.need(END, "an END line"))
+        report = cls(kind, end, Registers.take(lines), tuple(take_exchanges(lines)), MappingProxyType(dict(take_words(lines))),
+                     MappingProxyType(_take_wrong(lines)), tuple(take_repairs(lines)), text)
+        lines.end()
+        return report
+
+    @property
+    def reads(self) -> tuple[Exchange, ...]:
+        """The exchanges in which the program read a word."""
+        return tuple(it for it in self.exchanges if not it.is_write)
+
+    @property
+    def writes(self) -> tuple[Exchange, ...]:
+        """The exchanges in which the program wrote a word."""
+        return tuple(it for it in self.exchanges if it.is_write)
+
+    @property
+    def lost(self) -> tuple[Address, ...]:
+        """The addresses whose words can't be recovered."""
+        return tuple(address for address, word in self.words.items() if word is None)
+
+    def word(self, address: Address) -> Word | None:
+        """The word at an address: 0 where the report has no line of it, None where it can't be recovered."""
+        return self.words.get(address, Word(0))
+
+    def __str__(self) -> str:
+        lines = [*map(str, self.exchanges), *(mem_line(*it) for it in self.words.items())]
+        lines += [f"WRONG {module} {copy} {count}" for (module, copy), count in self.wrong.items()]
+        lines += map(str, self.repairs)
+        return f"LVDC {self.kind.value}\n{self.end}\n{self.registers}" + "".join(f"{it}\n" for it in lines)
+
+
+@dataclass(frozen=True, slots=True)
+class Soak:
+    """What the run of `soak` comes to: its number, end, instruction times and accumulator, the steps in which copies differed, summed
+    over all copies, and how many repairs there were."""
+
+    number: int
+    end: End
+    times: int
+    a: Word
+    wrong: int
+    repairs: int
+    text: str = field(repr=False, compare=False)
+
+    @classmethod
+    def read(cls, text: str) -> Self:
+        """Reads the six lines."""
+        lines = Lines(text)
+        number = int(lines.need(_SOAK, "LVDC SOAK and a number")[1])
+        end = end_of(lines.need(END, "an END line"))
+        times = int(lines.need(_TIMES, "TIMES")[1])
+        a = Word.read(lines.need(_REGISTER["A"], "A")[1])
+        wrong, repairs = (int(lines.need(_COUNT[name], name)[1]) for name in ("WRONG", "REPAIRS"))
+        lines.end()
+        return cls(number, end, times, a, wrong, repairs, text)
+
+    def __str__(self) -> str:
+        return f"LVDC SOAK {self.number}\n{self.end}\nTIMES {self.times}\nA {self.a}\nWRONG {self.wrong}\nREPAIRS {self.repairs}\n"

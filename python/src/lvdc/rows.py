@@ -1,0 +1,159 @@
+"""The rows of campaigns and studies: what became of a program under each fault script."""
+import re
+from collections.abc import Sequence
+from dataclasses import dataclass, field
+from typing import Self, TypeAlias
+
+from lvdc.ends import GROUPS_OF_VERDICT, VERDICT, Verdict, verdict_of
+from lvdc.lines import ADDRESS, NUMBER, Lines, pattern
+from lvdc.scripts import Script
+from lvdc.values import Address
+
+_NAME = "([A-Z][A-Z0-9]{0,7})"
+_CAMPAIGN_ROW = pattern("SCRIPT", _NAME, VERDICT, "(SAME|DIFFERS)")
+_CAMPAIGN_TOTAL = pattern("CAMPAIGN", NUMBER, "ADMISSIBLE", NUMBER, "SAME", NUMBER)
+_OUTCOME = rf"(SAME|DIFFERS (?:END|PORT {NUMBER}|REGISTERS|WORDS {ADDRESS}))"
+_STUDY_ROW = pattern("SCRIPT", _NAME, VERDICT, _OUTCOME, "COPIES", NUMBER, "REPAIRS", NUMBER, f"(?:-|{NUMBER})", "FORM", "(YES|NO)")
+_STUDY_TOTAL = pattern("STUDY", NUMBER, "ADMISSIBLE", NUMBER, "SAME", NUMBER, "FORM", NUMBER)
+
+
+@dataclass(frozen=True, slots=True)
+class Same:
+    """The run through every fault comes to what the fault-free run comes to."""
+
+    def __str__(self) -> str:
+        return "SAME"
+
+
+@dataclass(frozen=True, slots=True)
+class Differs:
+    """It doesn't. `what` is END, PORT (with the time of the first exchange that differs), REGISTERS, WORDS (with the least address), or
+    None in a campaign, which doesn't tell it."""
+
+    what: str | None = None
+    time: int | None = None
+    address: Address | None = None
+
+    def __str__(self) -> str:
+        at = self.time if self.address is None else self.address
+        return " ".join(["DIFFERS", *([self.what] if self.what else []), *([] if at is None else [str(at)])])
+
+
+Outcome: TypeAlias = Same | Differs
+SAME, DIFFERS = Same(), Differs()
+
+
+@dataclass(frozen=True, slots=True)
+class CampaignRow:
+    """What became of a script: its verdict, and whether the outcome is the same. `script` is known where it was asked for by objects."""
+
+    name: str
+    verdict: Verdict
+    outcome: Outcome
+    script: Script | None = field(default=None, repr=False, compare=False)
+
+    def __str__(self) -> str:
+        return f"SCRIPT {self.name} {self.verdict} {self.outcome}"
+
+
+@dataclass(frozen=True, slots=True)
+class StudyRow:
+    """The same with, of the run through every fault, the sum over all copies of the steps in which they differed, the number of its
+    repairs and the step of the first; and whether the script masks by form."""
+
+    name: str
+    verdict: Verdict
+    outcome: Outcome
+    copies: int
+    repairs: int
+    first_repair: int | None
+    form: bool
+    script: Script | None = field(default=None, repr=False, compare=False)
+
+    def __str__(self) -> str:
+        first = "-" if self.first_repair is None else self.first_repair
+        return (f"SCRIPT {self.name} {self.verdict} {self.outcome} COPIES {self.copies} REPAIRS {self.repairs} {first} "
+                f"FORM {'YES' if self.form else 'NO'}")
+
+
+Row: TypeAlias = CampaignRow | StudyRow
+
+
+@dataclass(frozen=True, slots=True)
+class CampaignRows:
+    """The text of a campaign: its rows, and the total of scripts, of admissible ones and of those with the same outcome."""
+
+    rows: tuple[CampaignRow, ...]
+    scripts: int
+    admissible: int
+    same: int
+    text: str = field(repr=False, compare=False)
+
+    @classmethod
+    def read(cls, text: str, scripts: Sequence[Script] = ()) -> Self:
+        """Reads the rows of a campaign, whose scripts may be given."""
+        lines = Lines(text)
+        rows = tuple(_campaign_row(it, script) for it, script in _rows(lines, _CAMPAIGN_ROW, scripts))
+        total = lines.need(_CAMPAIGN_TOTAL, "a row or the total")
+        lines.end()
+        return cls(rows, int(total[1]), int(total[2]), int(total[3]), text)
+
+    def __str__(self) -> str:
+        return "".join(f"{it}\n" for it in self.rows) + f"CAMPAIGN {self.scripts} ADMISSIBLE {self.admissible} SAME {self.same}\n"
+
+
+@dataclass(frozen=True, slots=True)
+class StudyRows:
+    """The text of a study: its rows, and the total of scripts, of admissible ones, of those with the same outcome and of those that mask
+    by form."""
+
+    rows: tuple[StudyRow, ...]
+    scripts: int
+    admissible: int
+    same: int
+    form: int
+    text: str = field(repr=False, compare=False)
+
+    @classmethod
+    def read(cls, text: str, scripts: Sequence[Script] = ()) -> Self:
+        """Reads the rows of a study, whose scripts may be given."""
+        lines = Lines(text)
+        rows = tuple(_study_row(it, script) for it, script in _rows(lines, _STUDY_ROW, scripts))
+        total = lines.need(_STUDY_TOTAL, "a row or the total")
+        lines.end()
+        return cls(rows, int(total[1]), int(total[2]), int(total[3]), int(total[4]), text)
+
+    def __str__(self) -> str:
+        return ("".join(f"{it}\n" for it in self.rows)
+                + f"STUDY {self.scripts} ADMISSIBLE {self.admissible} SAME {self.same} FORM {self.form}\n")
+
+
+def _rows(lines: Lines, form: re.Pattern[str], scripts: Sequence[Script]) -> list[tuple[re.Match[str], Script | None]]:
+    """The rows, each with its script where scripts are given, which are then as many."""
+    found = list(lines.each(form))
+    if scripts and len(scripts) != len(found):
+        raise lines.unread(f"a row for each of {len(scripts)} scripts")
+    known: list[Script | None] = [*scripts] if scripts else [None for _ in found]
+    return list(zip(found, known))
+
+
+def _campaign_row(found: re.Match[str], script: Script | None) -> CampaignRow:
+    """A row of a campaign."""
+    name, *groups = found.groups()
+    verdict, same = verdict_of(tuple(groups[:GROUPS_OF_VERDICT])), groups[GROUPS_OF_VERDICT]
+    return CampaignRow(name, verdict, SAME if same == "SAME" else DIFFERS, script)
+
+
+def _study_row(found: re.Match[str], script: Script | None) -> StudyRow:
+    """A row of a study."""
+    name, *groups = found.groups()
+    outcome, time, address, copies, repairs, first, form = groups[GROUPS_OF_VERDICT:]
+    return StudyRow(name, verdict_of(tuple(groups[:GROUPS_OF_VERDICT])), _outcome(outcome, time, address), int(copies), int(repairs),
+                    None if first is None else int(first), form == "YES", script)
+
+
+def _outcome(text: str, time: str | None, address: str | None) -> Outcome:
+    """The outcome of a row of a study."""
+    if text == "SAME":
+        return SAME
+    return Differs(text.split(" ")[1], None if time is None else int(time), None if address is None else Address.read(address))

@@ -1,0 +1,47 @@
+"""What the tests share: the texts of the repository, and a worker where one is there."""
+import gzip
+import os
+from collections.abc import Iterator
+from pathlib import Path
+
+import pytest
+from hypothesis import settings
+
+from lvdc import NoWorker, Worker
+from lvdc.workers import find_worker
+
+TOP = Path(__file__).resolve().parents[2]
+
+# The same examples each time, on however busy a machine; --hypothesis-profile=others draws others.
+settings.register_profile("same", deadline=None, derandomize=True)
+settings.register_profile("others", deadline=None)
+settings.load_profile("same")
+
+
+def cases() -> list[Path]:
+    """The folders of the conformance cases."""
+    return sorted((TOP / "conformance" / "cases").glob("*/*"))
+
+
+def input_of(case: Path) -> bytes:
+    """The input of a case."""
+    packed = case / "input.gz"
+    return gzip.decompress(packed.read_bytes()) if packed.exists() else (case / "input").read_bytes()
+
+
+def name_of(path: Path) -> str:
+    """The name of a test by its file or folder."""
+    return f"{path.parent.name}/{path.stem}"
+
+
+@pytest.fixture(scope="session")
+def worker() -> Iterator[Worker]:
+    """A worker; what wants one is skipped where LVDC_WORKER is unset and none is beside the package or on the path."""
+    try:
+        program = find_worker()
+    except NoWorker as error:
+        if os.environ.get("LVDC_WORKER"):
+            raise
+        pytest.skip(str(error))
+    with Worker(program, limit=60) as found:
+        yield found
