@@ -38,7 +38,7 @@ use Rattle.lvdc_laws_voted.specs.Laws.{PortLaw, DeviceWords, BankLaw, StopLaw}
 use Rattle.lvdc_laws_voted.specs.Relation.{Halted, Goes, Halts}
 use Rattle.lvdc_laws_voted.proofs.PlainTimes.{made-reads_none}
 use Rattle.lvdc_masks.specs.Form.{lines_in}
-use Rattle.lvdc_laws_repair.specs.Findings.{Finding, finding_of, is_damage_alone, is_met, found_in, findings}
+use Rattle.lvdc_laws_repair.specs.Findings.{Finding, finding_of, is_damage_alone, meets, found_in, findings}
 use Rattle.lvdc_laws_repair.proofs.Runs.{WordsLaw, HasBanks, read-bank, next-word}
 use Rattle.lvdc_laws_repair.proofs.Admitted.{Parts, DuplexLaw, repairs-at, fits, small, recovered-in, step-admissible, none-bad}
 use Rattle.lvdc_laws_repair.proofs.Waiting.{met-bad, met-simplex}
@@ -59,8 +59,8 @@ read-notes : (o : Trial) (v : Voted) (at : Spot) (a : Result ReadOut BothBad) (o
 read-notes o v at a out e = ap (λ (a : Result ReadOut BothBad). (reading a o v at).repairs) e
 
 -- a twin that is repaired is one that is found
-noted : (o : Trial) (n : ℕ) (at : Spot) (r : Option ℕ) (switched : Bool) → IfSome r (λ twin. twin < 2) → is_repaired r 0 ≡ list_any (is_met o n at 0) o.script
-    → is_repaired r 1 ≡ list_any (is_met o n at 1) o.script → map finding_of (repair_by r n at switched) ≡ found_in o n (Some at)
+noted : (o : Trial) (n : ℕ) (at : Spot) (r : Option ℕ) (switched : Bool) → IfSome r (λ twin. twin < 2) → is_repaired r 0 ≡ list_any (meets o n at 0) o.script
+    → is_repaired r 1 ≡ list_any (meets o n at 1) o.script → map finding_of (repair_by r n at switched) ≡ found_in o n (Some at)
 noted o n at None switched two e f = λ i. cond (e i) (record { step = n; at = at; twin = 0 } ∷ []) [] ++ cond (f i) (record { step = n; at = at; twin = 1 } ∷ []) []
 noted o n at (Some zero) switched two e f = λ i. cond (e i) (record { step = n; at = at; twin = 0 } ∷ []) [] ++ cond (f i) (record { step = n; at = at; twin = 1 } ∷ []) []
 noted o n at (Some (suc zero)) switched two e f = λ i. cond (e i) (record { step = n; at = at; twin = 0 } ∷ []) [] ++ cond (f i) (record { step = n; at = at; twin = 1 } ∷ []) []
@@ -127,7 +127,7 @@ module _ (ports : PortLaw) (devices : DeviceWords) (words : WordsLaw) (banks : B
             notes = noted o n at None false tt (sym (none 0 simplex)) (sym (none 1 simplex));
           }
         where
-          none : (twin : ℕ) → is_simplex o.opening.banks (at.pair % 4) ≡ true → list_any (is_met o n at twin) o.script ≡ false
+          none : (twin : ℕ) → is_simplex o.opening.banks (at.pair % 4) ≡ true → list_any (meets o n at twin) o.script ≡ false
           none twin simplex =
               met-simplex o count at bank (repairs-at o count at f) (λ twin h. duplex o.opening.banks twin at bank h) (word_small at) (λ k. next-word ports o k at) alone n twin below simplex
       by_simplex false not_simplex =
@@ -143,7 +143,7 @@ module _ (ports : PortLaw) (devices : DeviceWords) (words : WordsLaw) (banks : B
           it = two w (slice_index v.twins.selected (at.pair % 4)) shown (b.cells.selected (at.pair % 4)) (word_small at n)
               (rw (shown_is 0 (omega arith) (held 0), shown_is 1 (omega arith) (held 1)) recovers)
 
-          met : (twin : ℕ) → twin < 2 → is_repaired it.out.repaired twin ≡ list_any (is_met o n at twin) o.script
+          met : (twin : ℕ) → twin < 2 → is_repaired it.out.repaired twin ≡ list_any (meets o n at twin) o.script
           met twin small =
               it.bad twin small ∙ ap (λ (c : ℕ). not (is_good c)) (shown_is twin small (held twin))
               ∙ sym (met-bad o count at bank (repairs-at o count at f) (λ twin h. duplex o.opening.banks twin at bank h) (word_small at) (λ k. next-word ports o k at) alone n twin below not_simplex)

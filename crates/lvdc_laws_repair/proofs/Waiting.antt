@@ -18,7 +18,7 @@ use Rattle.lvdc_model.specs.CellsBefore.{reads_it, cell_before, damaged_at, mend
 use Rattle.lvdc_model.proofs.Stuck.{nothing-stuck}
 use Rattle.lvdc_masks.specs.Form.{lines_in, kills_in}
 use Rattle.lvdc_laws_repair.specs.Touches.{stores_it, touches, touches_from, touches_between}
-use Rattle.lvdc_laws_repair.specs.Findings.{is_damage_alone, is_met}
+use Rattle.lvdc_laws_repair.specs.Findings.{is_damage_alone, meets}
 use Rattle.lvdc_laws_repair.proofs.Seen.{damage-seen}
 use Rattle.lvdc_laws_repair.proofs.Lines.{none-pass, hits, sticks, Damages, Spared, Struck, damage-of, Bits, Free, Held, bits-of}
 use Rattle.lvdc_laws_repair.proofs.Deaths.{dead-dies}
@@ -182,13 +182,13 @@ module _ (o : Trial) (count : ℕ) (at : Spot) (bank : HasBank o.opening.banks a
 
   -- ---- the damage that a read meets
 
-  meets_waits : (n twin : ℕ) → n < 3 * count → is_simplex o.opening.banks pair ≡ false → list_any (is_met o n at twin) o.script ≡ true → Waits (suc n) n twin
+  meets_waits : (n twin : ℕ) → n < 3 * count → is_simplex o.opening.banks pair ≡ false → list_any (meets o n at twin) o.script ≡ true → Waits (suc n) n twin
   meets_waits n twin below duplex h = by_line it.line it.passes it.in_run
     where
-      it : Picked count (is_met o n at twin) o.script
-      it = pick count (is_met o n at twin) o.script h
+      it : Picked count (meets o n at twin) o.script
+      it = pick count (meets o n at twin) o.script h
 
-      by_line : (e : Event) → is_met o n at twin e ≡ true → ((q : Event → Bool) → nat_lt (first_of e) (3 * count) ≡ true → q e ≡ true → list_any q lines ≡ true) → Waits (suc n) n twin
+      by_line : (e : Event) → meets o n at twin e ≡ true → ((q : Event → Bool) → nat_lt (first_of e) (3 * count) ≡ true → q e ≡ true → list_any q lines ≡ true) → Waits (suc n) n twin
       by_line (Damage w spot t mask) met in_run =
           let three = and_parts (w == twin && is_same place spot && nat_le t n) (not (touches_from o at t n)) met in
           let two = and_parts (w == twin && is_same place spot) (nat_le t n) three.0 in
@@ -202,10 +202,10 @@ module _ (o : Trial) (count : ℕ) (at : Spot) (bank : HasBank o.opening.banks a
           }
       by_line _ met in_run = absurd (true≢false (sym met))
 
-  waits_meets : (n twin : ℕ) → is_simplex o.opening.banks pair ≡ false → Waits (suc n) n twin → list_any (is_met o n at twin) o.script ≡ true
-  waits_meets n twin duplex p = of-script count (hits place twin p.step) (is_met o n at twin) by_line o.script p.hit
+  waits_meets : (n twin : ℕ) → is_simplex o.opening.banks pair ≡ false → Waits (suc n) n twin → list_any (meets o n at twin) o.script ≡ true
+  waits_meets n twin duplex p = of-script count (hits place twin p.step) (meets o n at twin) by_line o.script p.hit
     where
-      by_line : (e : Event) → hits place twin p.step e ≡ true → is_met o n at twin e ≡ true
+      by_line : (e : Event) → hits place twin p.step e ≡ true → meets o n at twin e ≡ true
       by_line (Damage w spot t mask) hit =
           let two = and_parts (t == p.step && w == twin) (is_same place spot) hit in
           let one = and_parts (t == p.step) (w == twin) two.0 in
@@ -215,8 +215,8 @@ module _ (o : Trial) (count : ℕ) (at : Spot) (bank : HasBank o.opening.banks a
       by_line _ hit = absurd (true≢false (sym hit))
 
   -- a twin shows a bad cell just where the read meets its damage
-  pub met-bad : (n twin : ℕ) → n < 3 * count → is_simplex o.opening.banks pair ≡ false → list_any (is_met o n at twin) o.script ≡ not (is_good (shown_at o twin at n))
-  met-bad n twin below duplex = by_met (list_any (is_met o n at twin) o.script) refl
+  pub met-bad : (n twin : ℕ) → n < 3 * count → is_simplex o.opening.banks pair ≡ false → list_any (meets o n at twin) o.script ≡ not (is_good (shown_at o twin at n))
+  met-bad n twin below duplex = by_met (list_any (meets o n at twin) o.script) refl
     where
       cell : ℕ
       cell = damaged_at o n twin at (cell_before o twin at n)
@@ -225,22 +225,22 @@ module _ (o : Trial) (count : ℕ) (at : Spot) (bank : HasBank o.opening.banks a
       good_is b h = ap (λ (c : ℕ). not (is_good c)) (shows_cell n twin cell below) ∙ ap not h
 
       -- what isn't met waits for no read
-      unmet : list_any (is_met o n at twin) o.script ≡ false → is_good cell ≡ true
+      unmet : list_any (meets o n at twin) o.script ≡ false → is_good cell ≡ true
       unmet none = by_sound (damaged-sound o count at bank m both small next n twin below (sound n twin below duplex))
         where
           by_sound : (cell ≡ code_of (word n)) ⊎ (Waits (suc n) n twin × (is_good cell ≡ false)) → is_good cell ≡ true
           by_sound (inl e) = ap is_good e ∙ good-code (word n) (small n)
           by_sound (inr (p, bad)) = absurd (true≢false (sym (waits_meets n twin duplex p) ∙ none))
 
-      by_met : (b : Bool) → list_any (is_met o n at twin) o.script ≡ b → b ≡ not (is_good (shown_at o twin at n))
+      by_met : (b : Bool) → list_any (meets o n at twin) o.script ≡ b → b ≡ not (is_good (shown_at o twin at n))
       by_met true some = sym (good_is false (damaged_exact n twin below duplex (exact n twin (omega arith) duplex) (meets_waits n twin below duplex some)))
       by_met false none = sym (good_is true (unmet none))
 
   -- in a simplex pair there is no damage to be met
-  pub met-simplex : (n twin : ℕ) → n < 3 * count → is_simplex o.opening.banks pair ≡ true → list_any (is_met o n at twin) o.script ≡ false
-  met-simplex n twin below simplex = false_from_ne_true (list_any (is_met o n at twin) o.script) clash
+  pub met-simplex : (n twin : ℕ) → n < 3 * count → is_simplex o.opening.banks pair ≡ true → list_any (meets o n at twin) o.script ≡ false
+  met-simplex n twin below simplex = false_from_ne_true (list_any (meets o n at twin) o.script) clash
     where
-      by_line : (e : Event) → is_met o n at twin e ≡ true → ((q : Event → Bool) → nat_lt (first_of e) (3 * count) ≡ true → q e ≡ true → list_any q lines ≡ true) → ⊥
+      by_line : (e : Event) → meets o n at twin e ≡ true → ((q : Event → Bool) → nat_lt (first_of e) (3 * count) ≡ true → q e ≡ true → list_any q lines ≡ true) → ⊥
       by_line (Damage w spot t mask) met in_run =
           let three = and_parts (w == twin && is_same place spot && nat_le t n) (not (touches_from o at t n)) met in
           let two = and_parts (w == twin && is_same place spot) (nat_le t n) three.0 in
@@ -251,5 +251,5 @@ module _ (o : Trial) (count : ℕ) (at : Spot) (bank : HasBank o.opening.banks a
           true≢false (sym simplex ∙ not-simplex o count at bank m both small next twin (named o count at bank m both small next twin t hit))
       by_line _ met in_run = true≢false (sym met)
 
-      clash : list_any (is_met o n at twin) o.script ≡ true → ⊥
-      clash h = let it = pick count (is_met o n at twin) o.script h in by_line it.line it.passes it.in_run
+      clash : list_any (meets o n at twin) o.script ≡ true → ⊥
+      clash h = let it = pick count (meets o n at twin) o.script h in by_line it.line it.passes it.in_run

@@ -29,13 +29,13 @@ is_damage_alone _ = true
 
 -- does the read of an address in a step meet this line's damage of a twin? it damages the address's place in the step or before it, and
 -- in no step since then the plain run has read or stored the word
-abbrev pub is_met : Trial → ℕ → Spot → ℕ → Event → Bool
-is_met o step at twin (Damage w place t mask) = w == twin && is_same (home at) place && nat_le t step && not (touches_from o at t step)
-is_met o step at twin _ = false
+abbrev pub meets : Trial → ℕ → Spot → ℕ → Event → Bool
+meets o step at twin (Damage w place t mask) = w == twin && is_same (home at) place && nat_le t step && not (touches_from o at t step)
+meets o step at twin _ = false
 
 -- what the read of an address in a step finds of a twin
 abbrev pub found_of : Trial → ℕ → Spot → ℕ → List Finding
-found_of o step at twin = if list_any (is_met o step at twin) o.script then record { step = step; at = at; twin = twin } ∷ [] else []
+found_of o step at twin = if list_any (meets o step at twin) o.script then record { step = step; at = at; twin = twin } ∷ [] else []
 
 -- what a step finds, where it reads
 abbrev pub found_in : Trial → ℕ → Option Spot → List Finding
