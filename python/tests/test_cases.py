@@ -6,10 +6,12 @@ from typing import Any
 import pytest
 from conftest import TOP, cases, input_of, name_of
 
-from lvdc import CampaignRows, Deck, Expansion, Image, Listing, Refused, Report, Saved, Session, Soak, Unread, Uplink
+from lvdc import (CampaignRows, Deck, Expansion, Form, Image, Listing, Refused, Report, Saved, Session, Soak, StudyRows, Trace, Unread,
+                  Uplink)
 from lvdc.lines import decode, encode
 
 EXAMPLES = TOP / "examples"
+OF_WORKER: dict[str, Callable[[str], Any]] = {"trace": Trace.read, "form": Form.read, "study": StudyRows.read}
 READERS: dict[str, Callable[[str], Any]] = {
     "run": Report.read, "asm": Listing.read, "asm --image": Image.read, "macro": Expansion.read, "macro --image": Image.read,
     "debug": Session.read, "resume": Report.read, "campaign": CampaignRows.read, "uplink": Uplink.read}
@@ -19,6 +21,8 @@ def reader_of(words: list[str], text: str) -> Callable[[str], Any]:
     """What reads the text that these words are answered."""
     if words[0] == "soak":
         return Soak.read
+    if words[0] in OF_WORKER:
+        return OF_WORKER[words[0]]
     if words[0] == "save":
         return Saved.read if text.startswith("LVDC SAVE") else Report.read
     return READERS["run" if words[0] == "run" else " ".join(words)]

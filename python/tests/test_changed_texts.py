@@ -6,8 +6,8 @@ from typing import Any
 from conftest import cases
 from hypothesis import HealthCheck, given, settings
 from hypothesis import strategies as st
-from test_cases import EXAMPLES, reader_of
-from test_worker_texts import CASES, READERS
+from test_cases import EXAMPLES, OF_WORKER, reader_of
+from test_worker_texts import CASES
 
 from lvdc import Deck, Unread
 from lvdc.lines import decode
@@ -25,7 +25,7 @@ def texts() -> list[tuple[Path, Callable[[str], Any], str]]:
             found.append((case, reader_of(words, text), text))
     for case in CASES:
         if (case / "status").read_text().strip() != "2":
-            found.append((case, READERS[case.parent.name], (case / "text").read_text()))
+            found.append((case, OF_WORKER[case.parent.name], (case / "text").read_text()))
     return found
 
 

@@ -1,11 +1,10 @@
 """Traces, forms and studies: the texts of tests/texts are read and printed again, and a worker that answers them answers the same."""
 import pickle
-from collections.abc import Callable
 from pathlib import Path
-from typing import Any
 
 import pytest
 from conftest import name_of
+from test_cases import OF_WORKER
 
 from lvdc import (Address, Damage, Differs, Done, Error, Form, Inadmissible, Logic, NoMemory, Refused, StudyRows, TimeLimit, Trace, Word,
                   Worker, WorkerFailed)
@@ -13,7 +12,6 @@ from lvdc.lines import Unread, decode
 from lvdc.traces import MemoryExchange, PortExchange, ReadRepair
 
 TEXTS = Path(__file__).resolve().parent / "texts"
-READERS: dict[str, Callable[[str], Any]] = {"trace": Trace.read, "form": Form.read, "study": StudyRows.read}
 CASES = sorted(TEXTS.glob("*/*"))
 
 
@@ -29,7 +27,7 @@ def test_it_is_read_whole_and_printed_again(case: Path) -> None:
         refused = Refused(status, text, (case / "input").read_text())
         assert f"REFUSED {refused.cause} {refused.number}\n" == text
     else:
-        found = READERS[case.parent.name](text)
+        found = OF_WORKER[case.parent.name](text)
         assert str(found) == found.text == text
 
 

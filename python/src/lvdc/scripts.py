@@ -87,8 +87,8 @@ class Flips(Indexed):
         at, place = divmod(rest, len(self.places))
         (module, latch), step, mask = self.places[place], self.steps[at], 1 << self.bits[bit]
         faults = tuple([Flip(module, copy, step, step, latch, mask) for copy in self.groups[group]])
-        return Script(faults, {"kind": "flip" if len(faults) == 1 else "pair of flips", "module": module, "latch": latch, "copy": self._names[group], "step": step,
-                               "bit": self.bits[bit]})
+        kind = "flip" if len(faults) == 1 else "pair of flips"
+        return Script(faults, {"kind": kind, "module": module, "latch": latch, "copy": self._names[group], "step": step, "bit": self.bits[bit]})
 
 
 class NearFlips(Scripts):
