@@ -14,8 +14,6 @@ pub fn form_is_answered()
     ensures { (o : Trial) (n : ℕ) → IsOpening o.opening → masks o.script o.opening.banks n ≡ true →
         IsAsPlain (run_answer (jobs.Deck engines.Guarded) o n) (run_answer (jobs.Deck engines.Plain) o n) }
 {
-    lvdc_laws_masking::form_withstands();
-    lvdc_laws_voted::guarded_ends();
-    lvdc_laws_voted::words_known();
-    lvdc_laws_voted::ports_match();
+    lvdc_laws_masking::form_masks();
+    lvdc_laws_texts::texts_agree();
 }
