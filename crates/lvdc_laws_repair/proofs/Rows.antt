@@ -1,15 +1,17 @@
 -- Worked rows of the conditions of repair and of what reads find, by computing. The program reads a word, and goes round: it fetches at
 -- the steps 0, 3, 6 .., and reads the word at the steps 1, 7, 13 .. Another one stores the word in place of that: at the steps 2, 8 ..
-use Rattle.std.proofs.Common.{◌≡◌, ℕ, true, false, List, [], ◌∷◌, refl}
+use Rattle.std.proofs.Common.{◌≡◌, ℕ, zero, suc, ◌+◌, ◌≤◌, Bool, true, false, ◌||◌, List, [], ◌∷◌, ◌⊎◌, inl, inr, refl, sym, subst, arith}
 use Rattle.std.specs.Prelude.{map}
-use Rattle.lvdc_map.specs.Address.{Spot}
+use Rattle.std.proofs.lemmas.Bool.{or_cases}
+use Rattle.lvdc_map.specs.Address.{Spot, is_same}
+use Rattle.lvdc_map.proofs.Addresses.{same-spot}
 use Rattle.lvdc_map.specs.Hop.{hop_of}
 use Rattle.lvdc_fault.specs.declared.event.Event.{Event}
 use Rattle.lvdc_fault.specs.declared.event.Event.TheVariants.{Flip, Damage, Stick, Dead}
 use Rattle.lvdc_model.specs.Trial.{Trial}
-use Rattle.lvdc_laws_repair.specs.Touches.{touches, touches_between}
+use Rattle.lvdc_laws_repair.specs.Touches.{touches, touches_from, touches_between}
 use Rattle.lvdc_laws_repair.specs.Repairs.{repairs, are_apart, each_two}
-use Rattle.lvdc_laws_repair.specs.Scrubs.{are_steps_apart}
+use Rattle.lvdc_laws_repair.specs.Scrubs.{are_steps_apart, Scrubs}
 use Rattle.lvdc_laws_repair.specs.Findings.{findings}
 
 abbrev at : ℕ → ℕ → Spot
@@ -103,6 +105,38 @@ stores = refl
 
 spaced : map (λ every. each_two (are_apart (are_steps_apart every)) (hit 0 1 ∷ hit 1 13 ∷ hit 0 7 ∷ [])) (5 ∷ 6 ∷ 7 ∷ []) ≡ true ∷ true ∷ false ∷ []
 spaced = refl
+
+-- the reader reads the word within each 6 steps, and hits that are 6 apart are withstood for ever
+scrubs : Scrubs (reader (hit 0 1 ∷ hit 1 7 ∷ [])) 3 6
+scrubs = record { some = omega arith; visits = λ at h first le. visits at first le (named at h); spaced = refl; limited = refl }
+  where
+    o : Trial
+    o = reader (hit 0 1 ∷ hit 1 7 ∷ [])
+
+    named : (at : Spot) → (is_same at word || (is_same at word || false)) ≡ true → at ≡ word
+    named at h = by_case (or_cases (is_same at word) (is_same at word || false) h)
+      where
+        last : (b : Bool) → (b || false) ≡ true → b ≡ true
+        last true k = refl
+        last false k = k
+
+        by_case : (is_same at word ≡ true) ⊎ ((is_same at word || false) ≡ true) → at ≡ word
+        by_case (inl same) = same-spot at word same
+        by_case (inr same) = same-spot at word (last (is_same at word) same)
+
+    at_word : (first : ℕ) → first + 6 ≤ 9 → touches_from o word first (first + 6) ≡ true
+    at_word zero le = refl
+    at_word (suc zero) le = refl
+    at_word (suc (suc zero)) le = refl
+    at_word (suc (suc (suc zero))) le = refl
+    at_word (suc (suc (suc (suc first)))) le = absurd (omega arith)
+
+    visits : (at : Spot) (first : ℕ) → first + 6 ≤ 9 → at ≡ word → touches_from o at first (first + 6) ≡ true
+    visits at first le e = subst (λ (s : Spot). touches_from o s first (first + 6) ≡ true) (sym e) (at_word first le)
+
+-- within 5 steps it doesn't always
+waits : touches_from (reader []) word 2 (2 + 5) ≡ false
+waits = refl
 
 -- ---- what reads find
 
