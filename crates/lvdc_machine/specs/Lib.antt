@@ -9,3 +9,4 @@ pub mod Resumed
 pub mod Snapshot
 pub mod Notes
 pub mod Calls
+pub mod Made
