@@ -1,0 +1,4 @@
+pub mod Steps
+pub mod Votes
+pub mod Traces
+pub mod Going

@@ -1,0 +1,14 @@
+//! The trace of a run: for each step of a window what was exchanged, which copies were wrong, what the votes became, and which
+//! copies differ from them.
+#![tactic(auto)]
+
+mod copies;
+mod exchange;
+mod step;
+
+mod votes;
+mod whole;
+mod window;
+
+pub use whole::trace;
+pub use window::Window;
