@@ -9,4 +9,3 @@ pub mod Resumed
 pub mod Snapshot
 pub mod Notes
 pub mod Calls
-pub mod Made

@@ -5,7 +5,6 @@
 mod answers;
 mod kept_end;
 mod machine;
-mod made;
 mod mode;
 mod notes;
 mod opening;
@@ -14,13 +13,11 @@ mod shown;
 mod snapshot;
 mod start;
 mod stepping;
-mod told;
 mod views;
 
 pub use lvdc_model::{Outcome, Repair};
 pub use lvdc_orders::{Order, Orders, OrdersFull};
 pub use machine::Machine;
-pub use made::{Made, Told};
 pub use mode::{Mode, Pace};
 pub use resumed::resumed_goes_on;
 pub use shown::Shown;
