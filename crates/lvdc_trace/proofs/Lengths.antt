@@ -12,9 +12,9 @@ use Rattle.lvdc_modules.specs.declared.wanted.Wanted.TheVariants.{Nothing, Fetch
 use Rattle.lvdc_model.specs.declared.repair.Repair.{Repair}
 use Rattle.lvdc_report.specs.Report.{lines_below, direction}
 use Rattle.lvdc_report.proofs.Sizes.{byte_short, length-switch_text, length-direction}
-use Rattle.lvdc_logic.specs.Logic.{latch_of}
+use Rattle.lvdc_logic.specs.Logic.{latch_of, vote_at, is_outvoted}
 use Rattle.lvdc_debug.specs.Session.{latch_text, copy_line}
-use Rattle.lvdc_trace.specs.Steps.{access_line, port_line, exchange_text, repair_text, vote_at, vote_line, is_apart, told_copy, told_copies, copies_text}
+use Rattle.lvdc_trace.specs.Steps.{access_line, port_line, exchange_text, repair_text, vote_line, told_copy, told_copies, copies_text}
 
 -- a number of one digit
 pub one_digit : (n : ℕ) → n < 10 → length (decimal n) ≤ 1
@@ -61,9 +61,9 @@ length-copy_line copies number copy h k =
     simp length-append (omega (arith, words, one, two))
 
 length-told_copy : (copies : List Copies) (number copy : ℕ) → number < 8 → copy < 4 → length (told_copy copies number copy) ≤ 9 + 10 * latches_of number
-length-told_copy copies number copy h k = by (is_apart copies number copy) refl
+length-told_copy copies number copy h k = by (is_outvoted copies number copy) refl
   where
-    by : (apart : Bool) → is_apart copies number copy ≡ apart → length (told_copy copies number copy) ≤ 9 + 10 * latches_of number
+    by : (apart : Bool) → is_outvoted copies number copy ≡ apart → length (told_copy copies number copy) ≤ 9 + 10 * latches_of number
     by true is = rw is (length-copy_line copies number copy h k)
     by false is = rw is (omega arith)
 

@@ -1,5 +1,5 @@
-mod Rows
 pub mod Onward
 pub mod Making
+pub mod Faithful
 pub mod Lengths
 pub mod Telling

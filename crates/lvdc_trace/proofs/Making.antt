@@ -18,7 +18,7 @@ use Rattle.lvdc_model.specs.Runs.{judged_by, alone_by, through_by}
 use Rattle.lvdc_model.specs.Trial.{Trial}
 use Rattle.lvdc_model.specs.Twins.{read_answer}
 use Rattle.lvdc_model.specs.Voted.{Voted}
-use Rattle.lvdc_machine.specs.Made.{read_made, exchange_made, judged_made, made_by_end, made_in, made_by}
+use Rattle.lvdc_machine.specs.Made.{read_made, exchange_made, made_if, made_unless, made_next, told_by}
 use Rattle.lvdc_machine.specs.Resumed.{state_from, StandsFrom}
 use Rattle.lvdc_machine.specs.Shows.{Shows}
 use Rattle.lvdc_machine.specs.Steps.{run_from, step_of, verdict_of}
@@ -35,45 +35,71 @@ stop-made zero step = refl
 stop-made (suc zero) step = refl
 stop-made (suc (suc n)) step = refl
 
--- the step of this number was begun last in a state
-abbrev WasLast : ℕ → Voted → Type 0
-WasLast step v = last_begun v.end v.steps ≡ Some step
+-- a step from a state was made: it is counted, and the votes bring an end or none
+record IsMade (v after : Voted) : Type 0 where
+  stop : ℕ
+  end : after.end ≡ stop_of stop v.steps
+  steps : after.steps ≡ suc v.steps
 
 read-made : (wanted : Wanted) (r : Result ReadOut BothBad) (o : Trial) (v : Voted) (at : Spot) (made : Made)
-    → read_made wanted r v.steps at ≡ Some made → WasLast v.steps (reading r o v at)
-read-made wanted (Ok r) o v at made is = stop-made _ v.steps
+    → read_made r v.steps at wanted ≡ Some made → IsMade v (reading r o v at)
+read-made wanted (Ok r) o v at made is = record { stop = _; end = refl; steps = refl }
 read-made wanted (Err bad) o v at made is = absurd (cc (is))
 
-exchange-made : (o : Trial) (v : Voted) (w : Wanted) (made : Made) → exchange_made o v w ≡ Some made → WasLast v.steps (exchanges o v w)
-exchange-made o v Nothing made is = stop-made _ v.steps
+exchange-made : (o : Trial) (v : Voted) (w : Wanted) (made : Made) → exchange_made o v w ≡ Some made → IsMade v (exchanges o v w)
+exchange-made o v Nothing made is = record { stop = _; end = refl; steps = refl }
 exchange-made o v (Fetch at) made is = read-made (Fetch at) (read_answer o v.steps v.twins at) o v at made is
 exchange-made o v (Operand at) made is = read-made (Operand at) (read_answer o v.steps v.twins at) o v at made is
-exchange-made o v (Store at word) made is = stop-made _ v.steps
-exchange-made o v (PortRead port) made is = stop-made _ v.steps
-exchange-made o v (PortWrite port word) made is = stop-made _ v.steps
+exchange-made o v (Store at word) made is = record { stop = _; end = refl; steps = refl }
+exchange-made o v (PortRead port) made is = record { stop = _; end = refl; steps = refl }
+exchange-made o v (PortWrite port word) made is = record { stop = _; end = refl; steps = refl }
 
-judged-made : (verdict : Verdict) (o : Trial) (v : Voted) (made : Made) → judged_made verdict o v ≡ Some made → WasLast v.steps (judged_by verdict o v)
+judged-made : (verdict : Verdict) (o : Trial) (v : Voted) (made : Made) → made_if verdict o v ≡ Some made → IsMade v (judged_by verdict o v)
 judged-made Admissible o v made is = exchange-made o v (wished o v) made is
 judged-made (Logic step number) o v made is = absurd (cc (is))
 judged-made (Memory step at) o v made is = absurd (cc (is))
 
-by-end : (end : Option Outcome) (mode : Mode) (o : Trial) (v : Voted) (made : Made) → end ≡ v.end → made_by_end end mode o v ≡ Some made → WasLast v.steps (step_of mode o v)
+by-end : (end : Option Outcome) (mode : Mode) (o : Trial) (v : Voted) (made : Made) → end ≡ v.end → made_unless end mode o v ≡ Some made → IsMade v (step_of mode o v)
 by-end None Guarded o v made end is =
-    subst (λ (e : Option Outcome). WasLast v.steps (alone_by e o v)) end (judged-made (verdict_of Guarded o (begin_step o v)) o (begin_step o v) made is)
+    let it = judged-made (verdict_of Guarded o (begin_step o v)) o (begin_step o v) made is in
+    subst (λ (e : Option Outcome). IsMade v (alone_by e o v)) end (record { stop = it.stop; end = it.end; steps = it.steps })
 by-end None Through o v made end is =
-    subst (λ (e : Option Outcome). WasLast v.steps (through_by e o v)) end (exchange-made o (begin_step o v) (wished o (begin_step o v)) made is)
+    let it = exchange-made o (begin_step o v) (wished o (begin_step o v)) made is in
+    subst (λ (e : Option Outcome). IsMade v (through_by e o v)) end (record { stop = it.stop; end = it.end; steps = it.steps })
 by-end (Some e) mode o v made end is = absurd (cc (is))
 
--- so of the next step of a state, where it is made
-pub made-last : (mode : Mode) (o : Trial) (v : Voted) (made : Made) → made_in mode o v ≡ Some made → WasLast v.steps (step_of mode o v)
-made-last mode o v made is = by-end v.end mode o v made refl is
+step-made : (mode : Mode) (o : Trial) (v : Voted) (made : Made) → made_next mode o v ≡ Some made → IsMade v (step_of mode o v)
+step-made mode o v made is = by-end v.end mode o v made refl is
+
+-- so the next step of a state, where it is made, was begun last
+pub made-last : (mode : Mode) (o : Trial) (v : Voted) (made : Made) → made_next mode o v ≡ Some made
+    → last_begun (step_of mode o v).end (step_of mode o v).steps ≡ Some v.steps
+made-last mode o v made is =
+    let it = step-made mode o v made is in
+    let end = it.end in
+    let steps = it.steps in
+    (λ i. last_begun (end i) (steps i)) ∙ stop-made it.stop v.steps
+
+-- no stop is a verdict
+stop-unjudged : (stop step : ℕ) (verdict : Verdict) → stop_of stop step ≡ Some (Inadmissible verdict) → ⊥
+stop-unjudged zero step verdict is = absurd (cc (is))
+stop-unjudged (suc zero) step verdict is = absurd (cc (is))
+stop-unjudged (suc (suc n)) step verdict is = absurd (cc (is))
+
+-- and no verdict has come with it
+pub made-unjudged : (mode : Mode) (o : Trial) (v : Voted) (made : Made) → made_next mode o v ≡ Some made
+    → (verdict : Verdict) → (step_of mode o v).end ≡ Some (Inadmissible verdict) → ⊥
+made-unjudged mode o v made is verdict end =
+    let it = step-made mode o v made is in
+    let stop = it.end in
+    stop-unjudged it.stop v.steps verdict (sym stop ∙ end)
 
 -- where an end has come nothing is made
-pub made-none : (mode : Mode) (o : Trial) (v : Voted) (end : Outcome) → v.end ≡ Some end → made_in mode o v ≡ None
-made-none mode o v end is = ap (λ (e : Option Outcome). made_by_end e mode o v) is
+pub made-none : (mode : Mode) (o : Trial) (v : Voted) (end : Outcome) → v.end ≡ Some end → made_next mode o v ≡ None
+made-none mode o v end is = ap (λ (e : Option Outcome). made_unless e mode o v) is
 
 -- so where something is made no end had come
-pub made-going : (mode : Mode) (o : Trial) (v : Voted) (made : Made) → made_in mode o v ≡ Some made → v.end ≡ None
+pub made-going : (mode : Mode) (o : Trial) (v : Voted) (made : Made) → made_next mode o v ≡ Some made → v.end ≡ None
 made-going mode o v made is = by v.end refl
   where
     by : (end : Option Outcome) → v.end ≡ end → v.end ≡ None
@@ -87,7 +113,7 @@ record IsTold (end : Option Outcome) (x : Option Made) (made : Made) : Type 0 wh
   kept : x ≡ Some made
   state : (mode : Mode) (o : Trial) (v : Voted) (n : ℕ) → state_from end mode o v n ≡ run_from mode o v n
 
-told-by : (end : Option Outcome) (x : Option Made) (made : Made) → made_by end x ≡ Some made → IsTold end x made
+told-by : (end : Option Outcome) (x : Option Made) (made : Made) → told_by end x ≡ Some made → IsTold end x made
 told-by None x made is = record { kept = is; state = λ mode o v n. refl }
 told-by (Some Done) x made is = record { kept = is; state = λ mode o v n. refl }
 told-by (Some (Stopped step stop)) x made is = record { kept = is; state = λ mode o v n. refl }
@@ -101,15 +127,15 @@ going-state (Some e) mode o v n is = absurd (cc (is))
 
 module _ (first : Bool) (o : Trial) (v : Voted) (n : ℕ) (m after : View) (ds later : List device.Device) (made : Made)
     (s : StandsFrom o v n m ds) (t : StandsFrom o v (n + 1) after later) (mode : after.mode ≡ m.mode)
-    (is : made_by after.end (made_in m.mode o (state_from m.end m.mode o v n)) ≡ Some made) where
+    (is : told_by after.end (made_next m.mode o (state_from m.end m.mode o v n)) ≡ Some made) where
   abbrev before : Voted
   before = state_from m.end m.mode o v n
 
   abbrev then : Voted
   then = state_from after.end m.mode o v (n + 1)
 
-  told : IsTold after.end (made_in m.mode o before) made
-  told = told-by after.end (made_in m.mode o before) made is
+  told : IsTold after.end (made_next m.mode o before) made
+  told = told-by after.end (made_next m.mode o before) made is
 
   -- no end had come, and the state after the step is one step further
   next : then ≡ step_of m.mode o before
@@ -134,7 +160,7 @@ module _ (first : Bool) (o : Trial) (v : Voted) (n : ℕ) (m after : View) (ds l
       t.begun ∙ (λ i. last_begun (end i) (steps i)) ∙ ap (λ (w : Voted). last_begun w.end w.steps) next ∙ last ∙ ap (λ (k : ℕ). Some k) (sym at)
 
   -- its lines are those of the definition
-  pub told-block : step_text first after.script m.steps made m.copies after.copies ≡ block first (made_by after.end (made_in m.mode o before)) o before then
+  pub told-block : step_text first after.script m.steps made m.copies after.copies ≡ block first (told_by after.end (made_next m.mode o before)) o before then
   told-block =
       let script = shown.script in
       let steps = s.shows.steps in

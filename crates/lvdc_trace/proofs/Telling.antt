@@ -9,7 +9,7 @@ use Rattle.lvdc_model.specs.declared.outcome.Outcome.{Outcome}
 use Rattle.lvdc_model.specs.declared.outcome.Outcome.TheVariants.{Done, Stopped, Inadmissible, Device}
 use Rattle.lvdc_model.specs.Trial.{Trial}
 use Rattle.lvdc_model.specs.Voted.{Voted, voted_start}
-use Rattle.lvdc_machine.specs.Made.{made_in, made_by}
+use Rattle.lvdc_machine.specs.Made.{made_next, told_by}
 use Rattle.lvdc_machine.specs.Resumed.{StandsFrom, EndsFrom}
 use Rattle.lvdc_machine.specs.Stands.{Stands, EndsAs, state_by}
 use Rattle.lvdc_machine.specs.Steps.{run_of}
@@ -37,7 +37,7 @@ unfolding lines_below
 blocks-more mode o from index = rw add-one refl
 
 -- what wasn't made has no lines, whatever end is kept
-nothing-made : (end : Option Outcome) → made_by end None ≡ None
+nothing-made : (end : Option Outcome) → told_by end None ≡ None
 nothing-made None = refl
 nothing-made (Some Done) = refl
 nothing-made (Some (Stopped step stop)) = refl
@@ -46,9 +46,9 @@ nothing-made (Some (Device step port)) = refl
 
 -- the lines of a step after an end
 block-none : (first : Bool) (end : Option Outcome) (mode : Mode) (o : Trial) (v after : Voted) (e : Outcome) → v.end ≡ Some e
-    → block first (made_by end (made_in mode o v)) o v after ≡ []
+    → block first (told_by end (made_next mode o v)) o v after ≡ []
 block-none first end mode o v after e is =
-    ap (λ (m : Option Made). block first (made_by end m) o v after) (made-none mode o v e is)
+    ap (λ (m : Option Made). block first (told_by end m) o v after) (made-none mode o v e is)
     ∙ ap (λ (m : Option Made). block first m o v after) (nothing-made end)
 
 -- and by the definition of the run
@@ -81,18 +81,18 @@ module _ (mode : Mode) (o : Trial) (from index : ℕ) (front text next : List �
 
   -- a step that no device failed in
   made-more : (first : Bool) → first ≡ (index == 0) → text ≡ front ++ blocks mode o from index
-      → next ≡ text ++ block first (made_in mode o (run_of mode o (from + index))) o (run_of mode o (from + index)) (run_of mode o (from + index + 1))
+      → next ≡ text ++ block first (made_next mode o (run_of mode o (from + index))) o (run_of mode o (from + index)) (run_of mode o (from + index + 1))
       → next ≡ front ++ blocks mode o from (index + 1)
   made-more first is so_far e =
       let step : from + index + 1 ≡ suc (from + index) = omega arith in
-      let due = ap (λ (f : Bool). block f (made_in mode o (run_of mode o (from + index))) o (run_of mode o (from + index)) (run_of mode o (from + index + 1))) is
-      ∙ ap (λ (k : ℕ). block (index == 0) (made_in mode o (run_of mode o (from + index))) o (run_of mode o (from + index)) (run_of mode o k)) step in
+      let due = ap (λ (f : Bool). block f (made_next mode o (run_of mode o (from + index))) o (run_of mode o (from + index)) (run_of mode o (from + index + 1))) is
+      ∙ ap (λ (k : ℕ). block (index == 0) (made_next mode o (run_of mode o (from + index))) o (run_of mode o (from + index)) (run_of mode o k)) step in
       added front text next (blocks mode o from index) _ _ so_far (e ∙ ap (λ t. text ++ t) due) (blocks-more mode o from index)
 
   -- where no end had come
   going-more : (end : Option Outcome) (first : Bool) → first ≡ (index == 0) → ((step port : ℕ) → end ≡ Some (Device step port) → step ≡ from + index)
       → text ≡ front ++ blocks mode o from index
-      → next ≡ text ++ block first (made_by end (made_in mode o (run_of mode o (from + index)))) o (run_of mode o (from + index)) (state_by end mode o (from + index + 1))
+      → next ≡ text ++ block first (told_by end (made_next mode o (run_of mode o (from + index)))) o (run_of mode o (from + index)) (state_by end mode o (from + index + 1))
       → next ≡ front ++ blocks mode o from (count_by end from (index + 1))
   going-more (Some (Device step port)) first is fails so_far e =
       let at = fails step port refl in
@@ -120,27 +120,27 @@ pub told-more : (o : Trial) (mode : Mode) (from index : ℕ) (first : Bool) (m a
     → ((o : Trial) (v : Voted) (n : ℕ) → StandsFrom o v n m ds → StandsFrom o v (n + 1) after later)
     → (IsSome m.end → after ≡ m)
     → text ≡ front ++ blocks mode o from (count_by m.end from index)
-    → next ≡ text ++ block first (made_by after.end (made_in m.mode o (state_by m.end m.mode o (from + index)))) o (state_by m.end m.mode o (from + index)) (state_by after.end m.mode o (from + index + 1))
+    → next ≡ text ++ block first (told_by after.end (made_next m.mode o (state_by m.end m.mode o (from + index)))) o (state_by m.end m.mode o (from + index)) (state_by after.end m.mode o (from + index + 1))
     → next ≡ front ++ blocks mode o from (count_by after.end from (index + 1))
 told-more o mode from index first m after ds later front text next is same_mode s resumes kept so_far e =
     by m.end refl (rw same_mode at s.shows.end) so_far (rw same_mode at e)
   where
     by : (end : Option Outcome) → m.end ≡ end → m.end ≡ (state_by m.end mode o (from + index)).end
         → text ≡ front ++ blocks mode o from (count_by m.end from index)
-        → next ≡ text ++ block first (made_by after.end (made_in mode o (state_by m.end mode o (from + index)))) o (state_by m.end mode o (from + index)) (state_by after.end mode o (from + index + 1))
+        → next ≡ text ++ block first (told_by after.end (made_next mode o (state_by m.end mode o (from + index)))) o (state_by m.end mode o (from + index)) (state_by after.end mode o (from + index + 1))
         → next ≡ front ++ blocks mode o from (count_by after.end from (index + 1))
     by None none ends so_far e =
         going-more mode o from index front text next after.end first is
         (fails-there o (from + index) m after ds later none s resumes)
         (so_far ∙ ap (λ (x : Option Outcome). front ++ blocks mode o from (count_by x from index)) none)
-        (e ∙ ap (λ (x : Option Outcome). text ++ block first (made_by after.end (made_in mode o (state_by x mode o (from + index)))) o (state_by x mode o (from + index)) (state_by after.end mode o (from + index + 1))) none)
+        (e ∙ ap (λ (x : Option Outcome). text ++ block first (told_by after.end (made_next mode o (state_by x mode o (from + index)))) o (state_by x mode o (from + index)) (state_by after.end mode o (from + index + 1))) none)
     by (Some end) some ends so_far e =
         let there : (state_by (Some end) mode o (from + index)).end ≡ Some end = ap (λ (x : Option Outcome). (state_by x mode o (from + index)).end) (sym some) ∙ sym ends ∙ some in
         let after_end : after.end ≡ Some end = ap (λ (v : View). v.end) (kept (rw some refl)) ∙ some in
-        let more = block first (made_by after.end (made_in mode o (state_by (Some end) mode o (from + index)))) o (state_by (Some end) mode o (from + index)) (state_by after.end mode o (from + index + 1)) in
+        let more = block first (told_by after.end (made_next mode o (state_by (Some end) mode o (from + index)))) o (state_by (Some end) mode o (from + index)) (state_by after.end mode o (from + index + 1)) in
         ended-more mode o from index front text next end more there
         (so_far ∙ ap (λ (x : Option Outcome). front ++ blocks mode o from (count_by x from index)) some)
-        (e ∙ ap (λ (x : Option Outcome). text ++ block first (made_by after.end (made_in mode o (state_by x mode o (from + index)))) o (state_by x mode o (from + index)) (state_by after.end mode o (from + index + 1))) some)
+        (e ∙ ap (λ (x : Option Outcome). text ++ block first (told_by after.end (made_next mode o (state_by x mode o (from + index)))) o (state_by x mode o (from + index)) (state_by after.end mode o (from + index + 1))) some)
         (block-none first after.end mode o (state_by (Some end) mode o (from + index)) _ end there)
         ∙ ap (λ (x : Option Outcome). front ++ blocks mode o from (count_by x from (index + 1))) (sym after_end)
 

@@ -2,3 +2,4 @@ pub mod Steps
 pub mod Votes
 pub mod Traces
 pub mod Going
+pub mod Plainly

@@ -1,10 +1,10 @@
 -- The lines of a step: what it exchanged, which copies were wrong, what the votes became, and which copies differ from them. Each
 -- line ends with LF.
-use Rattle.std.specs.Prelude.{ℕ, zero, suc, ◌+◌, ◌==◌, ◌||◌, Bool, true, false, not, List, [], ◌++◌, codes, decimal, slice_index, if◌then◌else◌}
+use Rattle.std.specs.Prelude.{ℕ, zero, suc, ◌+◌, ◌==◌, ◌||◌, Bool, true, false, not, List, [], ◌++◌, codes, decimal, if◌then◌else◌}
 use Rattle.std.specs.declared.option.Option.{Option}
 use Rattle.std.specs.declared.option.Option.TheVariants.{None, Some}
 use Rattle.lvdc_map.specs.Address.{Spot}
-use Rattle.lvdc_vote.specs.Copies.{Copies, vote_of}
+use Rattle.lvdc_vote.specs.Copies.{Copies}
 use Rattle.lvdc_vote.specs.Numbers.{latches_of}
 use Rattle.lvdc_text.specs.Numbers.{octal_text}
 use Rattle.lvdc_image.specs.Image.{spot_text}
@@ -13,7 +13,7 @@ use Rattle.lvdc_modules.specs.declared.wanted.Wanted.TheVariants.{Nothing, Fetch
 use Rattle.lvdc_fault.specs.Script.{is_wrong}
 use Rattle.lvdc_fault.specs.declared.event.Event.{Event}
 use Rattle.lvdc_model.specs.declared.repair.Repair.{Repair}
-use Rattle.lvdc_logic.specs.Logic.{copies_at, latch_of}
+use Rattle.lvdc_logic.specs.Logic.{vote_at, is_outvoted}
 use Rattle.lvdc_machine.specs.declared.made.Made.{Made}
 use Rattle.lvdc_report.specs.Report.{lines_below, direction}
 use Rattle.lvdc_report.specs.Voted.{switch_text}
@@ -60,10 +60,6 @@ faults_text script step = lines_below (λ before. fault_lines script step (befor
 
 -- ---- the votes
 
--- the vote of a latch
-abbrev pub vote_at : List Copies → ℕ → ℕ → ℕ
-vote_at copies number index = slice_index (vote_of (copies_at copies number)) index
-
 -- is one of the first so many numbers so?
 abbrev pub any_below : (ℕ → Bool) → ℕ → Bool
 any_below so zero = false
@@ -88,13 +84,9 @@ votes_text first before after = lines_below (λ modules. told_vote first before 
 
 -- ---- the copies that differ
 
--- does a copy differ from the vote of its module?
-abbrev pub is_apart : List Copies → ℕ → ℕ → Bool
-is_apart copies number copy = any_below (λ index. not (latch_of copies number copy index == vote_at copies number index)) (latches_of number)
-
 -- the line of a copy, where it differs
 abbrev pub told_copy : List Copies → ℕ → ℕ → List ℕ
-told_copy copies number copy = if is_apart copies number copy then copy_line copies number copy else []
+told_copy copies number copy = if is_outvoted copies number copy then copy_line copies number copy else []
 
 -- those of the three copies of a module
 abbrev pub told_copies : List Copies → ℕ → List ℕ

@@ -6,7 +6,7 @@ use Rattle.lvdc_model.specs.declared.outcome.Outcome.{Outcome}
 use Rattle.lvdc_model.specs.declared.outcome.Outcome.TheVariants.{Done, Device}
 use Rattle.lvdc_model.specs.Trial.{Trial}
 use Rattle.lvdc_model.specs.Voted.{Voted}
-use Rattle.lvdc_machine.specs.Made.{made_in}
+use Rattle.lvdc_machine.specs.Made.{made_next}
 use Rattle.lvdc_machine.specs.Steps.{run_of}
 use Rattle.lvdc_machine.specs.declared.made.Made.{Made}
 use Rattle.lvdc_machine.specs.declared.mode.Mode.{Mode}
@@ -24,7 +24,7 @@ block first (Some made) o before after = step_text first o.script before.steps m
 
 -- the lines of the step of this number, where a run makes it
 abbrev pub step_block : Bool → Mode → Trial → ℕ → List ℕ
-step_block first mode o step = block first (made_in mode o (run_of mode o step)) o (run_of mode o step) (run_of mode o (suc step))
+step_block first mode o step = block first (made_next mode o (run_of mode o step)) o (run_of mode o step) (run_of mode o (suc step))
 
 -- the lines of so many steps, from the one of this number on
 abbrev pub blocks : Mode → Trial → ℕ → ℕ → List ℕ

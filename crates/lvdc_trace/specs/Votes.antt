@@ -2,7 +2,7 @@
 use Rattle.std.specs.Prelude.{◌≡◌, ℕ, ◌-◌, ◌≤◌, ◌<◌, List, [], ◌∷◌, slice_index, slice_index_or}
 use Rattle.lvdc_vote.specs.Copies.{Copies}
 use Rattle.lvdc_vote.specs.Numbers.{latches_of}
-use Rattle.lvdc_trace.specs.Steps.{vote_at}
+use Rattle.lvdc_logic.specs.Logic.{vote_at}
 use Rattle.lvdc_trace.specs.declared.votes.Votes.{Votes}
 
 -- those of the seven modules, in the order of their numbers from 1

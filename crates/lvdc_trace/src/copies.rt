@@ -2,11 +2,10 @@
 
 ghost use Rattle.std.specs.Prelude.{◌≡◌, ℕ, ◌+◌, ◌≤◌, ◌++◌, length, OnOk, Some};
 ghost use Rattle.lvdc_fault.specs.Events.{IsCopy};
-ghost use Rattle.lvdc_trace.specs.Steps.{fault_line, fault_lines, faults_text, is_apart, told_copy, told_copies, copies_text};
+ghost use Rattle.lvdc_trace.specs.Steps.{fault_line, fault_lines, faults_text, told_copy, told_copies, copies_text};
 
 use lvdc_debug::put_copy;
 use lvdc_machine::Machine;
-use lvdc_modules::latches;
 use lvdc_text::put_decimal;
 use lvdc_word::NoMemory;
 
@@ -17,7 +16,7 @@ fn put_fault(out: &mut Vec<u8>, machine: &Machine, number: u8, copy: u8) -> Resu
         → out.new.items ≡ out.old.items ++ fault_line machine.now.script step number copy) }
     ensures short { OnOk result (length out.new.items ≤ length out.old.items + 10) }
 {
-    if !machine.is_hurt(number, copy) {
+    if !machine.is_wrong(number, copy) {
         return Ok(());
     }
     out.extend_from_slice(b"FAULT ")?;
@@ -54,24 +53,12 @@ pub(crate) fn put_faults(out: &mut Vec<u8>, machine: &Machine) -> Result<(), NoM
     Ok(())
 }
 
-/// Does a copy differ from the vote of its module?
-fn is_apart(machine: &Machine, number: u8, copy: u8) -> bool
-    requires { IsCopy number copy }
-    ensures { result ≡ is_apart machine.now.copies number copy }
-{
-    let mut apart = false;
-    for index in 0..latches(number) {
-        apart = apart || machine.copy_word(number, copy, index) != machine.voted(number, index);
-    }
-    apart
-}
-
 /// Adds the line of a copy that differs from its vote, where it does.
 fn put_told_copy(out: &mut Vec<u8>, machine: &Machine, number: u8, copy: u8) -> Result<(), NoMemory>
     requires { IsCopy number copy }
     ensures { OnOk result (out.new.items ≡ out.old.items ++ told_copy machine.now.copies number copy) }
 {
-    if is_apart(machine, number, copy) {
+    if machine.is_outvoted(number, copy) {
         put_copy(out, machine, number, copy)?;
     }
     Ok(())

@@ -4,11 +4,13 @@
 
 mod copies;
 mod exchange;
+mod laws;
 mod step;
 
 mod votes;
 mod whole;
 mod window;
 
+pub use laws::trace_is_plain;
 pub use whole::trace;
 pub use window::Window;

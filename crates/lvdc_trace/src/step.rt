@@ -5,7 +5,7 @@ ghost use Rattle.lvdc_vote.specs.Copies.{Copies};
 ghost use Rattle.lvdc_plain.specs.Lists.{AreFit};
 ghost use Rattle.lvdc_model.specs.Trial.{Trial};
 ghost use Rattle.lvdc_model.specs.Voted.{Voted};
-ghost use Rattle.lvdc_machine.specs.Made.{made_in, made_by};
+ghost use Rattle.lvdc_machine.specs.Made.{made_next, told_by};
 ghost use Rattle.lvdc_machine.specs.Resumed.{state_from, StandsFrom};
 ghost use Rattle.lvdc_machine.specs.Room.{exchanges_to_come};
 ghost use Rattle.lvdc_trace.specs.Going.{GoesOn};
@@ -59,14 +59,14 @@ pub(crate) fn put_next(
     ensures goes { GoesOn device_of spare faults 1 machine.old machine.new devices.old.items devices.new.items }
     ensures text { OnOk result ((o : Trial) (v : Voted) (n : ℕ) → StandsFrom o v n machine.old (map device_of devices.old.items)
         → out.new.items ≡ out.old.items
-        ++ block first (made_by machine.new.end (made_in machine.old.mode o (state_from machine.old.end machine.old.mode o v n))) o
+        ++ block first (told_by machine.new.end (made_next machine.old.mode o (state_from machine.old.end machine.old.mode o v n))) o
         (state_from machine.old.end machine.old.mode o v n) (state_from machine.new.end machine.old.mode o v (n + 1))) }
     ensures short { OnOk result (machine.old.steps < 10 ^ 7 → length out.new.items ≤ length out.old.items + 1115) }
 {
     let before = Votes::of(machine);
     let step = machine.steps();
     let told = machine.told_phase(order, devices);
-    match &told.made {
+    match &told {
         None => {}
         Some(made) => put_step(out, machine, step, made, first, &before)?,
     }

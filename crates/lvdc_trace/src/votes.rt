@@ -3,9 +3,10 @@
 ghost use Rattle.std.specs.Prelude.{◌≡◌, ℕ, ◌+◌, ◌*◌, ◌≤◌, ◌<◌, ◌-◌, ◌==◌, not, ◌++◌, List, [], length, OnOk, slice_index_or};
 ghost use Rattle.lvdc_vote.specs.Copies.{Copies};
 ghost use Rattle.lvdc_vote.specs.Numbers.{latches_of};
+ghost use Rattle.lvdc_logic.specs.Logic.{vote_at};
 ghost use Rattle.lvdc_report.specs.Report.{lines_below};
 ghost use Rattle.lvdc_debug.specs.Session.{latch_text};
-ghost use Rattle.lvdc_trace.specs.Steps.{vote_at, has_changed, vote_line, told_vote, votes_text};
+ghost use Rattle.lvdc_trace.specs.Steps.{has_changed, vote_line, told_vote, votes_text};
 ghost use Rattle.lvdc_trace.specs.Votes.{votes_in, AreVotesOf, AreVotes};
 
 use lvdc_debug::put_latch;
@@ -34,7 +35,7 @@ fn votes_of(machine: &Machine, number: u8) -> [Word; 5]
 {
     let mut words = [Word::ZERO; 5];
     for index in 0..latches(number) {
-        words[usize::from(index)] = machine.voted(number, index);
+        words[usize::from(index)] = machine.voted_word(number, index);
     }
     words
 }
@@ -83,7 +84,7 @@ fn is_other(machine: &Machine, number: u8, index: u8, before: &[Word]) -> bool
     ensures { (copies : List Copies) → AreVotesOf before.now copies number
         → result ≡ not (vote_at machine.now.copies number index == vote_at copies number index) }
 {
-    machine.voted(number, index) != before[usize::from(index)]
+    machine.voted_word(number, index) != before[usize::from(index)]
 }
 
 /// Is the vote of a module, 1 to 7, another now than these words?
@@ -108,7 +109,7 @@ fn put_vote_words(out: &mut Vec<u8>, machine: &Machine, number: u8) -> Result<()
         ++ lines_below (λ index. latch_text (vote_at machine.now.copies number index)) (latches_of number)) }
 {
     for index in 0..latches(number) {
-        put_latch(out, machine.voted(number, index))?;
+        put_latch(out, machine.voted_word(number, index))?;
     }
     Ok(())
 }

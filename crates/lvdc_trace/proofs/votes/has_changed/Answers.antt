@@ -1,7 +1,8 @@
 use Rattle.std.proofs.Common.{◌≡◌, ℕ, ◌+◌, ◌∙◌, Bool, true, false, refl, sym, ap, subst, add-one, arith}
 use Rattle.std.specs.Prelude.{◌||◌, not, ◌==◌}
 use Rattle.lvdc_vote.specs.Numbers.{latches_of}
-use Rattle.lvdc_trace.specs.Steps.{vote_at, any_below}
+use Rattle.lvdc_logic.specs.Logic.{vote_at}
+use Rattle.lvdc_trace.specs.Steps.{any_below}
 use Rattle.lvdc_trace.proofs.votes.has_changed.Goals.{then-changed, else-changed}
 use Rattle.lvdc_trace.proofs.votes.has_changed.Goals as goal
 

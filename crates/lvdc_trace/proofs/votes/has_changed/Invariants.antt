@@ -1,7 +1,8 @@
 use Rattle.std.proofs.Common.{◌≡◌, List}
 use Rattle.std.specs.Prelude.{not, ◌==◌}
 use Rattle.lvdc_vote.specs.Copies.{Copies}
-use Rattle.lvdc_trace.specs.Steps.{any_below, vote_at}
+use Rattle.lvdc_logic.specs.Logic.{vote_at}
+use Rattle.lvdc_trace.specs.Steps.{any_below}
 use Rattle.lvdc_trace.specs.Votes.{AreVotesOf}
 use Rattle.lvdc_trace.proofs.votes.has_changed.Given as goal
 

@@ -1,4 +1,4 @@
 use Rattle.lvdc_trace.proofs.votes.is_other.Goals as goal
 
-pub voted-requires-clause-unbuilt : goal.voted-requires-clause-unbuilt
-voted-requires-clause-unbuilt c = ?
+pub voted_word-requires-clause-unbuilt : goal.voted_word-requires-clause-unbuilt
+voted_word-requires-clause-unbuilt c = ?
