@@ -43,3 +43,16 @@ none_of_seven p o e = (
 -- one number more fails
 pub fails_next : (p : ℕ → Bool) (k i : ℕ) → ((j : ℕ) → k ≤ j → j < i → p j ≡ false) → p i ≡ false → (j : ℕ) → k ≤ j → j < i + 1 → p j ≡ false
 fails_next p k i before here j low high = ⊎_elim (λ e. ap p e ∙ here) (λ other. before j low (omega arith)) (cases_eq j i)
+
+-- where two tests agree on the numbers from 1 to 7, they find the same
+pub find_same : (p q : ℕ → Bool) → ((m : ℕ) → 1 ≤ m → m ≤ 7 → q m ≡ p m) → find p (numbers 1 7) ≡ find q (numbers 1 7)
+find_same p q same =
+    rw (
+      same 1 (omega arith) (omega arith),
+      same 2 (omega arith) (omega arith),
+      same 3 (omega arith) (omega arith),
+      same 4 (omega arith) (omega arith),
+      same 5 (omega arith) (omega arith),
+      same 6 (omega arith) (omega arith),
+      same 7 (omega arith) (omega arith),
+    ) refl

@@ -8,7 +8,9 @@ use Rattle.std.proofs.lemmas.List.{get_or-set_other}
 use Rattle.std.proofs.lemmas.List.Folds.{list_any_more}
 use Rattle.std.proofs.lemmas.Option.{slice_get_within, get_or_from_slice_get}
 use Rattle.lvdc_fault.specs.declared.event.Event.{Event}
-use Rattle.lvdc_fault.specs.Script.{are_two, is_number, is_wrong, two_wrong}
+use Rattle.lvdc_fault.specs.Script.{is_number, is_wrong, two_wrong}
+use Rattle.lvdc_fault.specs.WrongCopies.{two_marked, AreWrong}
+use Rattle.lvdc_fault.specs.declared.wrong.WrongCopies.{WrongCopies}
 
 or_true : (b : Bool) → (b || true) ≡ true
 or_true true = refl
@@ -46,10 +48,9 @@ event_here script actives active positions i e same at =
     subst (λ ps. i < length ps → slice_get script (slice_index_or ps i 0) ≡ Some e → slice_get actives i ≡ Some e) (sym same) (λ h here. at i h ∙ here)
 
 -- two marked copies of a module are two wrong ones
-pub two_marked : (script : List Event) (step : ℕ) (marks : List Bool) (number : ℕ) → 1 ≤ number → number ≤ 7
-    → ((m c : ℕ) → m < 7 → c < 3 → get_or marks (3 * m + c) false ≡ is_wrong script step (m + 1) (c + 1))
-    → two_wrong script step number ≡ are_two (λ c. get_or marks (3 * (number - 1) + (c - 1)) false)
-two_marked script step marks number low high marked =
+pub marked_wrong : (script : List Event) (step : ℕ) (w : WrongCopies) → AreWrong script step w → (number : ℕ) → 1 ≤ number → number ≤ 7
+    → two_wrong script step number ≡ two_marked w.marks number
+marked_wrong script step w marked number low high =
     let back : number - 1 + 1 ≡ number = omega arith in
     let one = λ (c : ℕ) (h : c < 3). ap (λ k. is_wrong script step k (c + 1)) (sym back) ∙ sym (marked (number - 1) c (omega arith) h) in
     let first = one 0 (omega arith) in

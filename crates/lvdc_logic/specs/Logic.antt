@@ -1,6 +1,6 @@
 -- The logic as it is seen: three copies of each of seven modules, and how often each copy differed from the vote.
-use Rattle.std.specs.Prelude.{ℕ, ◌-◌, ◌≤◌, List, [], slice_index, slice_index_or}
-use Rattle.lvdc_vote.specs.Copies.{Copies, settled, copy_of}
+use Rattle.std.specs.Prelude.{ℕ, ◌-◌, ◌≤◌, Bool, List, [], slice_index, slice_index_or}
+use Rattle.lvdc_vote.specs.Copies.{Copies, settled, copy_of, vote_of, differs_of}
 
 -- the copies of the seven modules in order, and of each copy how often it differed from the vote
 pub record LogicState : Type 0 where
@@ -14,6 +14,14 @@ copies_at copies number = slice_index_or copies (number - 1) (settled [] [] [])
 -- the word of a latch of a copy, by the number of the module and of the copy, both from 1, and the index of the latch
 abbrev pub latch_of : List Copies → ℕ → ℕ → ℕ → ℕ
 latch_of copies number copy index = slice_index (copy_of (copies_at copies number) (copy - 1)) index
+
+-- the vote over a latch of a module
+abbrev pub vote_at : List Copies → ℕ → ℕ → ℕ
+vote_at copies number index = slice_index (vote_of (copies_at copies number)) index
+
+-- a copy of a module differs from the vote
+abbrev pub is_outvoted : List Copies → ℕ → ℕ → Bool
+is_outvoted copies number copy = differs_of (copies_at copies number) (copy - 1)
 
 -- how often a copy differed, by the same numbers
 abbrev pub count_of : List (List ℕ) → ℕ → ℕ → ℕ

@@ -7,7 +7,7 @@ ghost use Rattle.lvdc_fault.specs.declared.event.Event.{Event};
 ghost use Rattle.lvdc_model.specs.Voted.{next_copies, counted, thrice};
 ghost use Rattle.lvdc_fault.specs.Events.{IsEvent};
 ghost use Rattle.lvdc_logic.specs.InForce.{IsInForce};
-ghost use Rattle.lvdc_logic.specs.Logic.{latch_of, count_of, DifferedAtMost};
+ghost use Rattle.lvdc_logic.specs.Logic.{latch_of, vote_at, is_outvoted, count_of, DifferedAtMost};
 
 use crate::counts::Counts;
 use crate::in_force::InForce;
@@ -16,7 +16,7 @@ use lvdc_fault::{Active, Script};
 use lvdc_map::Hop;
 use lvdc_modules::Bus;
 use lvdc_orders::Order;
-use lvdc_vote::harm_suffices;
+use lvdc_vote::{Vote, harm_suffices};
 use lvdc_word::Word;
 use std::marker::Model;
 
@@ -118,6 +118,43 @@ impl Logic {
             5 => self.triples.accumulator.word(copy, index),
             6 => self.triples.multiplier.word(copy, index),
             _ => self.triples.exchange.word(copy, index),
+        }
+    }
+
+    /// The vote over a latch of a module. Modules are 1 to 7, and latches are counted from 0.
+    pub fn voted_word(&self, number: u8, index: u8) -> Word
+        requires first_number { 1 ≤ number }
+        requires last_number { number ≤ 7 }
+        requires index { index < latches_of number }
+        ensures { result ≡ vote_at self.now.copies number index }
+    {
+        match number {
+            1 => self.triples.timer.voted().latch(index),
+            2 => self.triples.locator.voted().latch(index),
+            3 => self.triples.decoder.voted().latch(index),
+            4 => self.triples.selector.voted().latch(index),
+            5 => self.triples.accumulator.voted().latch(index),
+            6 => self.triples.multiplier.voted().latch(index),
+            _ => self.triples.exchange.voted().latch(index),
+        }
+    }
+
+    /// Does a copy differ from the vote of its module? Modules are 1 to 7 and copies 1 to 3.
+    pub fn is_outvoted(&self, number: u8, copy: u8) -> bool
+        requires first_number { 1 ≤ number }
+        requires last_number { number ≤ 7 }
+        requires first_copy { 1 ≤ copy }
+        requires last_copy { copy ≤ 3 }
+        ensures { result ≡ is_outvoted self.now.copies number copy }
+    {
+        match number {
+            1 => self.triples.timer.differs(copy - 1),
+            2 => self.triples.locator.differs(copy - 1),
+            3 => self.triples.decoder.differs(copy - 1),
+            4 => self.triples.selector.differs(copy - 1),
+            5 => self.triples.accumulator.differs(copy - 1),
+            6 => self.triples.multiplier.differs(copy - 1),
+            _ => self.triples.exchange.differs(copy - 1),
         }
     }
 }

@@ -28,6 +28,15 @@ answers-kept device_of faults m devices end is = record {
 }
 
 -- then nothing is left otherwise than it was
+pub answers-still : {B : Type 0} (device_of : B → device.Device) (faults : B → ℕ) (m : View) (devices : List B) (end : Outcome)
+    → m.end ≡ Some end → Answers device_of faults (answer_of_end m.end) m m devices devices
+answers-still device_of faults m devices end is = record {
+  answer = refl;
+  kept = λ some. (refl, refl);
+  cause = λ none. absurd (cc (rw is at none));
+  through = λ mode none. absurd (cc (rw is at none));
+}
+
 pub leaves-kept : {B : Type 0} (device_of : B → device.Device) (spare : B → ℕ) (steps : ℕ) (m : View) (devices : List B)
     → AreFit device_of spare (exchanges_to_come m) devices → Leaves device_of spare steps m m devices devices
 leaves-kept device_of spare steps m devices fit = record {

@@ -10,6 +10,7 @@ pub mod Standing
 pub mod Blame
 pub mod Ports
 pub mod Frames
+pub mod HandedOut
 pub mod Telling
 pub mod Starting
 pub mod Calls

@@ -1,5 +1,5 @@
 -- What the calls that make a machine, or make steps of it, say of it and its devices.
-use Rattle.std.specs.Prelude.{◌≡◌, ◌≢◌, ℕ, ◌+◌, ◌≤◌, true, List, IsSome, IsNone}
+use Rattle.std.specs.Prelude.{◌≡◌, ◌≢◌, ℕ, ◌+◌, ◌≤◌, true, List, map, IsSome, IsNone}
 use Rattle.std.specs.declared.option.Option.TheVariants.{None}
 use Rattle.lvdc_port.specs.Device as device
 use Rattle.lvdc_port.specs.Devices.{has_port}
@@ -7,9 +7,11 @@ use Rattle.lvdc_plain.specs.Lists.{AreFit}
 use Rattle.lvdc_fault.specs.declared.verdict.Verdict.{Verdict}
 use Rattle.lvdc_laws_voted.specs.Ends.{IsOpening}
 use Rattle.lvdc_model.specs.Trial.{Trial}
+use Rattle.lvdc_model.specs.Voted.{Voted}
 use Rattle.lvdc_model.specs.declared.outcome.Outcome.{Outcome}
 use Rattle.lvdc_model.specs.declared.outcome.Outcome.TheVariants.{Inadmissible}
 use Rattle.lvdc_machine.specs.Causes.{HasCause}
+use Rattle.lvdc_machine.specs.Resumed.{StandsFrom}
 use Rattle.lvdc_machine.specs.Room.{pace_of, exchanges_to_come}
 use Rattle.lvdc_machine.specs.Stands.{Stands}
 use Rattle.lvdc_machine.specs.Steps.{Keeps}
@@ -60,3 +62,12 @@ pub record Answers {B : Type 0} (device_of : B → device.Device) (faults : B �
   pub kept : IsSome before.end → (after ≡ before) × (new ≡ old)
   pub cause : IsNone before.end → HasCause device_of faults end old new
   pub through : before.mode ≡ Through → IsNone before.end → (verdict : Verdict) → end ≢ Inadmissible verdict
+
+-- a call makes so many steps, or fewer where an end comes: it goes on by them in its mode's run, from each state of each trial from
+-- which it stood; `Stands` is the case of a trial's start
+pub record MakesSteps {B : Type 0} (device_of : B → device.Device) (spare faults : B → ℕ) (steps : ℕ) (end : Outcome) (before after : View)
+    (old new : List B) : Type 0 where
+  pub stands : (o : Trial) (first : Voted) (n : ℕ) → StandsFrom o first n before (map device_of old)
+      → StandsFrom o first (n + steps) after (map device_of new)
+  pub answers : Answers device_of faults end before after old new
+  pub leaves : Leaves device_of spare steps before after old new

@@ -7,5 +7,6 @@ pub mod Causes
 pub mod Sound
 pub mod Resumed
 pub mod Snapshot
+pub mod Made
 pub mod Notes
 pub mod Calls

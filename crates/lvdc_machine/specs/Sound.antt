@@ -4,6 +4,8 @@ use Rattle.std.specs.declared.option.Option.{Option}
 use Rattle.std.specs.declared.option.Option.TheVariants.{None}
 use Rattle.lvdc_fault.specs.Activity.{Fits}
 use Rattle.lvdc_fault.specs.Script.{wrong_module}
+use Rattle.lvdc_fault.specs.WrongCopies.{AreWrong}
+use Rattle.lvdc_fault.specs.declared.wrong.WrongCopies.{WrongCopies}
 use Rattle.lvdc_fault.specs.declared.event.Event.{Event}
 use Rattle.lvdc_fault.specs.Events.{IsEvent}
 use Rattle.lvdc_logic.specs.InForce.{IsInForce}
@@ -20,12 +22,16 @@ use Rattle.lvdc_machine.specs.View.{bus_of_votes, end_seen}
 abbrev pub KnowsWrong : List Event → Option ℕ → Option ℕ → Type 0
 KnowsWrong script last wrong = IfSome last (λ step. wrong ≡ wrong_module script step)
 
+-- the copies that are known as wrong are those of the step in force, if one is
+abbrev pub KnowsCopies : List Event → Option ℕ → WrongCopies → Type 0
+KnowsCopies script last wrong_copies = IfSome last (λ step. AreWrong script step wrong_copies)
+
 -- what is known to be in force on the copies is what the script puts in force in the step in force, if one is
 abbrev pub KnowsForce : List Event → Option ℕ → InForce → Type 0
 KnowsForce script last force = IfSome last (λ step. IsInForce script step force)
 
--- the script is in range, what is active fits it, what is in force on the copies and the module known as wrong are those of the
--- step in force, and there is room for what may still come; the log of a machine with the room of its mode is of its own steps alone; a machine with room by times
+-- the script is in range, what is active fits it, what is in force on the copies, and which copies and module are known as wrong, are
+-- those of the step in force, and there is room for what may still come; the log of a machine with the room of its mode is of its own steps alone; a machine with room by times
 -- judges, and one that judges has phases that go with the steps; the bus is that of the votes, and where no end has come they are
 -- against a stop; and what is noted is of steps that were made
 pub record IsSound (m : Inside) : Type 0 where
@@ -33,6 +39,7 @@ pub record IsSound (m : Inside) : Type 0 where
   pub fits : Fits m.script m.active
   pub within : All (λ position. position < length m.script) m.active.held
   pub force : KnowsForce m.script m.active.last m.force
+  pub copies : KnowsCopies m.script m.active.last m.wrong_copies
   pub wrong : KnowsWrong m.script m.active.last m.wrong
   pub differed : DifferedAtMost m.steps m.logic.counts
   pub banks : m.memory.twins.banks ≡ m.banks

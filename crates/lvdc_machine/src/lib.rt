@@ -5,6 +5,7 @@
 mod answers;
 mod kept_end;
 mod machine;
+mod made;
 mod mode;
 mod notes;
 mod opening;
@@ -18,6 +19,7 @@ mod views;
 pub use lvdc_model::{Outcome, Repair};
 pub use lvdc_orders::{Order, Orders, OrdersFull};
 pub use machine::Machine;
+pub use made::Made;
 pub use mode::{Mode, Pace};
 pub use resumed::resumed_goes_on;
 pub use shown::Shown;

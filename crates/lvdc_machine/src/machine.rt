@@ -8,15 +8,18 @@ ghost use Rattle.lvdc_plain.specs.Lists.{AreFit};
 ghost use Rattle.lvdc_model.specs.Trial.{Trial};
 ghost use Rattle.lvdc_model.specs.Voted.{Voted};
 ghost use Rattle.lvdc_fault.specs.Events.{IsEvent};
-ghost use Rattle.lvdc_machine.specs.Calls.{trial_of, Begins, Leaves, Answers};
-ghost use Rattle.lvdc_machine.specs.Resumed.{StandsFrom};
+ghost use Rattle.lvdc_machine.specs.Calls.{trial_of, Begins, MakesSteps};
+ghost use Rattle.lvdc_machine.specs.Made.{made_next, told_by};
+ghost use Rattle.lvdc_machine.specs.Resumed.{state_from, StandsFrom};
 ghost use Rattle.lvdc_machine.specs.Room.{exchanges_to_come};
+ghost use Rattle.lvdc_machine.specs.View.{answer_of_end};
 
 use crate::kept_end::KeptEnd;
+use crate::made::Made;
 use crate::opening::{is_hop_constant, places_words};
 use crate::start::Start;
 use crate::{Mode, Order, Orders, Pace};
-use lvdc_fault::{Active, Script};
+use lvdc_fault::{Active, Script, WrongCopies};
 use lvdc_logic::{InForce, Logic};
 use lvdc_map::{Banks, Hop, Placed};
 use lvdc_memory::VotedMemory;
@@ -29,8 +32,8 @@ use std::alloc::Global;
 use std::marker::Model;
 
 /// The voted machine, without its devices. Steps are counted from 0, three in an instruction time. The bus of the votes is built
-/// once a step, when all copies have latched; what is in force on each copy, and which module has two wrong copies, is worked out
-/// where the active events change.
+/// once a step, when all copies have latched; what is in force on each copy, which copies are wrong, and which module has two of them,
+/// is worked out where the active events change.
 pub struct Machine {
     pub(crate) banks: Banks,
     pub(crate) logic: Logic,
@@ -39,6 +42,7 @@ pub struct Machine {
     pub(crate) script: Script,
     pub(crate) active: Active,
     pub(crate) force: InForce,
+    pub(crate) wrong_copies: WrongCopies,
     pub(crate) wrong: Option<u8>,
     pub(crate) unplugs: Vec<Unplug>,
     pub(crate) log: Vec<Exchange>,
@@ -88,6 +92,7 @@ impl Drop for Machine {
             script: _,
             active: _,
             force: _,
+            wrong_copies: _,
             wrong: _,
             unplugs: _,
             log: _,
@@ -188,6 +193,7 @@ impl Machine {
             script,
             active,
             force: InForce::none(),
+            wrong_copies: WrongCopies::none(),
             wrong: None,
             unplugs,
             log,
@@ -205,26 +211,31 @@ impl Machine {
         requires left { self.old.steps < 3 * self.old.limit }
         requires fit { AreFit device_of spare (exchanges_to_come self.old) devices.old.items }
 
-        // It goes on by one step of its mode's run, from each state of each trial from which it stood; `Stands` is the case of a trial's
-        // start. The order doesn't matter. What that run is beside the plain run, `guarded_follows` and `guarded_keeps` say of every
-        // machine that stands.
-        ensures stands { (o : Trial) (first : Voted) (n : ℕ) → StandsFrom o first n self.old (map device_of devices.old.items)
-            → StandsFrom o first (n + 1) self.new (map device_of devices.new.items) }
-
-        // It answers the end that it keeps. One that had come is kept, and nothing is changed; a failed device has failed in this
-        // call, and no other that is left has; every other end comes only where no device that is left has failed. Through every
-        // fault no step is judged.
-        ensures answers { Answers device_of faults result self.old self.new devices.old.items devices.new.items }
-
-        // What stays, and what the next call asks for.
-        ensures leaves { Leaves device_of spare 1 self.old self.new devices.old.items devices.new.items }
+        // The order doesn't matter. What the run is beside the plain run, `guarded_follows` and `guarded_keeps` say of every machine
+        // that stands.
+        ensures { MakesSteps device_of spare faults 1 result self.old self.new devices.old.items devices.new.items }
     {
-        if let Some(end) = self.ended() {
-            return end;
-        }
-        match self.advance(order, devices) {
-            Some(end) => end,
-            None => Outcome::Done,
+        let _ = self.told_phase(order, devices);
+        self.outcome()
+    }
+
+    /// Makes one step, as `phase` does, and answers what it made; nothing where it wasn't made, or where an end had come.
+    pub fn told_phase(
+        &mut self,
+        order: &Order,
+        devices: &mut Vec<Box<dyn PortDevice>>,
+    ) -> Option<Made>
+        requires left { self.old.steps < 3 * self.old.limit }
+        requires fit { AreFit device_of spare (exchanges_to_come self.old) devices.old.items }
+        ensures steps { MakesSteps device_of spare faults 1 (answer_of_end self.new.end) self.old self.new devices.old.items devices.new.items }
+
+        // It answers what that step makes of the state where it stood, unless a device failed in it.
+        ensures told { (o : Trial) (first : Voted) (n : ℕ) → StandsFrom o first n self.old (map device_of devices.old.items)
+            → result ≡ told_by self.new.end (made_next self.old.mode o (state_from self.old.end self.old.mode o first n)) }
+    {
+        match self.ended() {
+            Some(_) => None,
+            None => self.advance(order, devices),
         }
     }
 
@@ -239,26 +250,19 @@ impl Machine {
         requires left { self.old.steps + 3 * times ≤ 3 * self.old.limit }
         requires fit { AreFit device_of spare (exchanges_to_come self.old) devices.old.items }
 
-        // It goes on by so many times of its mode's run, from each state of each trial from which it stood; `Stands` is the case of a
-        // trial's start. The orders don't matter. What that run is beside the plain run, `guarded_follows` and `unhurt_follows` say
-        // of every machine that stands.
-        ensures stands { (o : Trial) (first : Voted) (n : ℕ) → StandsFrom o first n self.old (map device_of devices.old.items)
-            → StandsFrom o first (n + 3 * times) self.new (map device_of devices.new.items) }
-
-        // It answers the end that it keeps. One that had come is kept, and nothing is changed; a failed device has failed in this
-        // call, and no other that is left has; every other end comes only where no device that is left has failed. Through every
-        // fault no step is judged.
-        ensures answers { Answers device_of faults result self.old self.new devices.old.items devices.new.items }
-
-        // What stays, and what the next call asks for.
-        ensures leaves { Leaves device_of spare (3 * times) self.old self.new devices.old.items devices.new.items }
+        // The orders don't matter. What the run is beside the plain run, `guarded_follows` and `unhurt_follows` say of every machine
+        // that stands.
+        ensures { MakesSteps device_of spare faults (3 * times) result self.old self.new devices.old.items devices.new.items }
     {
+        // What is true of every machine is known where one of its fields is used: here that its limit is small.
+        let _ = &self.limit;
         if let Some(end) = self.ended() {
             return end;
         }
         for _made in 0..3 * times {
             let order = orders.at_step(self.steps);
-            if let Some(end) = self.advance(order, devices) {
+            let _ = self.advance(order, devices);
+            if let Some(end) = self.ended() {
                 return end;
             }
         }

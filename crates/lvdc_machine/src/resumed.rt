@@ -18,14 +18,14 @@ ghost use Rattle.lvdc_machine.specs.Resumed.{StandsFrom};
 ghost use Rattle.lvdc_machine.specs.Calls.{IsFresh};
 ghost use Rattle.lvdc_machine.specs.Room.{exchanges_to_come};
 ghost use Rattle.lvdc_machine.specs.Snapshot.{IsWhole, Means, meant};
-ghost use Rattle.lvdc_machine.specs.Sound.{KnowsForce, KnowsWrong};
+ghost use Rattle.lvdc_machine.specs.Sound.{KnowsForce, KnowsCopies};
 ghost use Rattle.lvdc_machine.specs.Stands.{Stands};
 ghost use Rattle.lvdc_machine.specs.Steps.{run_of};
 ghost use Rattle.lvdc_machine.specs.declared.snapshot.Snapshot.{Snapshot};
 ghost use Rattle.lvdc_machine.specs.View.{View};
 
 use crate::{Machine, Mode, Pace, Snapshot};
-use lvdc_fault::{Active, Script, wrong_now};
+use lvdc_fault::{Active, Script, WrongCopies};
 use lvdc_logic::{InForce, Logic};
 use lvdc_memory::VotedMemory;
 use lvdc_model::Repair;
@@ -89,13 +89,15 @@ impl Machine {
         let logic = Logic::from_latches(snapshot.latches.items(), snapshot.differed.items());
         let (active, memory) = memory_of(alloc, &snapshot, &script)?;
         let (log, repairs) = noted_in(snapshot, 3 * limit - steps)?;
+        let wrong_copies = wrong_before(&script, &active, steps);
         Ok(Machine {
             banks,
             bus: logic.bus(Word::ZERO, Word::ZERO),
             logic,
             memory,
             force: force_before(&script, &active, steps),
-            wrong: wrong_before(&script, &active, steps),
+            wrong: wrong_copies.lowest_module(),
+            wrong_copies,
             script,
             active,
             unplugs,
@@ -179,16 +181,16 @@ fn put_last_in_force(script: &Script, steps: u64, active: &mut Active, memory: &
     }
 }
 
-/// The lowest module with two wrong copies in the step before this one, if there is one.
-fn wrong_before(script: &Script, active: &Active, steps: u64) -> Option<u8>
+/// Which copies are wrong in the step before this one, if there is one.
+fn wrong_before(script: &Script, active: &Active, steps: u64) -> WrongCopies
     requires fits { Fits script.now active.now }
     requires last { active.now.last ≡ last_made steps }
-    ensures { KnowsWrong script.now active.now.last result }
+    ensures { KnowsCopies script.now active.now.last result }
 {
     if steps == 0 {
-        return None;
+        return WrongCopies::none();
     }
-    wrong_now(script, active, steps - 1)
+    WrongCopies::of_active(script, active, steps - 1)
 }
 
 /// What is in force on the copies in the step before this one, if there is one.

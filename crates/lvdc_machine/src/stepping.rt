@@ -1,9 +1,10 @@
 //! One step of the voted machine.
 
-ghost use Rattle.std.specs.Prelude.{◌≡◌, ℕ, ◌+◌, ◌-◌, ◌*◌, ◌/◌, ◌%◌, ◌≤◌, ◌<◌, ◌==◌, ◌≢◌, List, map, true, false, IsSome, OnOk, OnErr, IfErr, IfSome, Option, Some, None};
+ghost use Rattle.std.specs.Prelude.{◌≡◌, ℕ, ◌+◌, ◌-◌, ◌*◌, ◌/◌, ◌%◌, ◌≤◌, ◌<◌, ◌==◌, ◌≢◌, List, map, true, false, IsSome, OnOk, OnErr, IfOk, IfErr, IfSome, Option, Some, None};
 ghost use Rattle.lvdc_map.specs.Banks.{is_there};
 ghost use Rattle.lvdc_port.specs.Device as device;
 ghost use Rattle.lvdc_port.specs.Devices.{HasSpare, AreDistinct};
+ghost use Rattle.lvdc_port.specs.declared.requests.PortRequest.TheVariants as requests;
 ghost use Rattle.lvdc_modules.specs.Wish.{wish, IsThereFor};
 ghost use Rattle.lvdc_plain.specs.Lists.{Since, AreFit};
 ghost use Rattle.lvdc_machine.specs.Calls.{Leaves};
@@ -11,7 +12,7 @@ ghost use Rattle.lvdc_fault.specs.Activity.{Stays};
 ghost use Rattle.lvdc_fault.specs.Script.{two_wrong};
 ghost use Rattle.lvdc_fault.specs.declared.verdict.Verdict.{Verdict};
 ghost use Rattle.lvdc_fault.specs.declared.verdict.Verdict.TheVariants.{Admissible};
-ghost use Rattle.lvdc_model.specs.Exchanges.{stop_of, latches, exchanges, reading, storing, port_reading, port_writing, wished};
+ghost use Rattle.lvdc_model.specs.Exchanges.{stop_of, latches, exchanges, reading, storing, port_reading, port_writing, port_word, wished};
 ghost use Rattle.lvdc_model.specs.Runs.{own_verdict, own_memory, read_of_wish};
 ghost use Rattle.lvdc_model.specs.Trial.{Trial, devices_left};
 ghost use Rattle.lvdc_model.specs.Twins.{read_answer};
@@ -21,16 +22,19 @@ ghost use Rattle.lvdc_machine.specs.declared.mode.Mode.TheVariants.{Guarded, Thr
 ghost use Rattle.lvdc_machine.specs.Causes.{Fails, HasCause};
 ghost use Rattle.lvdc_machine.specs.Room.{exchanges_to_come, MayExchange, MayRepair, IsDue};
 ghost use Rattle.lvdc_machine.specs.Notes.{IsNoted};
-ghost use Rattle.lvdc_machine.specs.Resumed.{StandsFrom};
+ghost use Rattle.lvdc_machine.specs.Made.{of_port, without_a_word, read_made, exchange_made, made_next, told_by};
+ghost use Rattle.lvdc_modules.specs.declared.wanted.Wanted.TheVariants.{PortWrite};
+ghost use Rattle.lvdc_machine.specs.Resumed.{state_from, StandsFrom};
 ghost use Rattle.lvdc_machine.specs.Shows.{Shows, HasBegun};
 ghost use Rattle.lvdc_machine.specs.Steps.{verdict_of, repair_noted, noting, NamesPort, MayMake, IsMade};
 ghost use Rattle.lvdc_machine.specs.View.{bus_of_votes, answer_of_end, outcome_of, end_seen};
 
 use crate::answers::answer;
 use crate::kept_end::KeptEnd;
+use crate::made::Made;
 use crate::notes::note;
 use crate::{Machine, Mode, Order};
-use lvdc_fault::{Verdict, none_wrong, same_actives, wrong_now};
+use lvdc_fault::{Verdict, WrongCopies, none_wrong, same_actives};
 use lvdc_logic::{InForce, in_force_stays};
 use lvdc_map::Address;
 use lvdc_model::{Outcome, Repair};
@@ -151,7 +155,8 @@ impl Machine {
         self.script.active(self.steps, &mut self.active);
         self.memory.begin(&self.script, &self.active, self.steps);
         self.force = InForce::of_active(&self.script, &self.active, self.steps);
-        self.wrong = wrong_now(&self.script, &self.active, self.steps);
+        self.wrong_copies = WrongCopies::of_active(&self.script, &self.active, self.steps);
+        self.wrong = self.wrong_copies.lowest_module();
     }
 
     /// The exchange that the votes wish for.
@@ -242,33 +247,42 @@ impl Machine {
         self.steps += 1;
     }
 
-    /// Reads an address. Where no twin shows a good cell there the machine stops, and the step isn't made.
-    fn read(&mut self, order: &Order, at: Address)
+    /// Reads an address for this exchange. Where no twin shows a good cell there the machine stops, and the step isn't made.
+    fn read(&mut self, order: &Order, wanted: Wanted, at: Address) -> Option<Made>
         requires may { MayMake self.old }
         requires there { is_there self.old.banks at ≡ true }
         requires due { MayRepair self.old.pace self.old.steps }
         ensures shows { (o : Trial) (v : Voted) (ds : List device.Device) → Shows o self.old ds v
             → Shows o self.new ds (reading (read_answer o v.steps v.twins at) o v at) }
+        ensures told { (o : Trial) (v : Voted) (ds : List device.Device) → Shows o self.old ds v
+            → result ≡ read_made (read_answer o v.steps v.twins at) v.steps at wanted }
         ensures made { IsMade self.old self.new }
     {
         match self.memory.read(at) {
             Ok(read) => {
                 let repair = repair_of(self.steps, at, &read);
+                let made = Made {
+                    wanted,
+                    word: read.word,
+                    repair,
+                };
                 self.make(
                     order,
                     Brought {
-                        memory: read.word,
+                        memory: made.word,
                         port: Word::ZERO,
                         line: None,
-                        repair,
+                        repair: made.repair,
                     },
                 );
+                Some(made)
             }
             Err(_) => {
                 self.end = Some(KeptEnd::Stopped {
                     step: self.steps,
                     stop: Stop::Memory(at),
                 });
+                None
             }
         }
     }
@@ -291,12 +305,14 @@ impl Machine {
         order: &Order,
         port: u8,
         devices: &mut Vec<Box<dyn PortDevice>>,
-    ) -> Result<(), u8>
+    ) -> Result<Option<Made>, u8>
         requires may { MayMake self.old }
         requires due { MayExchange self.old.pace self.old.steps }
         requires fit { AreFit device_of spare (exchanges_to_come self.old) devices.old.items }
         ensures shows { OnOk result ((o : Trial) (v : Voted) → Shows o self.old (map device_of devices.old.items) v
             → Shows o self.new (map device_of devices.new.items) (port_reading o v port)) }
+        ensures told { IfOk result (λ made. (o : Trial) (v : Voted) → Shows o self.old (map device_of devices.old.items) v
+            → made ≡ Some (of_port port (port_word v (requests.Read port)))) }
         ensures made { OnOk result (IsMade self.old self.new) }
         ensures since { OnOk result (Since device_of faults devices.old.items devices.new.items) }
         ensures named { IfErr result (λ failed. port ≡ failed) }
@@ -322,7 +338,7 @@ impl Machine {
                         repair: None,
                     },
                 );
-                Ok(())
+                Ok(Some(Made::of_port(port, word)))
             }
             Err(failed) => Err(failed),
         }
@@ -335,12 +351,13 @@ impl Machine {
         port: u8,
         word: Word,
         devices: &mut Vec<Box<dyn PortDevice>>,
-    ) -> Result<(), u8>
+    ) -> Result<Option<Made>, u8>
         requires may { MayMake self.old }
         requires due { MayExchange self.old.pace self.old.steps }
         requires fit { AreFit device_of spare (exchanges_to_come self.old) devices.old.items }
         ensures shows { OnOk result ((o : Trial) (v : Voted) → Shows o self.old (map device_of devices.old.items) v
             → Shows o self.new (map device_of devices.new.items) (port_writing o v port word)) }
+        ensures told { IfOk result (λ made. made ≡ Some (without_a_word (PortWrite port word))) }
         ensures made { OnOk result (IsMade self.old self.new) }
         ensures since { OnOk result (Since device_of faults devices.old.items devices.new.items) }
         ensures named { IfErr result (λ failed. port ≡ failed) }
@@ -365,26 +382,28 @@ impl Machine {
                         repair: None,
                     },
                 );
-                Ok(())
+                Ok(Some(Made::without_a_word(Wanted::PortWrite { port, word })))
             }
             Err(failed) => Err(failed),
         }
     }
 
-    /// Makes the exchange that is wanted, and lets all copies latch. An error is the port of the device that failed; then
-    /// nothing has changed.
+    /// Makes the exchange that is wanted, lets all copies latch, and answers what was made. An error is the port of the device that
+    /// failed; then nothing has changed.
     fn exchange(
         &mut self,
         order: &Order,
         wanted: Wanted,
         devices: &mut Vec<Box<dyn PortDevice>>,
-    ) -> Result<(), u8>
+    ) -> Result<Option<Made>, u8>
         requires may { MayMake self.old }
         requires there { IsThereFor self.old.banks wanted }
         requires due { IsDue self.old.pace self.old.steps wanted }
         requires fit { AreFit device_of spare (exchanges_to_come self.old) devices.old.items }
         ensures shows { OnOk result ((o : Trial) (v : Voted) → Shows o self.old (map device_of devices.old.items) v
             → Shows o self.new (map device_of devices.new.items) (exchanges o v wanted)) }
+        ensures told { IfOk result (λ made. (o : Trial) (v : Voted) → Shows o self.old (map device_of devices.old.items) v
+            → made ≡ exchange_made o v wanted) }
         ensures made { OnOk result (IsMade self.old self.new) }
         ensures since { OnOk result (Since device_of faults devices.old.items devices.new.items) }
         ensures named { IfErr result (λ failed. NamesPort wanted failed) }
@@ -395,15 +414,13 @@ impl Machine {
         match wanted {
             Wanted::Nothing => {
                 self.make(order, Brought::nothing());
-                Ok(())
+                Ok(Some(Made::without_a_word(Wanted::Nothing)))
             }
-            Wanted::Fetch(at) | Wanted::Operand(at) => {
-                self.read(order, at);
-                Ok(())
-            }
+            Wanted::Fetch(at) => Ok(self.read(order, Wanted::Fetch(at), at)),
+            Wanted::Operand(at) => Ok(self.read(order, Wanted::Operand(at), at)),
             Wanted::Store { at, word } => {
                 self.store(order, at, word);
-                Ok(())
+                Ok(Some(Made::without_a_word(Wanted::Store { at, word })))
             }
             Wanted::PortRead(port) => self.read_port(order, port, devices),
             Wanted::PortWrite { port, word } => self.write_port(order, port, word, devices),
@@ -411,37 +428,35 @@ impl Machine {
     }
 
     /// Keeps an end of a step that was begun and isn't made.
-    fn stop(&mut self, end: KeptEnd) -> Option<Outcome>
-        ensures new { self.new ≡ record self.old { end = Some (outcome_of end) } }
-        ensures answer { result ≡ self.new.end }
+    fn stop(&mut self, end: KeptEnd)
+        ensures { self.new ≡ record self.old { end = Some (outcome_of end) } }
     {
         self.end = Some(end);
-        self.ended()
     }
 
     /// Keeps the end that a failed device is. The step isn't made.
-    fn fail(&mut self, port: u8) -> Option<Outcome>
-        ensures new { self.new ≡ record self.old { end = Some (Device self.old.steps port) } }
-        ensures answer { result ≡ self.new.end }
+    fn fail(&mut self, port: u8)
+        ensures { self.new ≡ record self.old { end = Some (Device self.old.steps port) } }
     {
         self.stop(KeptEnd::Device {
             step: self.steps,
             port,
-        })
+        });
     }
 
-    /// Makes the next step of a machine that runs.
+    /// Makes the next step of a machine that runs, and answers what was made, if the step was.
     pub(crate) fn advance(
         &mut self,
         order: &Order,
         devices: &mut Vec<Box<dyn PortDevice>>,
-    ) -> Option<Outcome>
+    ) -> Option<Made>
         requires running { self.old.end ≡ None }
         requires left { self.old.steps < 3 * self.old.limit }
         requires fit { AreFit device_of spare (exchanges_to_come self.old) devices.old.items }
         ensures stands { (o : Trial) (first : Voted) (n : ℕ) → StandsFrom o first n self.old (map device_of devices.old.items)
             → StandsFrom o first (n + 1) self.new (map device_of devices.new.items) }
-        ensures answer { result ≡ self.new.end }
+        ensures told { (o : Trial) (first : Voted) (n : ℕ) → StandsFrom o first n self.old (map device_of devices.old.items)
+            → result ≡ told_by self.new.end (made_next self.old.mode o (state_from self.old.end self.old.mode o first n)) }
         ensures through { self.old.mode ≡ Through → (verdict : Verdict) → self.new.end ≢ Some (Inadmissible verdict) }
         ensures cause { HasCause device_of faults (answer_of_end self.new.end) devices.old.items devices.new.items }
         ensures leaves { Leaves device_of spare 1 self.old self.new devices.old.items devices.new.items }
@@ -451,10 +466,16 @@ impl Machine {
         let wanted = self.wanted();
         match self.verdict(&wanted) {
             Verdict::Admissible => match self.exchange(order, wanted, devices) {
-                Ok(()) => self.ended(),
-                Err(port) => self.fail(port),
+                Ok(made) => made,
+                Err(port) => {
+                    self.fail(port);
+                    None
+                }
             },
-            verdict => self.stop(KeptEnd::Inadmissible(verdict)),
+            verdict => {
+                self.stop(KeptEnd::Inadmissible(verdict));
+                None
+            }
         }
     }
 }

@@ -1,6 +1,6 @@
 //! What can be seen of the voted machine.
 
-ghost use Rattle.std.specs.Prelude.{◌≡◌, ℕ, ◌-◌, ◌*◌, ◌/◌, ◌%◌, ◌≤◌, ◌<◌, ◌↔◌, List, length, true, IsTrue, Option};
+ghost use Rattle.std.specs.Prelude.{◌≡◌, ℕ, ◌-◌, ◌*◌, ◌/◌, ◌%◌, ◌≤◌, ◌<◌, ◌↔◌, List, length, true, IsTrue, Option, Some};
 ghost use Rattle.lvdc_map.specs.Banks.{is_there};
 ghost use Rattle.lvdc_map.specs.Memory.{word_at};
 ghost use Rattle.lvdc_port.specs.Device as device;
@@ -8,7 +8,8 @@ ghost use Rattle.lvdc_modules.specs.Seen.{hold};
 ghost use Rattle.lvdc_vote.specs.Numbers.{latches_of};
 ghost use Rattle.lvdc_model.specs.Trial.{Trial};
 ghost use Rattle.lvdc_model.specs.Voted.{Voted};
-ghost use Rattle.lvdc_logic.specs.Logic.{latch_of, count_of};
+ghost use Rattle.lvdc_fault.specs.Script.{is_wrong};
+ghost use Rattle.lvdc_logic.specs.Logic.{latch_of, vote_at, is_outvoted, count_of};
 ghost use Rattle.lvdc_machine.specs.Resumed.{state_from, StandsFrom};
 ghost use Rattle.lvdc_machine.specs.Room.{pace_of};
 ghost use Rattle.lvdc_machine.specs.Stands.{shown_of};
@@ -111,6 +112,38 @@ impl Machine {
         ensures { result ≡ latch_of self.now.copies number copy index }
     {
         self.logic.copy_word(number, copy, index)
+    }
+
+    /// The vote over a latch of a module. Modules are 1 to 7, and latches are counted from 0.
+    pub fn voted_word(&self, number: u8, index: u8) -> Word
+        requires first_number { 1 ≤ number }
+        requires last_number { number ≤ 7 }
+        requires index { index < latches_of number }
+        ensures { result ≡ vote_at self.now.copies number index }
+    {
+        self.logic.voted_word(number, index)
+    }
+
+    /// Does a copy differ from the vote of its module? Modules are 1 to 7 and copies 1 to 3.
+    pub fn is_outvoted(&self, number: u8, copy: u8) -> bool
+        requires first_number { 1 ≤ number }
+        requires last_number { number ≤ 7 }
+        requires first_copy { 1 ≤ copy }
+        requires last_copy { copy ≤ 3 }
+        ensures { result ≡ is_outvoted self.now.copies number copy }
+    {
+        self.logic.is_outvoted(number, copy)
+    }
+
+    /// Does a fault act on this copy in the step that was begun last, whatever comes of it? Modules are 1 to 7 and copies 1 to 3.
+    pub fn is_wrong(&self, number: u8, copy: u8) -> bool
+        requires first_number { 1 ≤ number }
+        requires last_number { number ≤ 7 }
+        requires first_copy { 1 ≤ copy }
+        requires last_copy { copy ≤ 3 }
+        ensures { (step : ℕ) → self.now.active.last ≡ Some step → result ≡ is_wrong self.now.script step number copy }
+    {
+        self.wrong_copies.has(number, copy)
     }
 
     /// Is an instruction time left for which nothing is fetched, by the voted HOLD?

@@ -9,6 +9,7 @@ invariant_of-result c = record {
   fits = c.in_ok-active.ensures.fits;
   within = nothing-within c.args.start.script _ c.in_ok-active.ensures.held;
   force = rw c.in_ok-active.ensures.last tt;
+  copies = rw c.in_ok-active.ensures.last tt;
   wrong = rw c.in_ok-active.ensures.last tt;
   differed = c.new-logic.ensures.differed;
   banks = c.in_ok-memory.ensures.banks;

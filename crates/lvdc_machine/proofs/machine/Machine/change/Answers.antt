@@ -1,4 +1,4 @@
-use Rattle.std.proofs.Common.{refl, sym}
+use Rattle.std.proofs.Common.{refl, sym, ◌∙◌}
 use Rattle.lvdc_machine.proofs.Begun.{released}
 use Rattle.lvdc_machine.proofs.machine.Machine.change.Goals as goal
 
@@ -23,4 +23,28 @@ returns c = record {
       };
   new = rw (← c.self.view_is) refl;
   last = rw (← c.self.view_is) c.active.ensures.last;
+}
+
+pub invariant_of-self : goal.invariant_of-self
+invariant_of-self c = record {
+  events = c.self.invariant.events;
+  fits = c.active.ensures.fits;
+  within = c.active.ensures.within;
+  force = rw c.active.ensures.last c.of_active-self-inside.ensures;
+  copies = rw c.active.ensures.last c.of_active-self-inside-2.ensures;
+  wrong = rw c.active.ensures.last (c.lowest_module-self-inside.ensures c.self.inside.script c.self.inside.steps c.of_active-self-inside-2.ensures);
+  differed = c.self.invariant.differed;
+  banks = c.begin.ensures.banks ∙ c.release.ensures.banks ∙ c.self.invariant.banks;
+  log = c.self.invariant.log;
+  log_room = c.self.invariant.log_room;
+  repairs = c.self.invariant.repairs;
+  repairs_room = c.self.invariant.repairs_room;
+  steps = c.self.invariant.steps;
+  limit = c.self.invariant.limit;
+  judges = c.self.invariant.judges;
+  timed = c.self.invariant.timed;
+  bus = c.self.invariant.bus;
+  going = c.self.invariant.going;
+  logged = c.self.invariant.logged;
+  noted = c.self.invariant.noted;
 }

@@ -3,18 +3,23 @@ use Rattle.lvdc_plain.proofs.Causes.{since-start}
 use Rattle.lvdc_machine.proofs.Calls.{fit-made}
 use Rattle.lvdc_machine.proofs.machine.Machine.exchange.Goals as goal
 
-pub read-requires-clause-there : goal.read-requires-clause-there
-read-requires-clause-there g c = elim c.in-Fetch.is [ inl e ↦ rw e at c.requires.there | inr e ↦ rw e at c.requires.there ]
-
-pub read-requires-clause-due : goal.read-requires-clause-due
-read-requires-clause-due g c = elim c.in-Fetch.is [ inl e ↦ rw e at c.requires.due | inr e ↦ rw e at c.requires.due ]
-
 pub returns-in-Nothing-clause-shows : goal.returns-in-Nothing-clause-shows
 returns-in-Nothing-clause-shows g c = λ o v h. rw c.in-Nothing.is (rw c.nothing.ensures at (c.make.ensures.shows o v _ h))
 
 pub returns-in-Fetch-clause-shows : goal.returns-in-Fetch-clause-shows
-returns-in-Fetch-clause-shows g c = λ o v h.
-    elim c.in-Fetch.is [ inl e ↦ rw e (c.read.ensures.shows o v _ h) | inr e ↦ rw e (c.read.ensures.shows o v _ h) ]
+returns-in-Fetch-clause-shows g c = λ o v h. rw c.in-Fetch.is (c.read.ensures.shows o v _ h)
+
+pub returns-in-Operand-clause-shows : goal.returns-in-Operand-clause-shows
+returns-in-Operand-clause-shows g c = λ o v h. rw c.in-Operand.is (c.read-in-Operand.ensures.shows o v _ h)
+
+pub returns-in-Fetch-clause-told : goal.returns-in-Fetch-clause-told
+returns-in-Fetch-clause-told g c = λ o v h. rw c.in-Fetch.is (c.read.ensures.told o v _ h)
+
+pub returns-in-Operand-clause-told : goal.returns-in-Operand-clause-told
+returns-in-Operand-clause-told g c = λ o v h. rw c.in-Operand.is (c.read-in-Operand.ensures.told o v _ h)
+
+pub returns-in-PortRead-clause-told : goal.returns-in-PortRead-clause-told
+returns-in-PortRead-clause-told g c = rw c.in-PortRead.is c.read_port.ensures.told
 
 pub returns-in-Store-clause-shows : goal.returns-in-Store-clause-shows
 returns-in-Store-clause-shows g c = λ o v h. rw c.in-Store.is (c.store.ensures.shows o v _ h)

@@ -1,5 +1,5 @@
 use Rattle.std.proofs.Common.{refl}
-use Rattle.lvdc_machine.proofs.Begun.{same-at, stayed, stays-force, stays-wrong}
+use Rattle.lvdc_machine.proofs.Begun.{same-at, stayed, stays-copies, stays-force, stays-wrong}
 use Rattle.lvdc_machine.proofs.machine.Machine.go_on.Goals as goal
 
 pub stays-requires : goal.stays-requires
@@ -21,6 +21,8 @@ invariant_of-self c =
       within = c.active.ensures.within;
       force = rw c.active.ensures.last
           (stays-force c.self.inside.script c.self.inside.steps c.self.inside.active.last c.self.inside.force stays.same c.self.invariant.force (c.in_force_stays.ensures c.self.inside.force));
+      copies = rw c.active.ensures.last
+          (stays-copies c.self.inside.script c.self.inside.steps c.self.inside.active.last c.self.inside.wrong_copies stays.same c.self.invariant.copies c.same_actives.ensures.copies);
       wrong = rw c.active.ensures.last
           (stays-wrong c.self.inside.script c.self.inside.steps c.self.inside.active.last c.self.inside.wrong stays.same c.self.invariant.wrong c.same_actives.ensures.named);
       differed = c.self.invariant.differed;

@@ -17,6 +17,7 @@ invariant_of-self c =
       fits = c.self.invariant.fits;
       within = c.self.invariant.within;
       force = c.self.invariant.force;
+      copies = c.self.invariant.copies;
       wrong = c.self.invariant.wrong;
       differed = c.step_under.ensures.differed c.self.inside.steps c.self.invariant.differed;
       banks = c.self.invariant.banks;

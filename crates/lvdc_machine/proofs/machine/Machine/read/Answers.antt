@@ -4,6 +4,7 @@ use Rattle.lvdc_plain.specs.declared.records.Stop.TheVariants as stops
 use Rattle.lvdc_model.specs.Twins.{after_read}
 use Rattle.lvdc_model.specs.declared.outcome.Outcome.TheVariants.{Stopped}
 use Rattle.lvdc_machine.proofs.Arms.{shows-read, shows-lost}
+use Rattle.lvdc_machine.proofs.HandedOut.{read-told, lost-told}
 use Rattle.lvdc_machine.proofs.Noting.{read-noted}
 use Rattle.lvdc_machine.proofs.machine.Machine.read.Goals as goal
 
@@ -55,3 +56,16 @@ returns-in-Err-clause-shows c = λ o v ds h.
       steps = s.steps;
       end = ap (λ step. Some (Stopped step (stops.Memory c.args.at))) s.steps;
     })
+
+pub returns-in-Ok-clause-told : goal.returns-in-Ok-clause-told
+returns-in-Ok-clause-told c = λ o v ds h.
+    let s = rw (← c.self.view_is) at h in
+    let begun = (rw (← c.self.view_is) at c.requires.may).begun ∙ ap Some s.steps in
+    read-told c.args.wanted c.args.at c.in-Ok.read (c.read.ensures.answer o v.steps v.twins v.intended (rw begun at s.memory)) c.in-Ok.is s.steps
+    c.repair_of-repair.ensures
+
+pub returns-in-Err-clause-told : goal.returns-in-Err-clause-told
+returns-in-Err-clause-told c = λ o v ds h.
+    let s = rw (← c.self.view_is) at h in
+    let begun = (rw (← c.self.view_is) at c.requires.may).begun ∙ ap Some s.steps in
+    lost-told c.args.wanted c.args.at _ v.steps (c.read.ensures.answer o v.steps v.twins v.intended (rw begun at s.memory)) c.in-Err.is

@@ -1,5 +1,6 @@
 use Rattle.std.proofs.Common.{length, sym, ap, refl, ◌∙◌, arith}
 use Rattle.lvdc_machine.proofs.Again.{few-repairs, begins-timed, log-whole}
+use Rattle.lvdc_machine.proofs.Begun.{knows-module}
 use Rattle.lvdc_machine.proofs.Standing.{after-none}
 use Rattle.lvdc_machine.proofs.machine.Machine.resumed.Goals as goal
 
@@ -16,7 +17,9 @@ invariant_of-result c =
       fits = c.in_ok-active.ensures.fits;
       within = c.in_ok-active.ensures.within;
       force = c.force_before.ensures;
-      wrong = c.wrong_before.ensures;
+      copies = c.wrong_before-wrong_copies.ensures;
+      wrong = knows-module c.args.script _ c.wrong_before-wrong_copies.result c.lowest_module.result c.wrong_before-wrong_copies.ensures
+          (c.lowest_module.ensures c.args.script);
       differed = c.from_latches-logic.ensures.differed c.args.snapshot.steps (rw c.items-2.ensures whole.most);
       banks = c.in_ok-active.ensures.banks;
       log = λ own. absurd (cc own);

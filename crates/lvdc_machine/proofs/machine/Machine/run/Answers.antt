@@ -6,49 +6,43 @@ use Rattle.lvdc_machine.proofs.Frames.{keeps-then}
 use Rattle.lvdc_machine.proofs.Resuming.{stands-kept, stands-early, stands-next, stands-at}
 use Rattle.lvdc_machine.proofs.machine.Machine.run.Goals as goal
 
-pub returns-in-Some-clause-stands : goal.returns-in-Some-clause-stands
-returns-in-Some-clause-stands g c =
-    λ o r t h. stands-kept o r t (3 * c.args.times) _ _ c.in-Some.end (sym c.ended.ensures ∙ c.in-Some.is) h
-
-pub returns-in-Some-clause-answers : goal.returns-in-Some-clause-answers
-returns-in-Some-clause-answers g c =
-    answers-kept (λ b. (goal.PortDevice-dyn g (b.vtable, b.value)).device_of b.value) (λ b. (goal.PortDevice-dyn g (b.vtable, b.value)).faults b.value) c.args.self.now c.args.devices.now.items c.in-Some.end (sym c.ended.ensures ∙ c.in-Some.is)
-
-pub returns-in-Some-clause-leaves : goal.returns-in-Some-clause-leaves
-returns-in-Some-clause-leaves g c =
-    leaves-kept (λ b. (goal.PortDevice-dyn g (b.vtable, b.value)).device_of b.value) (λ b. (goal.PortDevice-dyn g (b.vtable, b.value)).spare b.value) (3 * c.args.times) c.args.self.now c.args.devices.now.items c.requires.fit
-
-pub returns-in-Some-advance-clause-stands : goal.returns-in-Some-advance-clause-stands
-returns-in-Some-advance-clause-stands g c =
-    λ o r t h. stands-early o r t c.loop-made._made (3 * c.args.times) _ _ _ c.in-Some-advance.ensures.answer c.loop-made-test.true (c.in-Some-advance.ensures.stands o r (t + c.loop-made._made) (c.loop-made.invariant.stands o r t h))
-
-pub returns-in-Some-advance-clause-answers : goal.returns-in-Some-advance-clause-answers
-returns-in-Some-advance-clause-answers g c =
-    answers-made (λ b. (goal.PortDevice-dyn g (b.vtable, b.value)).device_of b.value) (λ b. (goal.PortDevice-dyn g (b.vtable, b.value)).faults b.value) c.args.self.now c.advance.new.self c.args.devices.now.items c.advance.new.devices.items _
-    (search rules) (search rules)
-    (caused-since c.loop-made.invariant.since _ _ c.in-Some-advance.ensures.leaves.left c.in-Some-advance.ensures.cause)
-    (λ mode. c.in-Some-advance.ensures.through (c.loop-made.invariant.keeps.mode ∙ mode))
-
-pub returns-in-Some-advance-clause-leaves : goal.returns-in-Some-advance-clause-leaves
-returns-in-Some-advance-clause-leaves g c =
-    let more = c.in-Some-advance.ensures.leaves in
+pub returns-in-Some : goal.returns-in-Some
+returns-in-Some g c =
+    let end = sym c.ended.ensures ∙ c.in-Some.is in
     record {
-      keeps = keeps-then c.loop-made.invariant.keeps more.keeps;
-      most = omega (arith, c.loop-made.invariant.steps, more.most, c.loop-made-test.true);
-      left = λ port has. c.loop-made.invariant.since.left port (more.left port has);
-      fit = more.fit;
+      stands = λ o r t h. stands-kept o r t (3 * c.args.times) _ _ c.in-Some.end end h;
+      answers = answers-kept (λ b. (goal.PortDevice-dyn g (b.vtable, b.value)).device_of b.value) (λ b. (goal.PortDevice-dyn g (b.vtable, b.value)).faults b.value) c.args.self.now c.args.devices.now.items c.in-Some.end end;
+      leaves = leaves-kept (λ b. (goal.PortDevice-dyn g (b.vtable, b.value)).device_of b.value) (λ b. (goal.PortDevice-dyn g (b.vtable, b.value)).spare b.value) (3 * c.args.times) c.args.self.now c.args.devices.now.items c.requires.fit;
+    }
+
+pub returns-in-Some-ended : goal.returns-in-Some-ended
+returns-in-Some-ended g c =
+    let more = c.advance.ensures.leaves in
+    let now = c.in-Some-ended.is in
+    record {
+      stands = λ o r t h. stands-early o r t c.loop-made._made (3 * c.args.times) _ _ _ (sym now ∙ c.ended-in-loop-made.ensures) c.loop-made-test.true
+          (c.advance.ensures.stands o r (t + c.loop-made._made) (c.loop-made.invariant.stands o r t h));
+      answers = answers-made (λ b. (goal.PortDevice-dyn g (b.vtable, b.value)).device_of b.value) (λ b. (goal.PortDevice-dyn g (b.vtable, b.value)).faults b.value) c.args.self.now c.advance.new.self c.args.devices.now.items c.advance.new.devices.items _
+          (search rules) (search rules) (caused-since c.loop-made.invariant.since _ _ more.left c.advance.ensures.cause)
+          (λ mode. c.advance.ensures.through (c.loop-made.invariant.keeps.mode ∙ mode));
+      leaves = record {
+        keeps = keeps-then c.loop-made.invariant.keeps more.keeps;
+        most = omega (arith, c.loop-made.invariant.steps, more.most, c.loop-made-test.true);
+        left = λ port has. c.loop-made.invariant.since.left port (more.left port has);
+        fit = more.fit;
+      };
     }
 
 pub loop-made-preserved : goal.loop-made-preserved
 loop-made-preserved g c =
-    let more = c.in_default-advance.ensures.leaves in
+    let more = c.advance.ensures.leaves in
     record {
-      stands = λ o r t h. stands-next o r t c.loop-made._made _ _ (c.in_default-advance.ensures.stands o r (t + c.loop-made._made) (c.loop-made.invariant.stands o r t h));
-      running = sym c.in_default-advance.ensures.answer;
+      stands = λ o r t h. stands-next o r t c.loop-made._made _ _ (c.advance.ensures.stands o r (t + c.loop-made._made) (c.loop-made.invariant.stands o r t h));
+      running = sym c.in_default-ended.ensures;
       keeps = keeps-then c.loop-made.invariant.keeps more.keeps;
       steps = omega (arith, c.loop-made.invariant.steps, more.most);
       fit = more.fit;
-      since = since-more c.loop-made.invariant.since _ more.left (rw (← c.in_default-advance.ensures.answer) at c.in_default-advance.ensures.cause);
+      since = since-more c.loop-made.invariant.since _ more.left (rw (← c.in_default-ended.ensures) at c.advance.ensures.cause);
     }
 
 pub loop-made-init : goal.loop-made-init
@@ -61,20 +55,21 @@ loop-made-init g c = record {
   since = since-start;
 }
 
-pub returns-clause-stands : goal.returns-clause-stands
-returns-clause-stands g c =
-    λ o r t h. stands-at o r t c.loop-made._made (3 * c.args.times) _ _ (omega arith) (c.loop-made.invariant.stands o r t h)
-
-pub returns-clause-answers : goal.returns-clause-answers
-returns-clause-answers g c =
-    answers-made (λ b. (goal.PortDevice-dyn g (b.vtable, b.value)).device_of b.value) (λ b. (goal.PortDevice-dyn g (b.vtable, b.value)).faults b.value) c.args.self.now c.loop-made.self c.args.devices.now.items c.loop-made.devices.items _
-    (search rules) (search rules) (rw c.loop-made.invariant.running c.loop-made.invariant.since.counts)
-    (λ mode verdict is. let running = c.loop-made.invariant.running in absurd (cc (running, is)))
-
-pub returns-clause-leaves : goal.returns-clause-leaves
-returns-clause-leaves g c = record {
-  keeps = c.loop-made.invariant.keeps;
-  most = omega (arith, c.loop-made.invariant.steps, c.loop-made-test.false);
-  left = c.loop-made.invariant.since.left;
-  fit = c.loop-made.invariant.fit;
+pub returns : goal.returns
+returns g c = record {
+  stands = λ o r t h. stands-at o r t c.loop-made._made (3 * c.args.times) _ _ (omega arith) (c.loop-made.invariant.stands o r t h);
+  answers = answers-made (λ b. (goal.PortDevice-dyn g (b.vtable, b.value)).device_of b.value) (λ b. (goal.PortDevice-dyn g (b.vtable, b.value)).faults b.value) c.args.self.now c.loop-made.self c.args.devices.now.items c.loop-made.devices.items _
+      (search rules) (search rules) (rw c.loop-made.invariant.running c.loop-made.invariant.since.counts)
+      (λ mode verdict is. let running = c.loop-made.invariant.running in absurd (cc (running, is)));
+  leaves = record {
+    keeps = c.loop-made.invariant.keeps;
+    most = omega (arith, c.loop-made.invariant.steps, c.loop-made-test.false);
+    left = c.loop-made.invariant.since.left;
+    fit = c.loop-made.invariant.fit;
+  };
 }
+
+pub overflow_mul-made-end : goal.overflow_mul-made-end
+overflow_mul-made-end g c =
+    let left = rw (← c.self.view_is) at c.requires.left in
+    let small = c.self.invariant.limit in omega (arith, left, small)
