@@ -1,7 +1,10 @@
-ghost use Rattle.std.specs.Prelude.{◌≡◌, ◌-◌, ◌^◌, ◌<◌, ◌≤◌, length, map, OnErr, IfOk};
+ghost use Rattle.std.specs.Prelude.{◌≡◌, ◌-◌, ◌^◌, ◌<◌, ◌≤◌, length, map, false, Ok, OnErr, IfOk};
 ghost use Rattle.lvdc_port.specs.Devices.{AreDistinct};
 ghost use Rattle.lvdc_reply.specs.Answer.{answer_with};
-ghost use Rattle.lvdc_command_run.specs.Trials.{IsRunnable};
+ghost use Rattle.lvdc_deck.specs.Deck.{deck_of};
+ghost use Rattle.lvdc_deck.specs.declared.deck.Deck.{Deck};
+ghost use Rattle.lvdc_command_run.specs.Trials.{trial_of, IsRunnable};
+ghost use Rattle.lvdc_trace.specs.Plainly.{TellsPlainly};
 ghost use Rattle.lvdc_command_trace.specs.Replies.{IsTraced, IsTraceReply, IsUntold, IsUnanswered};
 
 use lvdc_command_run::{Ready, end_status, make_ready, refuse};
@@ -10,7 +13,7 @@ use lvdc_machine::Mode;
 use lvdc_port::PortDevice;
 use lvdc_reply::Reply;
 use lvdc_report::LONGEST_REPORT;
-use lvdc_trace::{Window, trace};
+use lvdc_trace::{Window, trace, trace_is_plain};
 use lvdc_word::{NoMemory, Seq};
 use std::alloc::Global;
 
@@ -28,9 +31,11 @@ fn trace_deck(
     requires distinct { AreDistinct (map device_of devices.old.items) }
     ensures traced { IfOk result (λ reply. IsTraced device_of faults mode window deck devices.old.items devices.new.items
         (answer_with reply.status reply.text (map device_of devices.new.items))) }
+    ensures plain { IfOk result (λ reply. TellsPlainly (trial_of (map device_of devices.old.items) deck)) }
     ensures untold { OnErr result (IsUntold device_of faults mode window deck devices.old.items devices.new.items) }
     ensures room { IfOk result (λ reply. length reply.text ≤ LONGEST_REPORT) }
 {
+    trace_is_plain();
     let Ready {
         mut machine,
         orders,
@@ -59,6 +64,11 @@ pub fn trace_bytes(
     // Status, text and devices are those of the definition, or those of the run up to the exchange in which a device failed.
     ensures reply { IfOk result (λ reply. IsTraceReply device_of faults mode window bytes.now devices.old.items devices.new.items
         (answer_with reply.status reply.text (map device_of devices.new.items))) }
+
+    // In a guarded trace of a deck the FETCH, OPERAND and STORE lines of an instruction time are what the plain run fetches, reads and
+    // stores in that time, and the votes after its last step are the plain run's registers.
+    ensures plain { IfOk result (λ reply. (deck : Deck) → deck_of bytes.now (map device_of devices.old.items) false ≡ Ok deck
+        → TellsPlainly (trial_of (map device_of devices.old.items) deck)) }
 
     // The devices are as before, or tapes were supplied in part, or they are as after some steps of the run.
     ensures unanswered { OnErr result (IsUnanswered device_of faults mode window bytes.now devices.old.items devices.new.items) }

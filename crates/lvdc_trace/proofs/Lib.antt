@@ -1,3 +1,4 @@
+mod Rows
 pub mod Onward
 pub mod Making
 pub mod Faithful

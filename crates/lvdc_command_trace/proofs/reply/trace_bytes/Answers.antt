@@ -1,3 +1,7 @@
+use Rattle.std.proofs.Common.{◌≡◌, map, subst}
+use Rattle.lvdc_deck.specs.declared.deck.Deck.{Deck}
+use Rattle.lvdc_trace.specs.Plainly.{TellsPlainly}
+use Rattle.lvdc_command_run.specs.Trials.{trial_of}
 use Rattle.lvdc_reply.proofs.Statuses.{on_err}
 use Rattle.lvdc_command_trace.specs.Replies.{traced, begun}
 use Rattle.lvdc_command_trace.proofs.Answering.{trace_reply, refused_by}
@@ -18,3 +22,12 @@ returns-in_ok-reply-in-Err-clause-reply g c =
 
 pub returns-in_err-reply-in-Ok-clause-unanswered : goal.returns-in_err-reply-in-Ok-clause-unanswered
 returns-in_err-reply-in-Ok-clause-unanswered g c = on_err _ (begun c.in-Ok.deck c.in-Ok.ensures.deck c.in_err-reply-in-Ok.ensures.untold)
+
+pub returns-in_ok-reply-in-Ok-clause-plain : goal.returns-in_ok-reply-in-Ok-clause-plain
+returns-in_ok-reply-in-Ok-clause-plain g c = λ deck means.
+    let same : c.in-Ok.deck ≡ deck = let there = c.in-Ok.ensures.deck in cc (there, means) in
+    subst (λ (d : Deck). TellsPlainly (trial_of (map (λ b. (goal.PortDevice-dyn g (b.vtable, b.value)).device_of b.value) c.args.devices.now.items) d)) same c.in_ok-reply-in-Ok.ensures.plain
+
+pub returns-in_ok-reply-in-Err-clause-plain : goal.returns-in_ok-reply-in-Err-clause-plain
+returns-in_ok-reply-in-Err-clause-plain g c = λ deck means.
+    let refused = c.in-Err.ensures.refusal c.in_ok-reply-in-Err.ensures.refused in absurd (cc (refused, means))

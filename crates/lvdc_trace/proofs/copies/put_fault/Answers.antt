@@ -2,9 +2,6 @@ use Rattle.std.proofs.Common.{ℕ, ap, length, arith, length-append}
 use Rattle.lvdc_trace.proofs.Lengths.{one_digit}
 use Rattle.lvdc_trace.proofs.copies.put_fault.Goals as goal
 
-pub is_wrong-requires-clause-unbuilt : goal.is_wrong-requires-clause-unbuilt
-is_wrong-requires-clause-unbuilt c = ?
-
 pub returns-clause-short : goal.returns-clause-short
 returns-clause-short c =
     omega (

@@ -5,9 +5,6 @@ use Rattle.lvdc_trace.proofs.Making.{told-last, told-block}
 use Rattle.lvdc_trace.proofs.Onward.{goes_call}
 use Rattle.lvdc_trace.proofs.step.put_next.Goals as goal
 
-pub told_phase-told-requires-clause-unbuilt : goal.told_phase-told-requires-clause-unbuilt
-told_phase-told-requires-clause-unbuilt g c = ?
-
 pub returns-in-None-clause-goes : goal.returns-in-None-clause-goes
 returns-in-None-clause-goes g c =
     goes_call (λ b. (goal.PortDevice-dyn g (b.vtable, b.value)).device_of b.value) (λ b. (goal.PortDevice-dyn g (b.vtable, b.value)).spare b.value) (λ b. (goal.PortDevice-dyn g (b.vtable, b.value)).faults b.value)

@@ -12,6 +12,3 @@ loop-index-preserved c =
     lines_below_more (λ index. latch_text (vote_at c.args.machine.now.copies c.args.number index)) c.loop-index.index c.args.out.now.items
     c.loop-index.out.items c.put_latch.new.out.items c.loop-index.invariant
     (c.in_ok-put_latch.ensures.text ∙ ap (λ w. c.loop-index.out.items ++ latch_text w) c.voted_word.ensures)
-
-pub voted_word-requires-clause-unbuilt : goal.voted_word-requires-clause-unbuilt
-voted_word-requires-clause-unbuilt c = ?
