@@ -1,6 +1,6 @@
 #!/usr/bin/env python3
-"""A simulator of the same machine, with the same command lines and texts, written from docs/MACHINE.md and docs/FORMATS.md and
-apart from the program.
+"""A simulator of the same machine, with the same command lines and texts, and the traces of the worker. It is written from
+docs/MACHINE.md and docs/FORMATS.md and apart from the program.
 
 It is slow and proves nothing. The wanted texts of the cases come from it where they don't come from worked examples, so that no
 text comes from the program that the cases try. usage: simulator.py WORDS.. <INPUT"""
@@ -20,6 +20,7 @@ from simulation.macros import expansion, image_of_expansion
 from simulation.plain import Plain
 from simulation.report import Session, front, report, soak_text, status_of, text_of
 from simulation.saved import print_saved, read_saved
+from simulation.trace import trace
 from simulation.uplink import uplink
 from simulation.voted import Voted
 
@@ -32,6 +33,12 @@ USAGE = """usage: lvdc run [--plain | --through]
        lvdc campaign
        lvdc uplink
        lvdc macro [--image]
+"""
+WORKER_USAGE = """usage: lvdc-worker
+requests: the commands of lvdc
+          trace [--through] FIRST COUNT
+          form
+          study
 """
 MOST_BYTES, MOST_SAVED_BYTES = 1_048_576, 134_217_728
 
@@ -92,6 +99,14 @@ def debugged(lines: list[str]) -> Answer:
     return status_of(machine), text
 
 
+def traced(lines: list[str], guarded: bool, first: int, told: int) -> Answer:
+    """trace, a request of the worker: the status is that of a run that is cut behind the last step asked for."""
+    deck, devices = opened(lines)
+    machine = Voted(deck.opening, deck.script, devices, guarded)
+    text = trace(machine, deck.count, first, told)
+    return status_of(machine), text
+
+
 def soaked(number: int) -> Answer:
     """soak"""
     deck = soak_deck(number)
@@ -136,6 +151,10 @@ def reader_of(words: list[str]) -> Callable[[list[str]], Answer] | None:
     }
     if len(words) == 2 and words[0] == "save" and re.fullmatch("[0-9]{1,7}", words[1]):
         return lambda lines: saved(lines, int(words[1]))
+    window = re.fullmatch(r"trace( --through)? (0|[1-9][0-9]{0,6}) ([1-9][0-9]{0,5})", " ".join(words))
+    if window and int(window[2]) <= 3_000_000 and int(window[3]) <= 100_000:
+        guarded, first, told = window[1] is None, int(window[2]), int(window[3])
+        return lambda lines: traced(lines, guarded, first, told)
     return commands.get(tuple(words))
 
 
@@ -145,7 +164,7 @@ def answer(words: list[str], text: str) -> Answer:
         return soaked(int(words[1]))
     reader = reader_of(words)
     if reader is None:
-        return 1, USAGE
+        return 1, WORKER_USAGE if words[:1] == ["trace"] else USAGE
     if len(text) > (MOST_SAVED_BYTES if words == ["resume"] else MOST_BYTES):
         return 11, "REFUSED TooLong\n"
     try:

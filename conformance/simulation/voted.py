@@ -33,6 +33,7 @@ class Voted:
         self.differed = [[0, 0, 0] for _ in self.votes]
         self.steps = 0
         self.end: End | None = None
+        self.exchange: tuple[str, Address | int, int] | None = None
 
     @property
     def times(self) -> int:
@@ -89,6 +90,7 @@ class Voted:
 
     def exchanged(self) -> tuple[int, int]:
         """Makes the one exchange of the phase: the words read from memory and from a port, 0 where none is."""
+        self.exchange = None
         if phase(self.votes) == 2:
             return 0, self.requested(self.votes.exchange.request)
         at = self.address_to_read()
@@ -102,6 +104,7 @@ class Voted:
             return 0
         if repaired is not None:
             self.repairs.append((self.steps, at, repaired, switched))
+        self.exchange = "FETCH" if phase(self.votes) == 0 else "OPERAND", at, word
         return word
 
     def requested(self, request: int) -> int:
@@ -113,12 +116,15 @@ class Voted:
             word = self.votes.accumulator.a if kind == 1 else self.votes.locator.saver
             self.twins.write(at, word)
             self.words[at] = word
+            self.exchange = "STORE", at, word
         elif kind == 3:
+            self.exchange = "OUT", low, self.votes.accumulator.a
             write_port(self.devices, low, self.votes.accumulator.a)
             self.log.append((self.times, low, 0, self.votes.accumulator.a))
         elif kind == 4:
             word = read_port(self.devices, low, self.times)
             self.log.append((self.times, low, 1, word))
+            self.exchange = "IN", low, word
             return word
         return 0
 

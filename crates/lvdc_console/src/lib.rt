@@ -3,8 +3,10 @@
 
 mod command;
 mod devices;
+mod inquiry;
 mod rack;
 mod reply;
 
 pub use command::run;
+pub use inquiry::inquire_over_rack;
 pub use reply::reply_over_rack;

@@ -15,3 +15,4 @@ pub use breaks::{Breaks, BreaksFull};
 pub use command::{Command, Spot2};
 pub use parse::{BadCommand, parse_command};
 pub use session::{LONGEST_SESSION, debug};
+pub use texts::{put_copy, put_latch};

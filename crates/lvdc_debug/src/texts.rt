@@ -220,7 +220,7 @@ fn put_dis(
 }
 
 /// Adds the word of a latch.
-fn put_latch(out: &mut Vec<u8>, word: Word) -> Result<(), NoMemory>
+pub fn put_latch(out: &mut Vec<u8>, word: Word) -> Result<(), NoMemory>
     ensures text { OnOk result (out.new.items ≡ out.old.items ++ latch_text word) }
     ensures short { OnOk result (length out.new.items ≤ length out.old.items + 10) }
 {
@@ -242,7 +242,7 @@ fn put_latches(out: &mut Vec<u8>, machine: &Machine, number: u8, copy: u8) -> Re
 }
 
 /// Adds the line of a copy.
-fn put_copy(out: &mut Vec<u8>, machine: &Machine, number: u8, copy: u8) -> Result<(), NoMemory>
+pub fn put_copy(out: &mut Vec<u8>, machine: &Machine, number: u8, copy: u8) -> Result<(), NoMemory>
     requires module { IsCopy number copy }
     ensures line { OnOk result (out.new.items ≡ out.old.items ++ copy_line machine.now.copies number copy) }
     ensures short { OnOk result (length out.new.items ≤ length out.old.items + 100) }

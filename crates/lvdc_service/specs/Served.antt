@@ -1,5 +1,5 @@
 -- What requests are answered. No reply depends on another request.
-use Rattle.std.specs.Prelude.{◌≡◌, ◌≢◌, ℕ, List, [], ◌∷◌, ◌++◌, ◌+◌, ◌<◌, ◌≤◌, length, map, codes, decimal, if◌then◌else◌}
+use Rattle.std.specs.Prelude.{◌≡◌, ◌≢◌, ℕ, List, [], ◌∷◌, ◌++◌, ◌+◌, ◌<◌, ◌≤◌, nat_lt, length, map, codes, decimal, if◌then◌else◌}
 use Rattle.std.specs.declared.option.Option.{Option}
 use Rattle.std.specs.declared.option.Option.TheVariants.{None, Some}
 use Rattle.std.specs.List.{flat_map}
@@ -10,6 +10,10 @@ use Rattle.lvdc_cli.specs.Texts.{read_fault_text, too_long_text}
 use Rattle.lvdc_cli.specs.Commands.{answer, input_of}
 use Rattle.lvdc_console.specs.Rack.{rack}
 use Rattle.lvdc_console.specs.Over.{IsReplied}
+use Rattle.lvdc_console.specs.Inquired.{IsInquired}
+use Rattle.lvdc_inquiries.specs.Replies.{inquiry_answer}
+use Rattle.lvdc_inquiries.specs.Words.{inquiry_of, most_bytes}
+use Rattle.lvdc_inquiries.specs.declared.inquiry.Inquiry.{Inquiry}
 use Rattle.lvdc_frames.specs.Frames.{Request, Frames, frames_of}
 
 -- ---- a reply
@@ -72,9 +76,19 @@ memory_reply = reply_with 9 []
 abbrev pub reply_of : Answer → Reply
 reply_of a = reply_with a.status a.text
 
--- the words of a command line of `lvdc` over devices in their first states, or other words
+-- an inquiry over devices in their first states
+abbrev pub inquiry_reply : Inquiry → List ℕ → Reply
+inquiry_reply inquiry input =
+    if nat_lt (most_bytes inquiry) (length input) then too_long_reply else reply_of (inquiry_answer inquiry input rack)
+
+-- what is asked beside the commands of `lvdc`, or other words
+abbrev pub other_reply : Option Inquiry → Request → Reply
+other_reply None request = usage_reply
+other_reply (Some inquiry) request = inquiry_reply inquiry request.input
+
+-- the words of a command line of `lvdc` over devices in their first states, or others
 abbrev pub reply_by : Option Command → Request → Reply
-reply_by None request = usage_reply
+reply_by None request = other_reply (inquiry_of request.words) request
 reply_by (Some command) request = reply_of (answer request.words request.input rack)
 
 -- the reply to a request
@@ -83,8 +97,8 @@ reply_to request = reply_by (command_of request.words) request
 
 -- Which replies may be written to a request.
 pub data IsReplyTo (request : Request) : Reply → Type 0 where
-  -- its words are no command line
-  usage : command_of request.words ≡ None → IsReplyTo request usage_reply
+  -- its words are no command line and no inquiry
+  usage : command_of request.words ≡ None → inquiry_of request.words ≡ None → IsReplyTo request usage_reply
   -- its input has more bytes than its command takes
   too_long : (command : Command) → command_of request.words ≡ Some command → limit_of command < length (input_of command request.input)
       → IsReplyTo request too_long_reply
@@ -92,6 +106,13 @@ pub data IsReplyTo (request : Request) : Reply → Type 0 where
   replied : (command : Command) (status : ℕ) (text : List ℕ) → command_of request.words ≡ Some command
       → length (input_of command request.input) ≤ limit_of command
       → IsReplied rack command (input_of command request.input) status text → IsReplyTo request (reply_with status text)
+  -- the input of its inquiry has more bytes than is read for one
+  inquiry_too_long : (inquiry : Inquiry) → command_of request.words ≡ None → inquiry_of request.words ≡ Some inquiry
+      → most_bytes inquiry < length request.input → IsReplyTo request too_long_reply
+  -- its inquiry was answered over its input and devices in their first states, and its law holds
+  inquired : (inquiry : Inquiry) (status : ℕ) (text : List ℕ) → command_of request.words ≡ None → inquiry_of request.words ≡ Some inquiry
+      → length request.input ≤ most_bytes inquiry → IsInquired rack inquiry request.input status text
+      → IsReplyTo request (reply_with status text)
   -- there was no memory for it
   wants_memory : IsReplyTo request memory_reply
 

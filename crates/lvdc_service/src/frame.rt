@@ -1,7 +1,8 @@
-ghost use Rattle.std.specs.Prelude.{◌≡◌, ◌≤◌, ℕ, List, length, map, true, false, Some, All};
+ghost use Rattle.std.specs.Prelude.{◌≡◌, ◌≤◌, ℕ, List, length, map, true, false, None, Some, All};
 ghost use Rattle.std.specs.List.{list_all};
 ghost use Rattle.lvdc_cli.specs.Words.{texts, command_of, reads_for, limit_of};
 ghost use Rattle.lvdc_cli.specs.Commands.{input_of};
+ghost use Rattle.lvdc_inquiries.specs.Words.{inquiry_of, most_bytes, IsInquiry};
 ghost use Rattle.lvdc_frames.specs.Frames.{is_word};
 ghost use Rattle.lvdc_frames.specs.Parts.{part_of, LiesIn};
 ghost use Rattle.lvdc_service.specs.Served.{IsReplyTo};
@@ -9,8 +10,9 @@ ghost use Rattle.lvdc_service.specs.Turns.{due_reply, stream, IsNextInput, IsNex
 
 use crate::due::Due;
 use lvdc_cli::{Command, read_command};
-use lvdc_console::reply_over_rack;
+use lvdc_console::{inquire_over_rack, reply_over_rack};
 use lvdc_frames::{Header, InputEnd, Line, Reader, header_of, words_of};
+use lvdc_inquiries::{Inquiry, read_inquiry};
 use lvdc_text::Source;
 use std::alloc::Global;
 
@@ -96,8 +98,62 @@ fn pass_and_answer<S: Source>(
     }
 }
 
-/// What a request with these words is answered, and so many bytes of input. Where further words have an answer of their own,
-/// they stand here.
+/// What an inquiry answers to an input.
+fn carry_out_inquiry(alloc: Global, inquiry: Inquiry, input: &[u8]) -> Due
+    requires ranges { IsInquiry inquiry }
+    requires few { length input.now ≤ most_bytes inquiry }
+    ensures { (words : List (List ℕ)) → command_of words ≡ None → inquiry_of words ≡ Some inquiry
+        → IsReplyTo (record { words = words; input = input.now }) (due_reply result) }
+{
+    match inquire_over_rack(alloc, inquiry, input) {
+        Ok(reply) => Due::Replied(reply),
+        Err(_) => Due::NoMemory,
+    }
+}
+
+/// What an inquiry answers to so many bytes of input. Where it isn't answered, they are dropped.
+fn read_and_inquire<S: Source>(
+    alloc: Global,
+    inquiry: Inquiry,
+    count: usize,
+    reader: &mut Reader,
+    source: &mut S,
+) -> Next
+    requires { IsInquiry inquiry }
+    ensures { (words : List (List ℕ)) → command_of words ≡ None → inquiry_of words ≡ Some inquiry
+        → IsNextInput words count (stream reader.old (S.state source.old))
+        (stream reader.new (S.state source.new)) result }
+{
+    if count > inquiry.most_bytes() {
+        return pass(count, reader, source, Due::TooLong);
+    }
+    match reader.input(alloc, source, count) {
+        Ok(input) => Next::Request(carry_out_inquiry(alloc, inquiry, input.as_slice())),
+        Err(InputEnd::NoMemory) => pass(count, reader, source, Due::NoMemory),
+        Err(InputEnd::Short) => Next::BadFrame,
+        Err(InputEnd::ReadFault) => Next::ReadFault,
+    }
+}
+
+/// What a request is answered whose words are no command line of `lvdc`.
+fn answer_others<S: Source>(
+    alloc: Global,
+    words: &[String],
+    count: usize,
+    reader: &mut Reader,
+    source: &mut S,
+) -> Next
+    requires { command_of (texts words.now) ≡ None }
+    ensures { IsNextInput (texts words.now) count (stream reader.old (S.state source.old))
+        (stream reader.new (S.state source.new)) result }
+{
+    match read_inquiry(words) {
+        Some(inquiry) => read_and_inquire(alloc, inquiry, count, reader, source),
+        None => pass(count, reader, source, Due::Usage),
+    }
+}
+
+/// What a request with these words is answered, and so many bytes of input.
 fn answer<S: Source>(
     alloc: Global,
     words: &[String],
@@ -116,7 +172,7 @@ fn answer<S: Source>(
                 pass_and_answer(alloc, command, count, reader, source)
             }
         }
-        None => pass(count, reader, source, Due::Usage),
+        None => answer_others(alloc, words, count, reader, source),
     }
 }
 

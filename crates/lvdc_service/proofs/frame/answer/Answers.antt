@@ -1,7 +1,5 @@
 use Rattle.std.proofs.Common.{sym, ◌∙◌}
-use Rattle.lvdc_cli.specs.Words.{texts}
-use Rattle.lvdc_service.specs.Served.{usage}
 use Rattle.lvdc_service.proofs.frame.answer.Goals as goal
 
-pub returns-in-None : goal.returns-in-None
-returns-in-None g c = c.pass.ensures (texts c.args.words.now) (λ input size. usage (sym c.read_command.ensures ∙ c.in-None.is))
+pub answer_others-requires : goal.answer_others-requires
+answer_others-requires g c = sym c.read_command.ensures ∙ c.in-None.is

@@ -1,0 +1,35 @@
+ghost use Rattle.std.specs.Prelude.{◌≡◌, ◌≤◌, length, map, IfOk};
+ghost use Rattle.lvdc_port.specs.Devices.{AreDistinct};
+ghost use Rattle.lvdc_reply.specs.Answer.{answer_with};
+ghost use Rattle.lvdc_inquiries.specs.Words.{most_bytes, IsInquiry};
+ghost use Rattle.lvdc_inquiries.specs.Replies.{HoldsFor, IsReplyTo};
+
+use crate::Inquiry;
+use lvdc_command_trace::trace_bytes;
+use lvdc_port::PortDevice;
+use lvdc_reply::Reply;
+use lvdc_report::LONGEST_REPORT;
+use lvdc_word::NoMemory;
+use std::alloc::Global;
+
+/// Answers an inquiry over these bytes and the devices at the ports.
+pub fn inquire(
+    alloc: Global,
+    inquiry: Inquiry,
+    bytes: &[u8],
+    devices: &mut Vec<Box<dyn PortDevice>>,
+) -> Result<Reply, NoMemory>
+    requires ranges { IsInquiry inquiry }
+    requires few { length bytes.now ≤ most_bytes inquiry }
+    requires distinct { AreDistinct (map device_of devices.old.items) }
+
+    // Status, text and devices are those of the definition, or those that are due where a device failed in an exchange.
+    ensures reply { IfOk result (λ reply. IsReplyTo device_of faults inquiry bytes.now devices.old.items devices.new.items
+        (answer_with reply.status reply.text (map device_of devices.new.items))) }
+    ensures holds { IfOk result (λ reply. HoldsFor inquiry bytes.now (map device_of devices.old.items)) }
+    ensures room { IfOk result (λ reply. length reply.text ≤ LONGEST_REPORT) }
+{
+    match inquiry {
+        Inquiry::Trace { mode, window } => trace_bytes(alloc, mode, window, bytes, devices),
+    }
+}

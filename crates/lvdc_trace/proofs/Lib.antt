@@ -1,0 +1,6 @@
+mod Rows
+pub mod Onward
+pub mod Making
+pub mod Faithful
+pub mod Lengths
+pub mod Telling

@@ -1,0 +1,5 @@
+pub mod Steps
+pub mod Votes
+pub mod Traces
+pub mod Going
+pub mod Plainly

@@ -1,0 +1,16 @@
+//! The trace of a run: for each step of a window what was exchanged, which copies were wrong, what the votes became, and which
+//! copies differ from them.
+#![tactic(auto)]
+
+mod copies;
+mod exchange;
+mod laws;
+mod step;
+
+mod votes;
+mod whole;
+mod window;
+
+pub use laws::trace_is_plain;
+pub use whole::trace;
+pub use window::Window;
