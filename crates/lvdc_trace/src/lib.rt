@@ -6,7 +6,6 @@ mod copies;
 mod exchange;
 mod laws;
 mod step;
-
 mod votes;
 mod whole;
 mod window;

@@ -15,9 +15,9 @@ loop-index-preserved c = λ copies are.
     let so : ℕ → Bool = λ index. not (vote_at c.args.machine.now.copies c.args.number index == vote_at copies c.args.number index) in
     let before = c.loop-index.invariant copies are in
     elim c.if-changed.branch [
-      then-changed w ↦ w.changed-is ∙ w.if-changed.true ∙ sym (one-more so c.loop-index.index true (so c.loop-index.index) (sym before ∙ w.if-changed.true) refl)
+      | then-changed w ↦ w.changed-is ∙ w.if-changed.true ∙ sym (one-more so c.loop-index.index true (so c.loop-index.index) (sym before ∙ w.if-changed.true) refl)
       | else-changed w ↦ w.changed-is ∙ w.is_other-changed.ensures copies are
-      ∙ sym (one-more so c.loop-index.index false (so c.loop-index.index) (sym before ∙ w.if-changed.false) refl)
+          ∙ sym (one-more so c.loop-index.index false (so c.loop-index.index) (sym before ∙ w.if-changed.false) refl)
     ]
 
 pub returns : goal.returns
