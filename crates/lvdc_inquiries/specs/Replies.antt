@@ -1,28 +1,35 @@
 -- How an inquiry is answered, by the definitions of its crate: an inquiry has one case in each of these.
-use Rattle.std.specs.Prelude.{◌≡◌, ℕ, false, List, map, Ok}
+use Rattle.std.specs.Prelude.{◌≡◌, ℕ, false, List, map, Ok, None}
 use Rattle.lvdc_port.specs.Device.{Device}
+use Rattle.lvdc_port.specs.Devices.{HoldWords}
 use Rattle.lvdc_deck.specs.Deck.{deck_of}
 use Rattle.lvdc_deck.specs.declared.deck.Deck.{Deck}
 use Rattle.lvdc_reply.specs.Answer.{Answer}
 use Rattle.lvdc_reply.specs.Replies.{IsReply}
 use Rattle.lvdc_command_run.specs.Trials.{trial_of}
 use Rattle.lvdc_trace.specs.Plainly.{TellsPlainly}
+use Rattle.lvdc_command_form.specs.Answers.{unmet_in, form_answer}
+use Rattle.lvdc_command_form.specs.Plainly.{RunsAsPlain}
 use Rattle.lvdc_command_trace.specs.Answers.{trace_answer}
 use Rattle.lvdc_command_trace.specs.Replies.{FailsInTrace}
 use Rattle.lvdc_inquiries.specs.declared.inquiry.Inquiry.{Inquiry}
-use Rattle.lvdc_inquiries.specs.declared.inquiry.Inquiry.TheVariants.{Trace}
+use Rattle.lvdc_inquiries.specs.declared.inquiry.Inquiry.TheVariants.{Trace, Form}
 
 -- the answer where no device fails
 abbrev pub inquiry_answer : Inquiry → List ℕ → List Device → Answer
 inquiry_answer (Trace mode window) bytes devices = trace_answer mode window bytes devices
+inquiry_answer Form bytes devices = form_answer bytes devices
 
--- this is the answer where the device at this port fails in this step
+-- this is the answer where the device at this port fails in this step; the form of a script asks no device
 abbrev pub FailsInInquiry : Inquiry → List ℕ → List Device → ℕ → ℕ → Answer → Type 0
 FailsInInquiry (Trace mode window) bytes devices = FailsInTrace mode window bytes devices
+FailsInInquiry Form bytes devices = λ step port reply. ⊥
 
--- what its law says: each step that a guarded trace tells is one of the plain run
+-- what its law says: each step that a guarded trace tells is one of the plain run; and where a script masks by form, `run` answers the
+-- same bytes as `run --plain`
 abbrev pub HoldsFor : Inquiry → List ℕ → List Device → Type 0
 HoldsFor (Trace mode window) bytes devices = (deck : Deck) → deck_of bytes devices false ≡ Ok deck → TellsPlainly (trial_of devices deck)
+HoldsFor Form bytes devices = (deck : Deck) → deck_of bytes devices false ≡ Ok deck → unmet_in deck ≡ None → HoldWords devices → RunsAsPlain bytes devices
 
 -- how an inquiry is answered over these bytes and devices
 abbrev pub IsReplyTo : {B : Type 0} → (B → Device) → (B → ℕ) → Inquiry → List ℕ → List B → List B → Answer → Type 0

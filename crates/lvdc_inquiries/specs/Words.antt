@@ -7,7 +7,7 @@ use Rattle.lvdc_machine.specs.declared.mode.Mode.{Mode}
 use Rattle.lvdc_machine.specs.declared.mode.Mode.TheVariants.{Guarded, Through}
 use Rattle.lvdc_cli.specs.Words.{is}
 use Rattle.lvdc_inquiries.specs.declared.inquiry.Inquiry.{Inquiry}
-use Rattle.lvdc_inquiries.specs.declared.inquiry.Inquiry.TheVariants.{Trace}
+use Rattle.lvdc_inquiries.specs.declared.inquiry.Inquiry.TheVariants.{Trace, Form}
 
 -- ---- words
 
@@ -39,8 +39,13 @@ abbrev pub of_four : List ℕ → List ℕ → List ℕ → List ℕ → Option 
 of_four name flag first count =
     if is (codes "trace") name then (if is (codes "--through") flag then traced Through (first_of first) (count_of count) else None) else None
 
--- `trace` with two numbers, and `trace --through` with two
+-- what is asked by a name alone
+abbrev pub of_one : List ℕ → Option Inquiry
+of_one name = if is (codes "form") name then Some Form else None
+
+-- `form`, `trace` with two numbers, and `trace --through` with two
 abbrev pub inquiry_of : List (List ℕ) → Option Inquiry
+inquiry_of (name ∷ []) = of_one name
 inquiry_of (name ∷ first ∷ count ∷ []) = of_three name first count
 inquiry_of (name ∷ flag ∷ first ∷ count ∷ []) = of_four name flag first count
 inquiry_of words = None
@@ -50,7 +55,9 @@ inquiry_of words = None
 -- the most bytes that are read for an inquiry: 1 MiB
 abbrev pub most_bytes : Inquiry → ℕ
 most_bytes (Trace mode window) = 1048576
+most_bytes Form = 1048576
 
 -- the numbers of an inquiry are in their ranges
 abbrev pub IsInquiry : Inquiry → Type 0
 IsInquiry (Trace mode window) = (window.first ≤ 3000000) × (window.count ≤ 100000)
+IsInquiry Form = Unit {0}

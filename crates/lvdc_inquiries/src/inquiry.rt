@@ -1,6 +1,6 @@
 ghost use Rattle.std.specs.Prelude.{◌≡◌, ◌≤◌, IfSome, string_bytes};
 ghost use Rattle.lvdc_cli.specs.Words.{texts};
-ghost use Rattle.lvdc_inquiries.specs.Words.{first_of, count_of, traced, of_three, of_four, inquiry_of, most_bytes, IsInquiry};
+ghost use Rattle.lvdc_inquiries.specs.Words.{first_of, count_of, traced, of_one, of_three, of_four, inquiry_of, most_bytes, IsInquiry};
 
 use lvdc_machine::Mode;
 use lvdc_text::plain_decimal;
@@ -11,6 +11,8 @@ use lvdc_trace::Window;
 pub enum Inquiry {
     /// `trace` and `trace --through` with two numbers: reads a deck and tells these steps of its run.
     Trace { mode: Mode, window: Window },
+    /// `form`: reads a deck and tells whether its script masks by form.
+    Form,
 }
 
 impl Inquiry {
@@ -19,7 +21,7 @@ impl Inquiry {
         ensures { result ≡ most_bytes self }
     {
         match self {
-            Inquiry::Trace { .. } => 1_048_576,
+            Inquiry::Trace { .. } | Inquiry::Form => 1_048_576,
         }
     }
 }
@@ -90,12 +92,24 @@ fn of_four(name: &String, flag: &String, first: &String, count: &String) -> Opti
     }
 }
 
+/// What is asked by a name alone.
+fn of_one(name: &String) -> Option<Inquiry>
+    ensures value { result ≡ of_one (string_bytes name.now) }
+    ensures ranges { IfSome result IsInquiry }
+{
+    match name.as_str() {
+        "form" => Some(Inquiry::Form),
+        _ => None,
+    }
+}
+
 /// The inquiry that the words are.
 pub fn read_inquiry(words: &[String]) -> Option<Inquiry>
     ensures value { result ≡ inquiry_of (texts words.now) }
     ensures ranges { IfSome result IsInquiry }
 {
     match words {
+        [name] => of_one(name),
         [name, first, count] => of_three(name, first, count),
         [name, flag, first, count] => of_four(name, flag, first, count),
         _ => None,

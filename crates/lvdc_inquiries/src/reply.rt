@@ -5,6 +5,7 @@ ghost use Rattle.lvdc_inquiries.specs.Words.{most_bytes, IsInquiry};
 ghost use Rattle.lvdc_inquiries.specs.Replies.{HoldsFor, IsReplyTo};
 
 use crate::Inquiry;
+use lvdc_command_form::form_bytes;
 use lvdc_command_trace::trace_bytes;
 use lvdc_port::PortDevice;
 use lvdc_reply::Reply;
@@ -31,5 +32,6 @@ pub fn inquire(
 {
     match inquiry {
         Inquiry::Trace { mode, window } => trace_bytes(alloc, mode, window, bytes, devices),
+        Inquiry::Form => form_bytes(alloc, bytes, devices),
     }
 }
