@@ -26,3 +26,6 @@ returns-clause-traced g c =
 
 pub returns-clause-room : goal.returns-clause-room
 returns-clause-room g c = subst (λ (text : List ℕ). length text ≤ 134217728) (sym c.from_vec.ensures) c.in_ok-text.ensures.size
+
+pub returns-clause-plain : goal.returns-clause-plain
+returns-clause-plain g c = c.trace_is_plain.ensures _ c.in_ok-machine.ensures.begins.opening
