@@ -1,7 +1,8 @@
 -- What tells the plain run as it is told has no status of an inadmissible step, and no question mark.
-use Rattle.std.proofs.Common.{◌≡◌, ◌≢◌, ℕ, ◌*◌, Bool, false, ◌||◌, List, ◌++◌, refl, sym, ap, ◌∙◌, subst, arith}
+use Rattle.std.proofs.Common.{◌≡◌, ◌≢◌, ℕ, ◌*◌, Bool, true, false, ◌||◌, List, ◌++◌, refl, sym, ap, ◌∙◌, subst, arith}
 use Rattle.std.specs.declared.option.Option.{Option}
 use Rattle.std.specs.declared.option.Option.TheVariants.{None, Some}
+use Rattle.std.proofs.lemmas.Bool.{true≢false}
 use Rattle.std.proofs.lemmas.List.Folds.{list_any-append}
 use Rattle.lvdc_plain.specs.declared.records.Stop.{Stop}
 use Rattle.lvdc_model.specs.Runs.{guarded}
@@ -22,6 +23,7 @@ not_five (Some why) times e = absurd (omega (arith, e))
 
 -- of two texts without a question mark the second has none
 second : (a b : Bool) → (a || b) ≡ false → b ≡ false
+second true b h = absurd (true≢false h)
 second false b h = h
 
 behind : (xs ys : List ℕ) → has_question_mark (xs ++ ys) ≡ false → has_question_mark ys ≡ false
