@@ -3,12 +3,20 @@ use Rattle.lvdc_reply.proofs.Statuses.{if_ok_both}
 use Rattle.lvdc_inquiries.proofs.Forms.{form_reply, form_holds}
 use Rattle.lvdc_inquiries.proofs.reply.inquire.Goals as goal
 
+pub returns-in-Trace-clause-reply : goal.returns-in-Trace-clause-reply
+returns-in-Trace-clause-reply g c = rw c.in-Trace.is c.trace_bytes.ensures.reply
+
+pub returns-in-Trace-clause-holds : goal.returns-in-Trace-clause-holds
+returns-in-Trace-clause-holds g c = rw c.in-Trace.is c.trace_bytes.ensures.plain
+
 pub returns-in-Form-clause-reply : goal.returns-in-Form-clause-reply
 returns-in-Form-clause-reply g c =
-    IfOk-weaker c.form_bytes.result _ _
+    rw c.in-Form.is
+    (IfOk-weaker c.form_bytes.result _ _
     (λ reply is. form_reply (λ b. (goal.PortDevice-dyn g (b.vtable, b.value)).device_of b.value) (λ b. (goal.PortDevice-dyn g (b.vtable, b.value)).faults b.value) _ c.args.bytes.now c.args.devices.now.items _ is)
-    c.form_bytes.ensures.answer
+    c.form_bytes.ensures.answer)
 
 pub returns-in-Form-clause-holds : goal.returns-in-Form-clause-holds
 returns-in-Form-clause-holds g c =
-    if_ok_both c.form_bytes.result _ _ _ (λ reply is plain. form_holds c.args.bytes.now _ _ is plain) c.form_bytes.ensures.answer c.form_bytes.ensures.plain
+    rw c.in-Form.is
+    (if_ok_both c.form_bytes.result _ _ _ (λ reply is plain. form_holds c.args.bytes.now _ _ is plain) c.form_bytes.ensures.answer c.form_bytes.ensures.plain)
