@@ -2,6 +2,7 @@
 use Rattle.std.proofs.Common.{◌≡◌, [], ◌∷◌, ◌++◌, refl}
 use Rattle.std.specs.Prelude.{codes}
 use Rattle.lvdc_frames.specs.Frames.{frame_line_of_parts, cut_line, frame_at, frames_within}
+use Rattle.lvdc_inquiries.specs.Words.{first_of}
 use Rattle.lvdc_service.specs.Served.{reply_line, bytes_of, usage_reply, bad_frame_reply, read_fault_reply, too_long_reply, served}
 
 -- ---- replies
@@ -23,7 +24,7 @@ nothing = refl
 
 -- other words are answered with the usage, their input is dropped, and the service goes on
 other_words : served (codes "REQUEST 3 go fast\nAB\nREQUEST 0 trace 00 1\nREQUEST 0 run --help\n") ≡ record { replies = usage_reply ∷ usage_reply ∷ usage_reply ∷ []; status = 0 }
-unfolding frames_within frame_at cut_line frame_line_of_parts
+unfolding frames_within frame_at cut_line frame_line_of_parts first_of
 other_words = refl
 
 -- nothing after what is no frame is read as one
