@@ -1,5 +1,5 @@
 -- Worked studies.
-use Rattle.std.proofs.Common.{◌≡◌, ℕ, zero, suc, ◌+◌, ◌/◌, ◌%◌, ◌*◌, nat_lt, Bool, true, List, [], ◌∷◌, ◌++◌, length, codes, Result, Ok, Err, None, Some, refl, ap, ◌∙◌}
+use Rattle.std.proofs.Common.{◌≡◌, ℕ, zero, suc, ◌+◌, ◌/◌, ◌%◌, nat_lt, true, List, [], ◌∷◌, ◌++◌, length, codes, Result, Ok, Err, None, Some, refl}
 use Rattle.std.specs.Bool.{if◌then◌else◌}
 use Rattle.std.specs.Prelude.{is_ok}
 use Rattle.lvdc_map.specs.Hop.{hop_of}
@@ -20,7 +20,7 @@ use Rattle.lvdc_campaign_deck.specs.Campaign.{from_campaign}
 use Rattle.lvdc_campaign_deck.specs.Scripts.{Scripts, named, all_scripts, with_script, scripts_from}
 use Rattle.lvdc_campaign_deck.specs.declared.fault.CampaignFault.{CampaignFault}
 use Rattle.lvdc_campaign_deck.specs.declared.fault.CampaignFault.TheVariants.{BadSection, BadLine, CountTooLarge, TooManyScripts, Deck as InDeck}
-use Rattle.lvdc_study_deck.specs.declared.TheConstants.{MOST_SCRIPTS, MOST_TIMES_IN_ALL}
+use Rattle.lvdc_study_deck.specs.declared.TheConstants.{MOST_SCRIPTS}
 use Rattle.lvdc_study_deck.specs.declared.deck.StudyDeck.{StudyDeck}
 use Rattle.lvdc_study_deck.specs.Study.{other_line, by_times, study_of}
 
@@ -34,12 +34,12 @@ after_image lines = study_of (text_of (codes "IMAGE" ∷ codes "LVDC 1" ∷ code
 
 -- ---- what is told and what is refused before CAMPAIGN
 
-ports_and_scripts : after_image (codes "PORTS" ∷ codes "TAPE 000 5" ∷ codes "UNPLUG 000 2" ∷ codes "RUN 3" ∷ codes "CAMPAIGN" ∷ codes "SCRIPT A" ∷ codes "LAG 1 1 0 0" ∷ codes "SCRIPT B" ∷ []) ≡ 
+ports_and_scripts : after_image (codes "PORTS" ∷ codes "TAPE 000 5" ∷ codes "UNPLUG 000 2" ∷ codes "RUN 3" ∷ codes "CAMPAIGN" ∷ codes "SCRIPT A" ∷ codes "LAG 1 1 0 0" ∷ codes "SCRIPT B" ∷ []) ≡
     Ok (record { deck = record { image = record { words = []; start = None; banks = 0 }; start = hop_of 0o16; banks = 0; supplies = record { port = 0; word = 5 } ∷ []; unplugs = record { port = 0; time = 2 } ∷ []; script = []; orders = []; count = 3; commands = []; run_line = 7; other_line = Some 4 }; scripts = named (codes "A") (Lag 1 1 0 0 ∷ []) ∷ named (codes "B") [] ∷ [] })
 unfolding after_image devices lines_from words_from commands_from told_from deck_from words_told image_of word_in module_copy_in span_in step_in is_name from_campaign other_line scripts_from
 ports_and_scripts = refl
 
-a_count_above_a_campaigns : after_image (codes "RUN 10001" ∷ codes "CAMPAIGN" ∷ []) ≡ 
+a_count_above_a_campaigns : after_image (codes "RUN 10001" ∷ codes "CAMPAIGN" ∷ []) ≡
     Ok (record { deck = record { image = record { words = []; start = None; banks = 0 }; start = hop_of 0o16; banks = 0; supplies = []; unplugs = []; script = []; orders = []; count = 10001; commands = []; run_line = 4; other_line = None }; scripts = [] })
 unfolding after_image devices lines_from words_from commands_from told_from deck_from words_told image_of word_in module_copy_in span_in step_in is_name from_campaign other_line scripts_from
 a_count_above_a_campaigns = refl
