@@ -1,4 +1,4 @@
-//! Tests of decks, the decks of campaigns and of soak runs, and saved texts, over the public calls of their crates.
+//! Tests of decks, the decks of campaigns, of studies and of soak runs, and saved texts, over the public calls of their crates.
 #![tactic(auto)]
 
 #[cfg(test)]
@@ -13,3 +13,5 @@ mod save;
 mod save_read;
 #[cfg(test)]
 mod soak;
+#[cfg(test)]
+mod study_deck;
