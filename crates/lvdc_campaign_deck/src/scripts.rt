@@ -218,7 +218,7 @@ impl Scripts {
     }
 }
 
-/// Reads the scripts in the lines after CAMPAIGN, of which there may be so many.
+/// Reads the scripts in the lines after CAMPAIGN. `most` is how many there may be.
 pub fn read_scripts(
     alloc: Global,
     bytes: &[u8],

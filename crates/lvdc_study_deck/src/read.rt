@@ -1,7 +1,8 @@
 ghost use Rattle.std.specs.Prelude.{◌≡◌, ◌≢◌, ◌<◌, ◌≤◌, ◌-◌, ◌*◌, ◌^◌, length, map, true, IfOk, IfErr, All, Ok, Err};
 ghost use Rattle.lvdc_map.specs.Memory.{are_rising, AllThere};
-ghost use Rattle.lvdc_deck.specs.declared.TheConstants.{MOST_TIMES};
-ghost use Rattle.lvdc_campaign_deck.specs.declared.TheConstants.{MOST_EVENTS};
+ghost use Rattle.lvdc_fault.specs.Events.{IsEvent};
+ghost use Rattle.lvdc_deck.specs.declared.TheConstants.{MOST_TIMES, MOST_EVENTS};
+ghost use Rattle.lvdc_campaign_deck.specs.declared.TheConstants.{MOST_EVENTS as MOST_EVENTS_IN_ALL};
 ghost use Rattle.lvdc_campaign_deck.specs.declared.fault.CampaignFault.TheVariants.{NoMemory as WantsMemory};
 ghost use Rattle.lvdc_campaign_deck.specs.Scripts.{CanRun};
 ghost use Rattle.lvdc_study_deck.specs.declared.TheConstants.{MOST_SCRIPTS, MOST_TIMES_IN_ALL};
@@ -31,6 +32,8 @@ fn read_program(
     ensures count { IfOk result (λ deck. deck.count ≤ MOST_TIMES) }
     ensures rising { IfOk result (λ deck. are_rising deck.image.words ≡ true) }
     ensures there { IfOk result (λ deck. AllThere deck.banks deck.image.words) }
+    ensures few { IfOk result (λ deck. length deck.script ≤ MOST_EVENTS) }
+    ensures events { IfOk result (λ deck. All IsEvent deck.script) }
 {
     let deck = read_deck(alloc, text, devices, false)?;
     match other {
@@ -71,9 +74,11 @@ pub fn read_study(
     ensures count { IfOk result (λ study. study.deck.count ≤ MOST_TIMES) }
     ensures rising { IfOk result (λ study. are_rising study.deck.image.words ≡ true) }
     ensures there { IfOk result (λ study. AllThere study.deck.banks study.deck.image.words) }
+    ensures few_events { IfOk result (λ study. length study.deck.script ≤ MOST_EVENTS) }
+    ensures events { IfOk result (λ study. All IsEvent study.deck.script) }
     ensures few { IfOk result (λ study. length study.scripts ≤ MOST_SCRIPTS) }
     ensures times { IfOk result (λ study. study.deck.count * length study.scripts ≤ MOST_TIMES_IN_ALL) }
-    ensures run { IfOk result (λ study. All (CanRun MOST_EVENTS) study.scripts) }
+    ensures run { IfOk result (λ study. All (CanRun MOST_EVENTS_IN_ALL) study.scripts) }
 {
     let found = lines(alloc, bytes)?;
     let next = found.len() as u32 + 1;

@@ -17,8 +17,7 @@ fn study(alloc: Global, text: &[u8]) -> Result<Result<StudyDeck, CampaignFault>,
 #[test]
 fn a_deck_with_ports_has_its_scripts(rt: HostRuntime) -> Result<(), Fail> {
     let alloc = rt.alloc();
-    let text =
-        "IMAGE\nLVDC 1\nEND\nPORTS\nRUN 10001\nCAMPAIGN\nSCRIPT A\nLAG 5 1 0 0\nSCRIPT B1\n";
+    let text = "IMAGE\nLVDC 1\nEND\nPORTS\nRUN 10001\nCAMPAIGN\nSCRIPT A\nLAG 5 1 0 0\nSCRIPT B1\n";
     let Ok(deck) = study(alloc, bytes(text))? else {
         return Err("a study".into());
     };
