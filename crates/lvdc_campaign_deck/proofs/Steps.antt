@@ -1,7 +1,8 @@
 -- Lines one after the other: the line CAMPAIGN, and the scripts that lines tell.
-use Rattle.std.proofs.Common.{◌≡◌, ℕ, suc, ◌+◌, ◌<◌, ◌≤◌, Bool, true, false, nat_le, nat_lt, ◌&&◌, List, [], ◌∷◌, ◌++◌, length, get_or, take, drop, map, codes, Option, None, Some, Result, Ok, Err, sym, ap, ◌∙◌, add-one, arith}
+use Rattle.std.proofs.Common.{◌≡◌, ℕ, suc, ◌+◌, ◌<◌, ◌≤◌, Bool, true, false, nat_le, nat_lt, ◌&&◌, ◌||◌, cond, is_some, refl, true≢false, List, [], ◌∷◌, ◌++◌, length, get_or, take, drop, map, codes, Option, None, Some, Result, Ok, Err, sym, ap, ◌∙◌, add-one, arith}
 use Rattle.std.specs.Bool.{if◌then◌else◌}
-use Rattle.std.proofs.lemmas.List.{drop_more, drop_all}
+use Rattle.std.proofs.lemmas.List.{drop_more, drop_all, map-append}
+use Rattle.std.specs.Map.{lookup}
 use Rattle.lvdc_text.specs.declared.cutting.Line.{Line}
 use Rattle.lvdc_text.specs.Lines.{lines_of, part_of}
 use Rattle.std.specs.List.{list_all}
@@ -16,12 +17,12 @@ use Rattle.lvdc_deck.specs.declared.fault.DeckFault.{DeckFault}
 use Rattle.lvdc_fault.specs.declared.event.Event.{Event}
 use Rattle.lvdc_fault.specs.declared.named.Named.{Named}
 use Rattle.lvdc_script_lines.specs.Lines.{fault_in}
-use Rattle.lvdc_campaign_deck.specs.declared.TheConstants.{MOST_EVENTS}
+use Rattle.lvdc_campaign_deck.specs.declared.TheConstants.{MOST_SCRIPTS, MOST_EVENTS}
 use Rattle.lvdc_campaign_deck.specs.declared.deck.CampaignDeck.{CampaignDeck}
 use Rattle.lvdc_campaign_deck.specs.declared.fault.CampaignFault.{CampaignFault}
 use Rattle.lvdc_campaign_deck.specs.declared.fault.CampaignFault.TheVariants.{BadSection, BadLine, TooManyEvents}
 use Rattle.lvdc_campaign_deck.specs.Campaign.{is_campaign, from_campaign, by_deck, checked, program_of, campaign_with, by_lines, campaign_of}
-use Rattle.lvdc_campaign_deck.specs.Scripts.{and_then, Scripts, nothing_said, all_scripts, script_line, with_event, fault_line, by_tokens, after_line, scripts_from}
+use Rattle.lvdc_campaign_deck.specs.Scripts.{and_then, Scripts, named, is_taken, nothing_said, all_scripts, script_line, with_event, fault_line, by_tokens, after_line, scripts_from}
 
 -- what an index past the end reads
 abbrev pub no_line : Line
@@ -68,7 +69,7 @@ module _ (s : Scripts) (number : ℕ) (texts : List (List ℕ)) (first : List �
 
 -- the last script has these events, and all have so many
 abbrev with_events : Scripts → Named → List Event → ℕ → Scripts
-with_events s named script events = record { before = s.before; last = Some (record { name = named.name; script = script }); events = events }
+with_events s named script events = record s { last = Some (record { name = named.name; script = script }); events = events }
 
 module _ (s all : Scripts) (same : s ≡ all) (number : ℕ) (said : Option Event) (event : Event) (is : said ≡ Some event) where
   by_last : (last : Option Named) → s.last ≡ last → fault_line all number said ≡ with_event last s number event
@@ -117,6 +118,31 @@ module _ (bytes : List ℕ) (s : Scripts) (lines : List Line) (i : ℕ) (total :
   unfolding scripts_from
   scripts-done all = sym so_far ∙ ap (scripts_from bytes s) (drop_all i lines all)
 
+-- ---- scripts by their names
+
+found_or : {X : Type 0} (b : Bool) (x : X) (o : Option X) (rest : Bool) → is_some o ≡ rest → is_some (cond b (Some x) o) ≡ (b || rest)
+found_or true x o rest e = refl
+found_or false x o rest e = e
+
+-- a look-up finds a name where it is taken; the names of the keys are seen by f
+pub taken-view : {K : Type 0} (f : K → List ℕ) (name : List ℕ) (es : List (K × List Event))
+    → is_some (lookup (λ k. bytes_eq name (f k)) es) ≡ is_taken name (map (λ e. named (f e.0) e.1) es)
+taken-view f name [] = refl
+taken-view f name (e ∷ es) = found_or (bytes_eq name (f e.0)) e.1 _ _ (taken-view f name es)
+
+pub none-found : {X : Type 0} (o : Option X) → is_some o ≡ false → o ≡ None
+none-found None e = refl
+none-found (Some x) e = absurd (true≢false e)
+
+-- a script more
+pub script-added : {K : Type 0} (f : K → List ℕ) (es after : List (K × List Event)) (key : K) (script : Named)
+    → after ≡ es ++ (key, script.script) ∷ [] → f key ≡ script.name
+    → map (λ e. named (f e.0) e.1) after ≡ map (λ e. named (f e.0) e.1) es ++ script ∷ []
+script-added {K} f es after key script is same =
+    let seen : K × List Event → Named = λ e. named (f e.0) e.1 in
+    ap (map seen) is ∙ map-append seen es ((key, script.script) ∷ [])
+    ∙ ap (λ (name : List ℕ). map seen es ++ named name script.script ∷ []) same
+
 -- ---- the deck before CAMPAIGN
 
 pub program-bad : (text : List ℕ) (devices : List Device) (deck : Deck) (fault : CampaignFault) → deck_of text devices false ≡ Ok deck
@@ -134,16 +160,16 @@ module _ (bytes : List ℕ) (devices : List Device) (all after lines : List Line
 
   pub campaign-by_deck : (rest : List Line) → 0 < length lines → rest ≡ drop 1 lines
       → (deck : Result Deck CampaignFault) → program_of (take (get_or lines 0 no_line).start bytes) devices ≡ deck
-      → campaign_of bytes devices ≡ and_then deck (λ deck. and_then (scripts_from bytes nothing_said rest) (λ scripts. Ok (campaign_with deck scripts)))
+      → campaign_of bytes devices ≡ and_then deck (λ deck. and_then (scripts_from bytes (nothing_said MOST_SCRIPTS) rest) (λ scripts. Ok (campaign_with deck scripts)))
   campaign-by_deck rest within r deck is =
       by_found ∙ ap (by_lines bytes devices (length all + 1)) (drop_more lines 0 no_line within)
       ∙ ap (λ (ls : List Line). and_then (program_of (take (get_or lines 0 no_line).start bytes) devices)
-      (λ deck. and_then (scripts_from bytes nothing_said ls) (λ scripts. Ok (campaign_with deck scripts)))) (sym r)
-      ∙ ap (λ (read : Result Deck CampaignFault). and_then read (λ deck. and_then (scripts_from bytes nothing_said rest) (λ scripts. Ok (campaign_with deck scripts)))) is
+      (λ deck. and_then (scripts_from bytes (nothing_said MOST_SCRIPTS) ls) (λ scripts. Ok (campaign_with deck scripts)))) (sym r)
+      ∙ ap (λ (read : Result Deck CampaignFault). and_then read (λ deck. and_then (scripts_from bytes (nothing_said MOST_SCRIPTS) rest) (λ scripts. Ok (campaign_with deck scripts)))) is
 
   pub campaign-by_scripts : (rest : List Line) → 0 < length lines → rest ≡ drop 1 lines
       → (deck : Deck) → program_of (take (get_or lines 0 no_line).start bytes) devices ≡ Ok deck
-      → (scripts : Result (List Named) CampaignFault) → scripts_from bytes nothing_said rest ≡ scripts
+      → (scripts : Result (List Named) CampaignFault) → scripts_from bytes (nothing_said MOST_SCRIPTS) rest ≡ scripts
       → campaign_of bytes devices ≡ and_then scripts (λ scripts. Ok (campaign_with deck scripts))
   campaign-by_scripts rest within r deck is scripts told =
       campaign-by_deck rest within r (Ok deck) is

@@ -10,7 +10,7 @@ use Rattle.lvdc_fault.specs.declared.named.Named.{Named}
 use Rattle.lvdc_deck.specs.Deck.{after_program, deck_of}
 use Rattle.lvdc_deck.specs.declared.deck.Deck.{Deck}
 use Rattle.lvdc_deck.specs.declared.fault.DeckFault.{DeckFault}
-use Rattle.lvdc_campaign_deck.specs.declared.TheConstants.{MOST_TIMES}
+use Rattle.lvdc_campaign_deck.specs.declared.TheConstants.{MOST_TIMES, MOST_SCRIPTS}
 use Rattle.lvdc_campaign_deck.specs.declared.deck.CampaignDeck.{CampaignDeck}
 use Rattle.lvdc_campaign_deck.specs.declared.fault.CampaignFault.{CampaignFault}
 use Rattle.lvdc_campaign_deck.specs.declared.fault.CampaignFault.TheVariants.{BadSection, CountTooLarge, Deck as InDeck}
@@ -34,7 +34,7 @@ abbrev pub by_deck : Result Deck DeckFault → Result Deck CampaignFault
 by_deck (Ok deck) = Ok deck
 by_deck (Err fault) = Err (InDeck fault)
 
--- no line opens PORTS, FAULTS or DEBUG, which a campaign's deck doesn't have
+-- the deck, unless a line opens a section that it may not have, which for a campaign are PORTS, FAULTS and DEBUG
 abbrev pub by_others : Deck → Option ℕ → Result Deck CampaignFault
 by_others deck None = Ok deck
 by_others deck (Some number) = Err (BadSection number)
@@ -63,7 +63,7 @@ abbrev pub by_lines : List ℕ → List Device → ℕ → List Line → Result 
 by_lines bytes devices next [] = and_then (program_of bytes devices) (λ deck. Err (BadSection next))
 by_lines bytes devices next (line ∷ lines) =
     and_then (program_of (take line.start bytes) devices)
-    (λ deck. and_then (scripts_from bytes nothing_said lines) (λ scripts. Ok (campaign_with deck scripts)))
+    (λ deck. and_then (scripts_from bytes (nothing_said MOST_SCRIPTS) lines) (λ scripts. Ok (campaign_with deck scripts)))
 
 -- the campaign that the bytes mean, its deck over these devices; or its first refusal
 abbrev pub campaign_of : List ℕ → List Device → Result CampaignDeck CampaignFault

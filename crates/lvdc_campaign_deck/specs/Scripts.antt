@@ -11,7 +11,7 @@ use Rattle.lvdc_fault.specs.declared.named.Named.{Named}
 use Rattle.lvdc_fault.specs.Events.{IsEvent}
 use Rattle.lvdc_script_lines.specs.Lines.{fault_in}
 use Rattle.lvdc_source.specs.Names.{is_name}
-use Rattle.lvdc_campaign_deck.specs.declared.TheConstants.{MOST_SCRIPTS, MOST_EVENTS}
+use Rattle.lvdc_campaign_deck.specs.declared.TheConstants.{MOST_EVENTS}
 use Rattle.lvdc_campaign_deck.specs.declared.fault.CampaignFault.{CampaignFault}
 use Rattle.lvdc_campaign_deck.specs.declared.fault.CampaignFault.TheVariants.{NoMemory as WantsMemory, BadLine, TooManyScripts, TooManyEvents}
 
@@ -20,15 +20,21 @@ abbrev pub and_then : {A B : Type 0} → Result A CampaignFault → (A → Resul
 and_then (Ok a) f = f a
 and_then (Err fault) f = Err fault
 
--- what the lines after CAMPAIGN have said so far: the scripts before the last one, the last one, and how many events there are in all
+-- what the lines after CAMPAIGN have said so far: how many scripts there may be, those before the last one, the last one, and how many events
+-- there are in all
 pub record Scripts : Type 0 where
+  pub most : ℕ
   pub before : List Named
   pub last : Option Named
   pub events : ℕ
 
--- before the first line
-abbrev pub nothing_said : Scripts
-nothing_said = record { before = []; last = None; events = 0 }
+-- before the first line, where there may be so many scripts
+abbrev pub nothing_said : ℕ → Scripts
+nothing_said most = record { most = most; before = []; last = None; events = 0 }
+
+-- a script with its name
+abbrev pub named : List ℕ → List Event → Named
+named name script = record { name = name; script = script }
 
 -- a list with one more, if there is one
 abbrev pub with_last : List Named → Option Named → List Named
@@ -43,7 +49,7 @@ all_scripts s = with_last s.before s.last
 
 -- has the script this name?
 abbrev pub has_name : List ℕ → Named → Bool
-has_name name named = bytes_eq named.name name
+has_name name named = bytes_eq name named.name
 
 -- has one of the scripts this name?
 abbrev pub is_taken : List ℕ → List Named → Bool
@@ -52,8 +58,8 @@ is_taken name scripts = list_any (has_name name) scripts
 -- a further script, without events so far, where it isn't one too many
 abbrev pub with_script : Scripts → ℕ → List ℕ → Result Scripts CampaignFault
 with_script s number name =
-    if nat_lt (length (all_scripts s)) MOST_SCRIPTS
-    then Ok (record { before = all_scripts s; last = Some (record { name = name; script = [] }); events = s.events })
+    if nat_lt (length (all_scripts s)) s.most
+    then Ok (record s { before = all_scripts s; last = Some (record { name = name; script = [] }) })
     else Err (TooManyScripts number)
 
 -- SCRIPT and a name that no script has
@@ -68,7 +74,7 @@ abbrev pub with_event : Option Named → Scripts → ℕ → Event → Result Sc
 with_event None s number event = Err (BadLine number)
 with_event (Some named) s number event =
     if nat_lt s.events MOST_EVENTS
-    then Ok (record { before = s.before; last = Some (record { name = named.name; script = named.script ++ event ∷ [] }); events = suc s.events })
+    then Ok (record s { last = Some (record { name = named.name; script = named.script ++ event ∷ [] }); events = suc s.events })
     else Err (TooManyEvents number)
 
 -- a fault line, where it has its form

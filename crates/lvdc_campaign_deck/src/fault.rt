@@ -1,12 +1,13 @@
-ghost use Rattle.std.specs.Prelude.{◌≡◌, ◌≤◌, length};
-ghost use Rattle.lvdc_campaign_deck.specs.declared.fault.CampaignFault.TheVariants.{NoMemory as WantsMemory};
+ghost use Rattle.std.specs.Prelude.{◌≡◌, ◌≢◌, ◌≤◌, length};
+ghost use Rattle.lvdc_deck.specs.declared.fault.DeckFault.TheVariants.{NoMemory as DeckWantsMemory};
+ghost use Rattle.lvdc_campaign_deck.specs.declared.fault.CampaignFault.TheVariants.{NoMemory as WantsMemory, Deck as InDeck};
 
 use lvdc_deck::DeckFault;
 use lvdc_word::NoMemory;
 use std::alloc::{AllocError, AllocFailed};
 use thiserror::Error;
 
-/// Why bytes are no campaign: the first refusal, and its line.
+/// Why bytes are no campaign, or no study: the first refusal, and its line.
 #[derive(Clone, Copy, Debug, PartialEq, Eq, Error)]
 pub enum CampaignFault {
     /// There was no memory for what the deck says.
@@ -15,16 +16,16 @@ pub enum CampaignFault {
     /// The deck before CAMPAIGN is refused.
     #[error(transparent)]
     Deck(DeckFault),
-    /// The line opens PORTS, FAULTS or DEBUG; or CAMPAIGN is missing.
+    /// The line opens a section that isn't allowed before CAMPAIGN; or CAMPAIGN is missing.
     #[error("line {0} is out of its section")]
     BadSection(u32),
     /// The line is no script's, names none anew, or has above 120 bytes.
     #[error("line {0} has a wrong form")]
     BadLine(u32),
-    /// More than 10,000 instruction times are asked for.
+    /// More instruction times are asked for than are allowed.
     #[error("the count on line {0} is too large")]
     CountTooLarge(u32),
-    /// There are more than 256 scripts.
+    /// There are more scripts than are allowed.
     #[error("the script on line {0} is one too many")]
     TooManyScripts(u32),
     /// The scripts have more than 65,536 events together.
@@ -63,6 +64,18 @@ impl CampaignFault {
             CampaignFault::CountTooLarge(line) => *line,
             CampaignFault::TooManyScripts(line) => *line,
             CampaignFault::TooManyEvents(line) => *line,
+        }
+    }
+}
+
+impl From<DeckFault> for CampaignFault {
+    // The want of memory stays that.
+    ghost from_gives = { λ fault e. e ≢ WantsMemory → (e ≡ InDeck fault) × (fault ≢ DeckWantsMemory) };
+
+    fn from(fault: DeckFault) -> CampaignFault {
+        match fault {
+            DeckFault::NoMemory => CampaignFault::NoMemory,
+            fault => CampaignFault::Deck(fault),
         }
     }
 }

@@ -7,7 +7,7 @@ ghost use Rattle.lvdc_campaign_deck.specs.Campaign.{is_campaign, from_campaign};
 use lvdc_text::{Line, is_alone, is_long, part};
 
 /// Is it CAMPAIGN, on a line that isn't too long?
-fn is_campaign(text: &[u8]) -> bool
+pub fn is_campaign(text: &[u8]) -> bool
     requires { length text.now < 2 ^ 32 - 1 }
     ensures { result ≡ is_campaign text.now }
 {
@@ -15,7 +15,7 @@ fn is_campaign(text: &[u8]) -> bool
 }
 
 /// From the line CAMPAIGN on; no line where it's missing.
-pub(crate) fn from_campaign<'a>(bytes: &[u8], lines: &'a [Line]) -> &'a [Line]
+pub fn from_campaign<'a>(bytes: &[u8], lines: &'a [Line]) -> &'a [Line]
     requires size { length bytes.now < 2 ^ 32 - 1 }
     requires within { All (IsWithin bytes.now) lines.now }
     ensures lines { result.now ≡ from_campaign bytes.now lines.now }

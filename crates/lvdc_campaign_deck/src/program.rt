@@ -1,12 +1,11 @@
 ghost use Rattle.std.specs.Prelude.{◌≡◌, ◌≢◌, ◌<◌, ◌≤◌, ◌-◌, ◌^◌, length, map, true, IfOk, IfErr, OnOk, Ok, Err};
 ghost use Rattle.lvdc_map.specs.Memory.{are_rising, AllThere};
-ghost use Rattle.lvdc_deck.specs.declared.fault.DeckFault.TheVariants.{NoMemory as DeckWantsMemory};
 ghost use Rattle.lvdc_campaign_deck.specs.declared.TheConstants.{MOST_TIMES};
-ghost use Rattle.lvdc_campaign_deck.specs.declared.fault.CampaignFault.TheVariants.{NoMemory as WantsMemory, Deck as InDeck};
+ghost use Rattle.lvdc_campaign_deck.specs.declared.fault.CampaignFault.TheVariants.{NoMemory as WantsMemory};
 ghost use Rattle.lvdc_campaign_deck.specs.Campaign.{checked, program_of};
 
 use crate::{CampaignFault, MOST_TIMES};
-use lvdc_deck::{Deck, DeckFault, read_deck};
+use lvdc_deck::{Deck, read_deck};
 use lvdc_port::PortDevice;
 use std::alloc::Global;
 
@@ -25,17 +24,6 @@ fn check(deck: &Deck) -> Result<(), CampaignFault>
     Ok(())
 }
 
-/// The refusal of the deck before CAMPAIGN, as one of the campaign.
-fn in_deck(fault: DeckFault) -> CampaignFault
-    ensures known { result ≢ WantsMemory → result ≡ InDeck fault }
-    ensures want { result ≢ WantsMemory → fault ≢ DeckWantsMemory }
-{
-    match fault {
-        DeckFault::NoMemory => CampaignFault::NoMemory,
-        fault => CampaignFault::Deck(fault),
-    }
-}
-
 /// Reads the deck before CAMPAIGN.
 pub(crate) fn read_program(
     alloc: Global,
@@ -49,10 +37,7 @@ pub(crate) fn read_program(
     ensures rising { IfOk result (λ deck. are_rising deck.image.words ≡ true) }
     ensures there { IfOk result (λ deck. AllThere deck.banks deck.image.words) }
 {
-    let deck = match read_deck(alloc, text, devices, false) {
-        Ok(deck) => deck,
-        Err(fault) => return Err(in_deck(fault)),
-    };
+    let deck = read_deck(alloc, text, devices, false)?;
     match check(&deck) {
         Ok(()) => Ok(deck),
         Err(fault) => Err(fault),

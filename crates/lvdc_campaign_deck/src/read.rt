@@ -8,7 +8,7 @@ ghost use Rattle.lvdc_campaign_deck.specs.Scripts.{CanRun};
 use crate::layout::from_campaign;
 use crate::program::read_program;
 use crate::scripts::read_scripts;
-use crate::{CampaignDeck, CampaignFault};
+use crate::{CampaignDeck, CampaignFault, MOST_SCRIPTS};
 use lvdc_deck::{Deck, after_program};
 use lvdc_fault::Named;
 use lvdc_port::PortDevice;
@@ -63,7 +63,7 @@ pub fn read_campaign(
                 Ok(deck) => deck,
                 Err(fault) => return Err(fault),
             };
-            match read_scripts(alloc, bytes, rest) {
+            match read_scripts(alloc, bytes, rest, MOST_SCRIPTS) {
                 Ok(scripts) => Ok(join(deck, scripts)),
                 Err(fault) => Err(fault),
             }

@@ -1,14 +1,15 @@
 //! The scripts of a campaign, line by line.
 
-ghost use Rattle.std.specs.Prelude.{◌≡◌, ◌≢◌, ◌<◌, ◌≤◌, ◌-◌, ◌^◌, length, map, IfOk, IfErr, OnOk, All, Ok, Err, None, IsTrue};
+ghost use Rattle.std.specs.Prelude.{◌≡◌, ◌≢◌, ◌<◌, ◌≤◌, ◌-◌, ◌^◌, length, map, IfOk, IfErr, OnOk, All, Ok, Err, None, false, IsTrue};
 ghost use Rattle.lvdc_text.specs.Lines.{IsWithin, part_of};
 ghost use Rattle.lvdc_script_lines.specs.Lines.{fault_in};
 ghost use Rattle.lvdc_source.specs.Names.{is_name};
-ghost use Rattle.lvdc_campaign_deck.specs.declared.TheConstants.{MOST_SCRIPTS, MOST_EVENTS};
+ghost use Rattle.lvdc_campaign_deck.specs.declared.TheConstants.{MOST_EVENTS};
 ghost use Rattle.lvdc_campaign_deck.specs.declared.fault.CampaignFault.TheVariants.{NoMemory as WantsMemory};
 ghost use Rattle.lvdc_campaign_deck.specs.Scripts.{nothing_said, all_scripts, has_name, is_taken, with_script, script_line, fault_line, by_tokens, after_line, scripts_from, Makes, CanRun};
 
-use crate::{CampaignFault, MOST_EVENTS, MOST_SCRIPTS};
+use crate::by_name::ByName;
+use crate::{CampaignFault, MOST_EVENTS};
 use lvdc_fault::{Named, Script};
 use lvdc_script_lines::event_of;
 use lvdc_source::is_name;
@@ -18,29 +19,31 @@ use std::alloc::Global;
 use std::marker::Model;
 
 /// What the lines after CAMPAIGN have said so far.
-#[derive(Debug, Drop)]
-pub(crate) struct Scripts {
-    before: Vec<Named>,
+#[derive(Drop)]
+struct Scripts {
+    most: usize,
+    before: ByName,
     last: Option<Named>,
     events: usize,
 }
 
 impl Model for Scripts {
-    ghost use Rattle.std.specs.Prelude.{◌≤◌, length, IfSome, All};
-    ghost use Rattle.lvdc_campaign_deck.specs.Scripts.{Scripts as Told, with_last, CanRun};
-    ghost use Rattle.lvdc_campaign_deck.specs.declared.TheConstants.{MOST_SCRIPTS, MOST_EVENTS};
+    ghost use Rattle.std.specs.Prelude.{◌≡◌, ◌≤◌, false, length, IfSome, All};
+    ghost use Rattle.lvdc_campaign_deck.specs.Scripts.{Scripts as Told, with_last, is_taken, CanRun};
+    ghost use Rattle.lvdc_campaign_deck.specs.declared.TheConstants.{MOST_EVENTS};
 
     ghost Value = { Told };
 
     ghost view = { λ s. record {
-      before = s.before.items;
+      most = s.most;
+      before = s.before;
       last = s.last;
       events = s.events;
     } };
 
-    // The last script has no more events than there are in all.
-    ghost invariant = { λ s. All (CanRun MOST_EVENTS) s.before.items × IfSome s.last (CanRun s.events) × (s.events ≤ MOST_EVENTS)
-        × (length (with_last s.before.items s.last) ≤ MOST_SCRIPTS) };
+    // The last script has no more events than there are in all, and a name of its own.
+    ghost invariant = { λ s. All (CanRun MOST_EVENTS) s.before × IfSome s.last (CanRun s.events) × (s.events ≤ MOST_EVENTS)
+        × (length (with_last s.before s.last) ≤ s.most) × IfSome s.last (λ named. is_taken named.name s.before ≡ false) };
 }
 
 /// Is it a name? It stands for its clauses alone, which proofs cite.
@@ -55,16 +58,17 @@ fn is_short_name(text: &[u8]) -> bool
 fn has_name(name: &[u8], named: &Named) -> bool
     ensures { result ≡ has_name name.now named.now }
 {
-    named.name.items() == name
+    name == named.name.items()
 }
 
 impl Scripts {
     /// Before the first line.
-    fn new(alloc: Global) -> Scripts
-        ensures { result ≡ nothing_said }
+    fn new(alloc: Global, most: usize) -> Scripts
+        ensures { result ≡ nothing_said most }
     {
         Scripts {
-            before: Vec::new(alloc),
+            most,
+            before: ByName::new(alloc),
             last: None,
             events: 0,
         }
@@ -75,21 +79,9 @@ impl Scripts {
         ensures { result ≡ length (all_scripts self.now) }
     {
         match self.last {
-            Some(_) => self.before.len() + 1,
-            None => self.before.len(),
+            Some(_) => self.before.count() + 1,
+            None => self.before.count(),
         }
-    }
-
-    /// Has one of the scripts before the last one this name?
-    fn is_taken_before(&self, name: &[u8]) -> bool
-        ensures { result ≡ is_taken name.now self.now.before }
-    {
-        for named in self.before.as_slice() {
-            if has_name(name, named) {
-                return true;
-            }
-        }
-        false
     }
 
     /// Has one of the scripts this name?
@@ -97,54 +89,51 @@ impl Scripts {
         ensures { result ≡ is_taken name.now (all_scripts self.now) }
     {
         match &self.last {
-            Some(named) => self.is_taken_before(name) || has_name(name, named),
-            None => self.is_taken_before(name),
+            Some(named) => self.before.is_taken(name) || has_name(name, named),
+            None => self.before.is_taken(name),
         }
-    }
-
-    /// All scripts, in their order.
-    fn into_all(self) -> Result<Vec<Named>, NoMemory>
-        ensures all { IfOk result (λ all. all.items ≡ all_scripts self) }
-        ensures few { IfOk result (λ all. length all.items ≤ MOST_SCRIPTS) }
-        ensures run { IfOk result (λ all. All (CanRun MOST_EVENTS) all.items) }
-    {
-        let Scripts {
-            mut before,
-            last,
-            ..
-        } = self;
-        if let Some(named) = last {
-            before.push(named)?;
-        }
-        Ok(before)
     }
 
     /// Puts the last script behind those before it.
     fn close(&mut self) -> Result<(), NoMemory>
         ensures before { OnOk result (self.new.before ≡ all_scripts self.old) }
         ensures last { OnOk result (self.new.last ≡ None) }
+        ensures most { OnOk result (self.new.most ≡ self.old.most) }
         ensures events { OnOk result (self.new.events ≡ self.old.events) }
     {
         if let Some(named) = self.last.take() {
-            self.before.push(named)?;
+            self.before.add(named)?;
         }
         Ok(())
     }
 
+    /// All scripts, in their order.
+    fn into_all(mut self, alloc: Global) -> Result<Vec<Named>, NoMemory>
+        ensures all { IfOk result (λ all. all.items ≡ all_scripts self) }
+        ensures few { IfOk result (λ all. length all.items ≤ self.most) }
+        ensures run { IfOk result (λ all. All (CanRun MOST_EVENTS) all.items) }
+    {
+        self.close()?;
+        let Scripts { before, .. } = self;
+        before.into_vec(alloc)
+    }
+
     /// Begins a further script.
     fn begin(&mut self, alloc: Global, number: u32, name: &[u8]) -> Result<(), CampaignFault>
-        requires { length name.now ≤ 8 }
-        ensures { Makes result self.new (with_script self.old number name.now) }
+        requires short { length name.now ≤ 8 }
+        requires new { is_taken name.now (all_scripts self.old) ≡ false }
+        ensures made { Makes result self.new (with_script self.old number name.now) }
+        ensures most { OnOk result (self.new.most ≡ self.old.most) }
     {
-        if self.count() >= MOST_SCRIPTS {
+        if self.count() >= self.most {
             return Err(CampaignFault::TooManyScripts(number));
         }
-        let name = Vec::from_slice(alloc, name)?;
-        self.close()?;
-        self.last = Some(Named {
-            name: Seq::from_vec(name),
+        let named = Named {
+            name: Seq::from_vec(Vec::from_slice(alloc, name)?),
             script: Script::new(alloc),
-        });
+        };
+        self.close()?;
+        self.last = Some(named);
         Ok(())
     }
 
@@ -157,7 +146,8 @@ impl Scripts {
         tokens: &[Line],
     ) -> Result<(), CampaignFault>
         requires { All (IsWithin text.now) tokens.now }
-        ensures { Makes result self.new (script_line self.old number (map (part_of text.now) tokens.now)) }
+        ensures made { Makes result self.new (script_line self.old number (map (part_of text.now) tokens.now)) }
+        ensures most { OnOk result (self.new.most ≡ self.old.most) }
     {
         let [token] = tokens else {
             return Err(CampaignFault::BadLine(number));
@@ -172,7 +162,8 @@ impl Scripts {
     /// Takes a fault line.
     fn take_event(&mut self, number: u32, text: &[u8], tokens: &[Line]) -> Result<(), CampaignFault>
         requires { All (IsWithin text.now) tokens.now }
-        ensures { Makes result self.new (fault_line self.old number (fault_in (map (part_of text.now) tokens.now))) }
+        ensures made { Makes result self.new (fault_line self.old number (fault_in (map (part_of text.now) tokens.now))) }
+        ensures most { OnOk result (self.new.most ≡ self.old.most) }
     {
         let Some(event) = event_of(text, tokens) else {
             return Err(CampaignFault::BadLine(number));
@@ -197,7 +188,8 @@ impl Scripts {
         tokens: &[Line],
     ) -> Result<(), CampaignFault>
         requires { All (IsWithin text.now) tokens.now }
-        ensures { Makes result self.new (by_tokens self.old number (map (part_of text.now) tokens.now)) }
+        ensures made { Makes result self.new (by_tokens self.old number (map (part_of text.now) tokens.now)) }
+        ensures most { OnOk result (self.new.most ≡ self.old.most) }
     {
         let [first, rest @ ..] = tokens else {
             return Ok(());
@@ -212,7 +204,8 @@ impl Scripts {
     /// Takes a line after CAMPAIGN.
     fn take_line(&mut self, alloc: Global, number: u32, text: &[u8]) -> Result<(), CampaignFault>
         requires { length text.now < 2 ^ 32 - 1 }
-        ensures { Makes result self.new (after_line self.old number text.now) }
+        ensures made { Makes result self.new (after_line self.old number text.now) }
+        ensures most { OnOk result (self.new.most ≡ self.old.most) }
     {
         if is_long(text) {
             return Err(CampaignFault::BadLine(number));
@@ -225,26 +218,27 @@ impl Scripts {
     }
 }
 
-/// Reads the scripts in the lines after CAMPAIGN.
-pub(crate) fn read_scripts(
+/// Reads the scripts in the lines after CAMPAIGN. `most` is how many there may be.
+pub fn read_scripts(
     alloc: Global,
     bytes: &[u8],
     lines: &[Line],
+    most: usize,
 ) -> Result<Vec<Named>, CampaignFault>
     requires size { length bytes.now < 2 ^ 32 - 1 }
     requires within { All (IsWithin bytes.now) lines.now }
-    ensures scripts { IfOk result (λ scripts. scripts_from bytes.now nothing_said lines.now ≡ Ok scripts.items) }
-    ensures refusal { IfErr result (λ fault. fault ≢ WantsMemory → scripts_from bytes.now nothing_said lines.now ≡ Err fault) }
-    ensures few { IfOk result (λ scripts. length scripts.items ≤ MOST_SCRIPTS) }
+    ensures scripts { IfOk result (λ scripts. scripts_from bytes.now (nothing_said most) lines.now ≡ Ok scripts.items) }
+    ensures refusal { IfErr result (λ fault. fault ≢ WantsMemory → scripts_from bytes.now (nothing_said most) lines.now ≡ Err fault) }
+    ensures few { IfOk result (λ scripts. length scripts.items ≤ most) }
     ensures run { IfOk result (λ scripts. All (CanRun MOST_EVENTS) scripts.items) }
 {
-    let mut scripts = Scripts::new(alloc);
+    let mut scripts = Scripts::new(alloc, most);
     for line in lines {
         match scripts.take_line(alloc, line.number, part(bytes, line)) {
             Ok(()) => {}
             Err(fault) => return Err(fault),
         }
     }
-    let all = scripts.into_all()?;
+    let all = scripts.into_all(alloc)?;
     Ok(all)
 }

@@ -1,4 +1,5 @@
-//! Tests of decks and their form, the decks of campaigns and of soak runs, and saved texts, over the public calls of their crates.
+//! Tests of decks and their form, the decks of campaigns, of studies and of soak runs, and saved texts, over the public calls of
+//! their crates.
 #![tactic(auto)]
 
 #[cfg(test)]
@@ -15,3 +16,5 @@ mod save;
 mod save_read;
 #[cfg(test)]
 mod soak;
+#[cfg(test)]
+mod study_deck;
