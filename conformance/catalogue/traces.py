@@ -415,11 +415,13 @@ BY_HAND = [
                  "FAULT 7 1", "FAULT 7 2", after=["COPY 1 3 000000001 000000000", "COPY 7 3 000000000 000000000"])
          + "".join("STEP %d\nOUT 014 000000000\nFAULT 1 1\nFAULT 1 2\nFAULT 7 1\nFAULT 7 2\nVOTE 2 00000%d004 000000000\n"
                    "COPY 1 3 000000000 000000000\nCOPY 7 3 000000000 000000000\n" % (step, 2 * step) for step in (1, 2)) + "MORE"),
-    Case("a-phase-that-comes-twice", "Two copies of TIMER lag: the vote stays, so it has no line, and the operand is read again.",
-         "trace --through 0 3", sum_deck("TIMER stays in phase B after step 1.", faults="LAG 1 1 1 1\nLAG 1 2 1 1"),
+    Case("a-phase-that-comes-twice", "Two copies of TIMER lag: the vote stays, so it has no line, and the operand is read again. The next fetch is in step 4.",
+         "trace --through 0 5", sum_deck("TIMER stays in phase B after step 1.", faults="LAG 1 1 1 1\nLAG 1 2 1 1"),
          text="LVDC TRACE THROUGH\n" + block(0, {1: "000000001 000000000", 3: "000017000"}, "FETCH 0 00 000 000017000")
          + "STEP 1\nOPERAND 0 01 000 177777777\nFAULT 1 1\nFAULT 1 2\nVOTE 5 000000000 177777777\nCOPY 1 3 000000002 000000000\n"
-         "STEP 2\nOPERAND 0 01 000 177777777\nVOTE 1 000000002 000000000\nMORE"),
+         "STEP 2\nOPERAND 0 01 000 177777777\nVOTE 1 000000002 000000000\n"
+         "STEP 3\nVOTE 1 000000000 000000000\nVOTE 2 000002004 000000000\nVOTE 5 177777777 177777777\n"
+         "STEP 4\nFETCH 0 00 001 000007001\nVOTE 1 000000001 000000000\nVOTE 3 000007001\nMORE"),
     Case("a-fault-of-no-bit", "A mask of 0 changes nothing, and the copy is wrong.", "trace 4 1",
          sum_deck("Mask 0.", faults="FLIP 5 1 4 4 0 0"), has="FAULT 5 1", lacks=["COPY"]),
     Case("two-flips-that-undo-each-other", "Two lines on one copy are one line FAULT.", "trace 4 1",
