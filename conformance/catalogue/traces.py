@@ -415,8 +415,7 @@ BY_HAND = [
                  "FAULT 7 1", "FAULT 7 2", after=["COPY 1 3 000000001 000000000", "COPY 7 3 000000000 000000000"])
          + "".join("STEP %d\nOUT 014 000000000\nFAULT 1 1\nFAULT 1 2\nFAULT 7 1\nFAULT 7 2\nVOTE 2 00000%d004 000000000\n"
                    "COPY 1 3 000000000 000000000\nCOPY 7 3 000000000 000000000\n" % (step, 2 * step) for step in (1, 2)) + "MORE"),
-    Case("a-phase-that-comes-twice", "Two copies of TIMER lag: the vote stays, so it has no line, and the operand is read again. The next fetch is in step 4."
-         ,
+    Case("a-phase-that-comes-twice", "Two copies of TIMER lag: the vote stays, so it has no line, and the operand is read again. Step 4 fetches.",
          "trace --through 0 5", sum_deck("TIMER stays in phase B after step 1.", faults="LAG 1 1 1 1\nLAG 1 2 1 1"),
          text="LVDC TRACE THROUGH\n" + block(0, {1: "000000001 000000000", 3: "000017000"}, "FETCH 0 00 000 000017000")
          + "STEP 1\nOPERAND 0 01 000 177777777\nFAULT 1 1\nFAULT 1 2\nVOTE 5 000000000 177777777\nCOPY 1 3 000000002 000000000\n"
