@@ -1,6 +1,6 @@
 #!/usr/bin/env python3
-"""A simulator of the same machine, with the same command lines and texts, and the traces of the worker. It is written from
-docs/MACHINE.md and docs/FORMATS.md and apart from the program.
+"""A simulator of the same machine, with the same command lines and texts, and the requests `trace` and `form` of the worker. It is
+written from docs/MACHINE.md and docs/FORMATS.md and apart from the programs.
 
 It is slow and proves nothing. The wanted texts of the cases come from it where they don't come from worked examples, so that no
 text comes from the program that the cases try. usage: simulator.py WORDS.. <INPUT"""
@@ -15,6 +15,7 @@ from simulation.assembler import assemble, listing
 from simulation.campaign import campaign
 from simulation.decks import Deck, read_deck, soak_deck
 from simulation.devices import Device, at_port, of_the_program
+from simulation.form import first_unmet
 from simulation.lines import Refused, lines_of, print_image
 from simulation.macros import expansion, image_of_expansion
 from simulation.plain import Plain
@@ -40,6 +41,7 @@ requests: the commands of lvdc
           form
           study
 """
+REQUESTS = [["trace"], ["form"], ["study"]]
 MOST_BYTES, MOST_SAVED_BYTES = 1_048_576, 134_217_728
 
 # a status and a text
@@ -107,6 +109,13 @@ def traced(lines: list[str], guarded: bool, first: int, told: int) -> Answer:
     return status_of(machine), text
 
 
+def formed(lines: list[str]) -> Answer:
+    """form, a request of the worker: it runs nothing."""
+    deck, _ = opened(lines)
+    unmet = first_unmet(deck.opening, deck.script, deck.count)
+    return 0, "FORM YES\n" if unmet is None else "FORM NO %d\n" % unmet
+
+
 def soaked(number: int) -> Answer:
     """soak"""
     deck = soak_deck(number)
@@ -148,6 +157,7 @@ def reader_of(words: list[str]) -> Callable[[list[str]], Answer] | None:
         ("uplink",): lambda lines: (0, uplink(lines)),
         ("macro",): lambda lines: (0, text_of(expansion(lines).out)),
         ("macro", "--image"): lambda lines: (0, image_of_expansion(lines)),
+        ("form",): formed,
     }
     if len(words) == 2 and words[0] == "save" and re.fullmatch("[0-9]{1,7}", words[1]):
         return lambda lines: saved(lines, int(words[1]))
@@ -164,7 +174,7 @@ def answer(words: list[str], text: str) -> Answer:
         return soaked(int(words[1]))
     reader = reader_of(words)
     if reader is None:
-        return 1, WORKER_USAGE if words[:1] == ["trace"] else USAGE
+        return 1, WORKER_USAGE if words[:1] in REQUESTS else USAGE
     if len(text) > (MOST_SAVED_BYTES if words == ["resume"] else MOST_BYTES):
         return 11, "REFUSED TooLong\n"
     try:
