@@ -1,4 +1,5 @@
-"""Traces, forms and studies: the texts of tests/texts are read and printed again, and a worker that answers them answers the same."""
+"""Traces, forms and studies: the texts of tests/texts are read and printed again, and a worker answers the same, studies where it answers
+any."""
 import pickle
 from pathlib import Path
 
@@ -35,8 +36,8 @@ def test_it_is_read_whole_and_printed_again(case: Path) -> None:
 def test_a_worker_answers_it(case: Path, worker: Worker) -> None:
     words = (case / "words").read_text().split()
     reply = worker.ask(words, (case / "input").read_bytes())
-    if reply.status == 1:
-        pytest.skip(f"this worker answers no {words[0]}")
+    if reply.status == 1 and words == ["study"]:
+        pytest.skip("this worker answers no study")
     assert (reply.status, decode(reply.text)) == (int((case / "status").read_text()), (case / "text").read_text())
 
 
