@@ -80,6 +80,7 @@ module _ {B : Type 0} (device_of : B → device.Device) (faults : B → ℕ) (im
         banks = later.shows.banks;
         script = later.shows.script;
         mode_is = mode_is;
+        left = [];
         stands = subst (λ (ds : List device.Device). Stands o (3 * times) m ds) empty-after later;
         unfailed = unfailed m.end (subst C is cause);
       }

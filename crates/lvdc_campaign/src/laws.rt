@@ -1,7 +1,8 @@
 ghost use Rattle.std.specs.Prelude.{◌≡◌, ℕ, true};
 ghost use Rattle.lvdc_fault.specs.declared.verdict.Verdict.TheVariants.{Admissible};
 ghost use Rattle.lvdc_laws_voted.specs.Ends.{IsOpening};
-ghost use Rattle.lvdc_model.specs.Judging.{first_bad};
+ghost use Rattle.lvdc_model.specs.Judging.{first_bad, first_bad_below};
+ghost use Rattle.lvdc_model.specs.Runs.{through, guarded};
 ghost use Rattle.lvdc_model.specs.Trial.{Trial};
 ghost use Rattle.lvdc_campaign.specs.Campaign.{is_same};
 
@@ -13,4 +14,11 @@ pub fn admissible_is_same()
     lvdc_laws_voted::guarded_run();
     lvdc_laws_voted::guarded_times();
     lvdc_laws_voted::guarded_ends();
+}
+
+/// A law: as long as all steps are admissible the run through every fault is the guarded run.
+pub fn through_is_guarded()
+    ensures { (o : Trial) (n : ℕ) → IsOpening o.opening → first_bad_below o n ≡ Admissible → through o n ≡ guarded o n }
+{
+    lvdc_laws_voted::guarded_run();
 }
