@@ -6,6 +6,8 @@ use Rattle.lvdc_port.specs.Device as device
 use Rattle.lvdc_plain.specs.Run.{Opening, run}
 use Rattle.lvdc_plain.specs.Stands as plain
 use Rattle.lvdc_plain.specs.View as plain_view
+use Rattle.lvdc_plain.specs.declared.records.PlainEnd.{PlainEnd}
+use Rattle.lvdc_plain.specs.declared.records.PlainEnd.TheVariants as plain_ends
 use Rattle.lvdc_fault.specs.declared.verdict.Verdict.{Verdict}
 use Rattle.lvdc_fault.specs.declared.verdict.Verdict.TheVariants.{Admissible}
 use Rattle.lvdc_model.specs.Trial.{Trial}
@@ -22,6 +24,13 @@ pub record HasRunPlainly (program : Opening) (times : ℕ) (m : plain_view.View)
   pub banks : m.banks ≡ program.banks
   pub shows : plain.Shows m (run program times).plain
   pub end : m.end ≡ end_in (run program times).plain
+
+-- no device's failure is the end of the plain machine
+abbrev pub NonePlainlyFailed : Option PlainEnd → Type 0
+NonePlainlyFailed None = Unit {0}
+NonePlainlyFailed (Some plain_ends.Done) = Unit {0}
+NonePlainlyFailed (Some (plain_ends.Stopped step stop)) = Unit {0}
+NonePlainlyFailed (Some (plain_ends.Device step port)) = ⊥
 
 -- no device's failure is the end
 abbrev pub NoneFailed : Option Outcome → Type 0
