@@ -9,7 +9,7 @@ ghost use Rattle.lvdc_campaign.specs.Same.{is_same_exchange};
 ghost use Rattle.lvdc_study.specs.Outcomes.{time_of_difference, address_of_difference, first_difference};
 
 use crate::Difference;
-use lvdc_campaign::{are_same_registers, is_same_end, is_same_word};
+use lvdc_campaign::{are_same_registers, is_same_end, is_same_word, through_is_shown};
 use lvdc_machine::Machine;
 use lvdc_map::Address;
 use lvdc_plain::{Exchange, Plain};
@@ -61,11 +61,13 @@ pub(crate) fn first_difference(machine: &Machine, plain: &Plain) -> Option<Diffe
     ensures { (o : Trial) (times : ℕ) → HasRun Through o times machine.now → HasRunPlainly o.opening times plain.now
         → result ≡ first_difference o times }
 {
+    through_is_shown();
     if !is_same_end(machine.ended(), plain.end()) {
         return Some(Difference::End);
     }
-    if let Some(time) = time_of_difference(machine.log(), plain.log()) {
-        return Some(Difference::Port(time));
+    match time_of_difference(machine.log(), plain.log()) {
+        Some(time) => return Some(Difference::Port(time)),
+        None => {}
     }
     if !are_same_registers(&machine.visible(), &plain.visible()) {
         return Some(Difference::Registers);
