@@ -6,7 +6,6 @@ use Rattle.lvdc_fault.specs.declared.verdict.Verdict.TheVariants.{Admissible}
 use Rattle.lvdc_model.specs.Judging.{first_bad, first_bad_below}
 use Rattle.lvdc_model.specs.Runs.{through, guarded, alone}
 use Rattle.lvdc_model.specs.Trial.{Trial}
-use Rattle.lvdc_model.specs.Voted.{Voted}
 use Rattle.lvdc_model.specs.declared.outcome.Outcome.{Outcome}
 use Rattle.lvdc_model.specs.declared.outcome.Outcome.TheVariants.{Done, Stopped, Inadmissible, Device}
 use Rattle.lvdc_laws_voted.specs.Ends.{IsOpening}

@@ -1,4 +1,4 @@
-use Rattle.std.proofs.Common.{◌≡◌, sym, ap, ◌∙◌}
+use Rattle.std.proofs.Common.{sym, ap, ◌∙◌}
 use Rattle.lvdc_study.specs.declared.row.Row.{Row}
 use Rattle.lvdc_study.proofs.Rowing.{admissible-row, through-row, form-admits}
 use Rattle.lvdc_study.proofs.study.study_script.Goals as goal
