@@ -1,6 +1,6 @@
 //! The text of a study.
 
-ghost use Rattle.std.specs.Prelude.{◌≡◌, ◌++◌, OnOk, IfOk};
+ghost use Rattle.std.specs.Prelude.{◌≡◌, ◌+◌, ◌*◌, ◌≤◌, ◌++◌, length, All, OnOk, IfOk};
 ghost use Rattle.lvdc_report.specs.Report.{lines_of};
 ghost use Rattle.lvdc_command_study.specs.Texts.{difference_text, outcome_text, step_text, redundancy_text, form_text, row_line, admits, is_admissible, is_same, count_in, total_line, study_text};
 
@@ -14,7 +14,8 @@ use std::alloc::Global;
 
 /// Adds what differs first.
 fn put_difference(out: &mut Vec<u8>, difference: Difference) -> Result<(), NoMemory>
-    ensures { OnOk result (out.new.items ≡ out.old.items ++ difference_text difference) }
+    ensures text { OnOk result (out.new.items ≡ out.old.items ++ difference_text difference) }
+    ensures short { OnOk result (length out.new.items ≤ length out.old.items + 25) }
 {
     match difference {
         Difference::End => out.extend_from_slice(b"END")?,
@@ -33,7 +34,8 @@ fn put_difference(out: &mut Vec<u8>, difference: Difference) -> Result<(), NoMem
 
 /// Adds the outcome.
 fn put_outcome(out: &mut Vec<u8>, difference: Option<Difference>) -> Result<(), NoMemory>
-    ensures { OnOk result (out.new.items ≡ out.old.items ++ outcome_text difference) }
+    ensures text { OnOk result (out.new.items ≡ out.old.items ++ outcome_text difference) }
+    ensures short { OnOk result (length out.new.items ≤ length out.old.items + 33) }
 {
     match difference {
         None => out.extend_from_slice(b"SAME")?,
@@ -47,7 +49,8 @@ fn put_outcome(out: &mut Vec<u8>, difference: Option<Difference>) -> Result<(), 
 
 /// Adds the step of the first repair.
 fn put_step(out: &mut Vec<u8>, step: Option<u64>) -> Result<(), NoMemory>
-    ensures { OnOk result (out.new.items ≡ out.old.items ++ step_text step) }
+    ensures text { OnOk result (out.new.items ≡ out.old.items ++ step_text step) }
+    ensures short { OnOk result (length out.new.items ≤ length out.old.items + 20) }
 {
     match step {
         None => out.extend_from_slice(b"-")?,
@@ -58,7 +61,8 @@ fn put_step(out: &mut Vec<u8>, step: Option<u64>) -> Result<(), NoMemory>
 
 /// Adds what the redundancy did.
 fn put_redundancy(out: &mut Vec<u8>, row: &Row) -> Result<(), NoMemory>
-    ensures { OnOk result (out.new.items ≡ out.old.items ++ redundancy_text row.now) }
+    ensures text { OnOk result (out.new.items ≡ out.old.items ++ redundancy_text row.now) }
+    ensures short { OnOk result (length out.new.items ≤ length out.old.items + 78) }
 {
     out.extend_from_slice(b" COPIES ")?;
     put_decimal(out, row.copies)?;
@@ -71,14 +75,16 @@ fn put_redundancy(out: &mut Vec<u8>, row: &Row) -> Result<(), NoMemory>
 
 /// The end of a line.
 fn form_text(masks: bool) -> &'static [u8]
-    ensures { result.now ≡ form_text masks }
+    ensures text { result.now ≡ form_text masks }
+    ensures short { length result.now ≤ 10 }
 {
     if masks { b" FORM YES\n" } else { b" FORM NO\n" }
 }
 
 /// Adds the line of a script.
 fn put_row(out: &mut Vec<u8>, row: &Row) -> Result<(), NoMemory>
-    ensures { OnOk result (out.new.items ≡ out.old.items ++ row_line row.now) }
+    ensures line { OnOk result (out.new.items ≡ out.old.items ++ row_line row.now) }
+    ensures short { OnOk result (length row.now.name ≤ 8 → length out.new.items ≤ length out.old.items + 174) }
 {
     out.extend_from_slice(b"SCRIPT ")?;
     out.extend_from_slice(row.name.items())?;
@@ -93,7 +99,9 @@ fn put_row(out: &mut Vec<u8>, row: &Row) -> Result<(), NoMemory>
 
 /// Adds the lines of the scripts.
 fn put_rows(out: &mut Vec<u8>, rows: &[Row]) -> Result<(), NoMemory>
-    ensures { OnOk result (out.new.items ≡ out.old.items ++ lines_of row_line rows.now) }
+    requires { All (λ row. length row.name ≤ 8) rows.now }
+    ensures lines { OnOk result (out.new.items ≡ out.old.items ++ lines_of row_line rows.now) }
+    ensures short { OnOk result (length out.new.items ≤ length out.old.items + 174 * length rows.now) }
 {
     for row in rows {
         put_row(out, row)?;
@@ -138,7 +146,8 @@ fn masking_in(rows: &[Row]) -> usize
 
 /// Adds the last line.
 fn put_total(out: &mut Vec<u8>, rows: &[Row]) -> Result<(), NoMemory>
-    ensures { OnOk result (out.new.items ≡ out.old.items ++ total_line rows.now) }
+    ensures line { OnOk result (out.new.items ≡ out.old.items ++ total_line rows.now) }
+    ensures short { OnOk result (length out.new.items ≤ length out.old.items + 111) }
 {
     out.extend_from_slice(b"STUDY ")?;
     put_decimal(out, rows.len() as u64)?;
@@ -154,7 +163,9 @@ fn put_total(out: &mut Vec<u8>, rows: &[Row]) -> Result<(), NoMemory>
 
 /// The text of the rows of a study.
 pub fn study_text(alloc: Global, rows: &[Row]) -> Result<Vec<u8>, NoMemory>
-    ensures { IfOk result (λ text. text.items ≡ study_text rows.now) }
+    requires { All (λ row. length row.name ≤ 8) rows.now }
+    ensures text { IfOk result (λ text. text.items ≡ study_text rows.now) }
+    ensures short { IfOk result (λ text. length text.items ≤ 174 * length rows.now + 111) }
 {
     let mut out = Vec::new(alloc);
     put_rows(&mut out, rows)?;

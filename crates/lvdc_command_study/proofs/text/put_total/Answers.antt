@@ -1,11 +1,12 @@
-use Rattle.std.proofs.Common.{◌++◌, ◌∙◌, ap, codes, decimal, length}
+use Rattle.std.proofs.Common.{ℕ, ◌++◌, ◌∙◌, ap, codes, decimal, length, arith, length-append}
 use Rattle.lvdc_report.proofs.Lines.{onward}
+use Rattle.lvdc_report.proofs.Sizes.{decimal_short}
 use Rattle.lvdc_study.specs.declared.row.Row.{Row}
 use Rattle.lvdc_command_study.specs.Texts.{is_admissible, is_same, count_in}
 use Rattle.lvdc_command_study.proofs.text.put_total.Goals as goal
 
-pub returns : goal.returns
-returns c =
+pub returns-clause-line : goal.returns-clause-line
+returns-clause-line c =
     let rows = c.args.rows.now in
     let admitted = count_in is_admissible rows in
     let alike = count_in is_same rows in
@@ -29,3 +30,23 @@ returns c =
     c.in_ok-extend_from_slice-4.ensures.items)
     (c.in_ok-put_decimal-4.ensures.ok ∙ ap (λ n. c.extend_from_slice-4.new.self.items ++ decimal n) c.masking_in.ensures))
     c.in_ok-extend_from_slice-5.ensures.items
+
+pub returns-clause-short : goal.returns-clause-short
+returns-clause-short c =
+    omega (
+      arith,
+      length-append {A = ℕ},
+      decimal_short (length c.args.rows.now) (omega arith),
+      decimal_short c.admissible_in.result (omega arith),
+      decimal_short c.same_in.result (omega arith),
+      decimal_short c.masking_in.result (omega arith),
+      ap length c.in_ok-extend_from_slice.ensures.items,
+      ap length c.in_ok-put_decimal.ensures.ok,
+      ap length c.in_ok-extend_from_slice-2.ensures.items,
+      ap length c.in_ok-put_decimal-2.ensures.ok,
+      ap length c.in_ok-extend_from_slice-3.ensures.items,
+      ap length c.in_ok-put_decimal-3.ensures.ok,
+      ap length c.in_ok-extend_from_slice-4.ensures.items,
+      ap length c.in_ok-put_decimal-4.ensures.ok,
+      ap length c.in_ok-extend_from_slice-5.ensures.items,
+    )
