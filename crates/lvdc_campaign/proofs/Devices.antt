@@ -24,7 +24,7 @@ use Rattle.lvdc_machine.specs.Stands.{Stands}
 use Rattle.lvdc_machine.specs.View.{View, answer_of_end}
 use Rattle.lvdc_machine.specs.declared.mode.Mode.{Mode}
 use Rattle.lvdc_campaign.specs.Campaign.{program_of, trial_under}
-use Rattle.lvdc_campaign.specs.Ran.{HasRun, HasRunPlainly, NoneFailed}
+use Rattle.lvdc_campaign.specs.Ran.{HasRun, HasRunPlainly, NoneFailed, NonePlainlyFailed}
 use Rattle.lvdc_campaign.specs.Same.{end_by}
 
 -- a list without a port is empty
@@ -33,6 +33,24 @@ none-there device_of [] none = refl
 none-there device_of (b ∷ bs) none =
     let port = (device_of b).port in
     absurd (none port (rw (eq-eqb port port refl) refl))
+
+-- a plain machine that stands after so many times, of whose devices none has failed, shows the plain run with its end
+plain-end : (p : Opening) (n : ℕ) (m : plain_view.View) (ds : List device.Device) (end : Option PlainEnd) → NonePlainlyFailed end → plain.EndsAs p n m ds end
+    → plain.Shows m (run p n).plain × (end ≡ end_by (run p n).plain.stop (run p n).plain.times)
+plain-end p n m ds None u r = (r.shows, sym (ap (λ (s : Option Stop). end_by s (run p n).plain.times) r.stop))
+plain-end p n m ds (Some plain_ends.Done) u r = absurd r
+plain-end p n m ds (Some (plain_ends.Stopped step stop)) u r =
+    let times = r.shows.times in
+    let is = r.step in
+    let last : step ≡ 3 * (run p n).plain.times - 1 = omega (arith, times, is) in
+    (r.shows, ap (λ (k : ℕ). Some (plain_ends.Stopped k stop)) last ∙ sym (ap (λ (s : Option Stop). end_by s (run p n).plain.times) r.stop))
+plain-end p n m ds (Some (plain_ends.Device step port)) u r = absurd u
+
+pub ran-plainly : (p : Opening) (n : ℕ) (m : plain_view.View) (ds : List device.Device) → m.banks ≡ p.banks → plain.Stands p n m ds → NonePlainlyFailed m.end
+    → HasRunPlainly p n m
+ran-plainly p n m ds banks stands unfailed =
+    let both = plain-end p n m ds m.end unfailed stands.ends in
+    record { banks = banks; shows = both.0; end = both.1 }
 
 module _ {B : Type 0} (device_of : B → device.Device) (faults : B → ℕ) (image : List Placed) (start : HopConstant) (banks : ℕ)
     (unplugs : List Unplug) (old ready new : List B) (no_lines : unplugs ≡ []) (no_devices : old ≡ [])
@@ -80,23 +98,19 @@ module _ {B : Type 0} (device_of : B → device.Device) (faults : B → ℕ) (im
         banks = later.shows.banks;
         script = later.shows.script;
         mode_is = mode_is;
+        left = [];
         stands = subst (λ (ds : List device.Device). Stands o (3 * times) m ds) empty-after later;
         unfailed = unfailed m.end (subst C is cause);
       }
 
   -- the plain machine
-  plain-end : (p : Opening) (n : ℕ) (m : plain_view.View) (end : Option PlainEnd) → plain.EndsAs p n m (map device_of new) end
+  unfailed-plainly : (end : Option PlainEnd)
       → plain.Caused (plain_view.answer_of_end end) (λ port. count_at device_of faults port ready) (λ port. count_at device_of faults port new)
-      (λ port. has_port device_of port new)
-      → plain.Shows m (run p n).plain × (end ≡ end_by (run p n).plain.stop (run p n).plain.times)
-  plain-end p n m None r c = (r.shows, sym (ap (λ (s : Option Stop). end_by s (run p n).plain.times) r.stop))
-  plain-end p n m (Some plain_ends.Done) r c = absurd r
-  plain-end p n m (Some (plain_ends.Stopped step stop)) r c =
-      let times = r.shows.times in
-      let is = r.step in
-      let last : step ≡ 3 * (run p n).plain.times - 1 = omega (arith, times, is) in
-      (r.shows, ap (λ (k : ℕ). Some (plain_ends.Stopped k stop)) last ∙ sym (ap (λ (s : Option Stop). end_by s (run p n).plain.times) r.stop))
-  plain-end p n m (Some (plain_ends.Device step port)) r c =
+      (λ port. has_port device_of port new) → NonePlainlyFailed end
+  unfailed-plainly None c = tt
+  unfailed-plainly (Some plain_ends.Done) c = tt
+  unfailed-plainly (Some (plain_ends.Stopped step stop)) c = tt
+  unfailed-plainly (Some (plain_ends.Device step port)) c =
       absurd (none port (rose-has device_of faults port (count_at device_of faults port ready) new c.rose))
 
   pub has_run_plainly : (times : ℕ) (m : plain_view.View) (answer : PlainEnd) → m.banks ≡ banks
@@ -111,5 +125,4 @@ module _ {B : Type 0} (device_of : B → device.Device) (faults : B → ℕ) (im
       let C : PlainEnd → Type 0 = λ e. plain.Caused e (λ port. count_at device_of faults port ready) (λ port. count_at device_of faults port new) (λ port. has_port device_of port new) in
       let here : plain.Stands p (0 + times) m (map device_of new) = subst S is_program stands in
       let later : plain.Stands p times m (map device_of new) = subst (λ (n : ℕ). plain.Stands p n m (map device_of new)) (zero-add times) here in
-      let both = plain-end p times m m.end later.ends (subst C is cause) in
-      record { banks = banks_are; shows = both.0; end = both.1 }
+      ran-plainly p times m (map device_of new) banks_are later (unfailed-plainly m.end (subst C is cause))

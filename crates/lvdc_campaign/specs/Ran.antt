@@ -1,10 +1,13 @@
--- What machines without devices come to.
-use Rattle.std.specs.Prelude.{◌≡◌, ℕ, ◌*◌, []}
+-- What machines come to in whole runs.
+use Rattle.std.specs.Prelude.{◌≡◌, ℕ, ◌*◌, List}
 use Rattle.std.specs.declared.option.Option.{Option}
 use Rattle.std.specs.declared.option.Option.TheVariants.{None, Some}
+use Rattle.lvdc_port.specs.Device as device
 use Rattle.lvdc_plain.specs.Run.{Opening, run}
 use Rattle.lvdc_plain.specs.Stands as plain
 use Rattle.lvdc_plain.specs.View as plain_view
+use Rattle.lvdc_plain.specs.declared.records.PlainEnd.{PlainEnd}
+use Rattle.lvdc_plain.specs.declared.records.PlainEnd.TheVariants as plain_ends
 use Rattle.lvdc_fault.specs.declared.verdict.Verdict.{Verdict}
 use Rattle.lvdc_fault.specs.declared.verdict.Verdict.TheVariants.{Admissible}
 use Rattle.lvdc_model.specs.Trial.{Trial}
@@ -22,6 +25,13 @@ pub record HasRunPlainly (program : Opening) (times : ℕ) (m : plain_view.View)
   pub shows : plain.Shows m (run program times).plain
   pub end : m.end ≡ end_in (run program times).plain
 
+-- no device's failure is the end of the plain machine
+abbrev pub NonePlainlyFailed : Option PlainEnd → Type 0
+NonePlainlyFailed None = Unit {0}
+NonePlainlyFailed (Some plain_ends.Done) = Unit {0}
+NonePlainlyFailed (Some (plain_ends.Stopped step stop)) = Unit {0}
+NonePlainlyFailed (Some (plain_ends.Device step port)) = ⊥
+
 -- no device's failure is the end
 abbrev pub NoneFailed : Option Outcome → Type 0
 NoneFailed None = Unit {0}
@@ -38,11 +48,12 @@ verdict_in (Some (Stopped step stop)) = Admissible
 verdict_in (Some (Inadmissible verdict)) = verdict
 verdict_in (Some (Device step port)) = Admissible
 
--- the voted machine stands in this mode after so many times of a trial, without devices
+-- the voted machine stands in this mode after so many times of a trial, over the devices that are left, of which none has failed
 pub record HasRun (mode : Mode) (o : Trial) (times : ℕ) (m : View) : Type 0 where
   pub opening : IsOpening o.opening
   pub banks : m.banks ≡ o.opening.banks
   pub script : m.script ≡ o.script
   pub mode_is : m.mode ≡ mode
-  pub stands : Stands o (3 * times) m []
+  pub left : List device.Device
+  pub stands : Stands o (3 * times) m left
   pub unfailed : NoneFailed m.end

@@ -1,9 +1,18 @@
-ghost use Rattle.std.specs.Prelude.{◌≡◌, ℕ, true};
+ghost use Rattle.std.specs.Prelude.{◌≡◌, ℕ, ◌*◌, List, true};
 ghost use Rattle.lvdc_fault.specs.declared.verdict.Verdict.TheVariants.{Admissible};
 ghost use Rattle.lvdc_laws_voted.specs.Ends.{IsOpening};
-ghost use Rattle.lvdc_model.specs.Judging.{first_bad};
+ghost use Rattle.lvdc_port.specs.Device.{Device};
+ghost use Rattle.lvdc_plain.specs.Run.{Opening};
+ghost use Rattle.lvdc_plain.specs.Stands.{Stands};
+ghost use Rattle.lvdc_plain.specs.View as plain_view;
+ghost use Rattle.lvdc_machine.specs.Shows.{Shows};
+ghost use Rattle.lvdc_machine.specs.View.{View};
+ghost use Rattle.lvdc_machine.specs.declared.mode.Mode.TheVariants.{Through};
+ghost use Rattle.lvdc_model.specs.Judging.{first_bad, first_bad_below};
+ghost use Rattle.lvdc_model.specs.Runs.{through, guarded};
 ghost use Rattle.lvdc_model.specs.Trial.{Trial};
 ghost use Rattle.lvdc_campaign.specs.Campaign.{is_same};
+ghost use Rattle.lvdc_campaign.specs.Ran.{HasRun, HasRunPlainly, NonePlainlyFailed};
 
 /// A law, which does nothing when it runs: under a script whose steps are all admissible the run through every fault comes to
 /// what the plain run comes to.
@@ -14,3 +23,21 @@ pub fn admissible_is_same()
     lvdc_laws_voted::guarded_times();
     lvdc_laws_voted::guarded_ends();
 }
+
+/// A law: as long as all steps are admissible the run through every fault is the guarded run.
+pub fn through_is_guarded()
+    ensures { (o : Trial) (n : ℕ) → IsOpening o.opening → first_bad_below o n ≡ Admissible → through o n ≡ guarded o n }
+{
+    lvdc_laws_voted::guarded_run();
+}
+
+/// A law: a plain machine that stands after so many times has run plainly, unless a device failed.
+pub fn plain_machine_has_run()
+    ensures { (program : Opening) (times : ℕ) (m : plain_view.View) (devices : List Device) → m.banks ≡ program.banks → Stands program times m devices
+        → NonePlainlyFailed m.end → HasRunPlainly program times m }
+{}
+
+/// A law: a voted machine that has gone through every fault shows the state to which that run comes.
+pub fn through_is_shown()
+    ensures { (o : Trial) (times : ℕ) (m : View) (run : HasRun Through o times m) → Shows o m run.left (through o (3 * times)) }
+{}

@@ -9,9 +9,11 @@ mod rows;
 mod runs;
 mod same;
 
-pub use laws::admissible_is_same;
+pub use laws::{admissible_is_same, plain_machine_has_run, through_is_guarded, through_is_shown};
 pub use row::Row;
 pub use rows::campaign;
+pub use runs::{is_admissible, verdict_of};
+pub use same::{are_same_registers, is_same_end, is_same_word};
 
 /// The most instruction times of a campaign (this project's profile).
 pub const MOST_TIMES: u64 = 10_000;

@@ -76,7 +76,7 @@ fn verdict_in(end: Option<Outcome>) -> Verdict
 }
 
 /// The verdict of the script of a machine that judges.
-pub(crate) fn verdict_of(machine: &Machine) -> Verdict
+pub fn verdict_of(machine: &Machine) -> Verdict
     ensures { (o : Trial) (times : ℕ) → HasRun Guarded o times machine.now → result ≡ first_bad o times }
 {
     guarded_follows();
@@ -84,7 +84,7 @@ pub(crate) fn verdict_of(machine: &Machine) -> Verdict
 }
 
 /// Is no step inadmissible?
-pub(crate) fn is_admissible(verdict: &Verdict) -> bool
+pub fn is_admissible(verdict: &Verdict) -> bool
     ensures { IsTrue result ↔ (verdict.now ≡ verdicts.Admissible) }
 {
     matches!(verdict, Verdict::Admissible)

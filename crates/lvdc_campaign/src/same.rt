@@ -13,7 +13,7 @@ use lvdc_map::Address;
 use lvdc_plain::{Exchange, Plain, PlainEnd, Visible};
 
 /// Is it the same end?
-fn is_same_end(voted: Option<Outcome>, plain: Option<PlainEnd>) -> bool
+pub fn is_same_end(voted: Option<Outcome>, plain: Option<PlainEnd>) -> bool
     ensures { result ≡ is_same_end voted plain }
 {
     match (voted, plain) {
@@ -32,7 +32,7 @@ fn is_same_end(voted: Option<Outcome>, plain: Option<PlainEnd>) -> bool
 }
 
 /// Are they the same registers? It stands for its clause alone, which proofs cite.
-fn are_same_registers(voted: &Visible, plain: &Visible) -> bool
+pub fn are_same_registers(voted: &Visible, plain: &Visible) -> bool
     ensures { result ≡ are_same_registers voted.now plain.now }
 {
     voted == plain
@@ -46,7 +46,7 @@ fn is_same_log(voted: &[Exchange], plain: &[Exchange]) -> bool
 }
 
 /// Is the intended word of an address the plain machine's, where its bank is there?
-fn is_same_word(machine: &Machine, plain: &Plain, at: Address) -> bool
+pub fn is_same_word(machine: &Machine, plain: &Plain, at: Address) -> bool
     requires { machine.now.banks ≡ plain.now.banks }
     ensures { (o : Trial) (times : ℕ) → HasRun Through o times machine.now → HasRunPlainly o.opening times plain.now
         → result ≡ is_same_word o.opening.banks (through o (3 * times)).intended (plain_at o times).memory at }

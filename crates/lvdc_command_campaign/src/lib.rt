@@ -5,3 +5,4 @@ mod reply;
 mod text;
 
 pub use reply::study_bytes;
+pub use text::put_verdict;

@@ -11,8 +11,8 @@ use lvdc_text::put_decimal;
 use lvdc_word::NoMemory;
 use std::alloc::Global;
 
-/// Adds a verdict.
-fn put_verdict(out: &mut Vec<u8>, verdict: Verdict) -> Result<(), NoMemory>
+/// Adds a verdict; its step and its module are decimal.
+pub fn put_verdict(out: &mut Vec<u8>, verdict: Verdict) -> Result<(), NoMemory>
     ensures text { OnOk result (out.new.items ≡ out.old.items ++ verdict_text verdict) }
     ensures short { OnOk result (length out.new.items ≤ length out.old.items + 36) }
 {

@@ -17,7 +17,7 @@ pub use exchanges::{put_exchange_line, put_log};
 pub use redundancy::{put_repair_line, put_repairs};
 pub use registers::put_registers;
 pub use report::{LONGEST_REPORT, report_plain};
-pub use soak::report_soak;
+pub use soak::{all_counts, report_soak};
 pub use title::Title;
 pub use voted::report_run;
 pub use words::{put_memory_line, put_unknown_line};

@@ -27,8 +27,8 @@ fn three_counts(machine: &Machine, number: u8) -> u64
     machine.differed(number, 1) + machine.differed(number, 2) + machine.differed(number, 3)
 }
 
-/// The same of all 21 copies.
-fn all_counts(machine: &Machine) -> u64
+/// In how many steps each of the 21 copies of the modules differed from its vote, summed.
+pub fn all_counts(machine: &Machine) -> u64
     ensures { result ≡ all_counts machine.now.counts }
 {
     let mut sum = 0;

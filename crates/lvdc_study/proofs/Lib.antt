@@ -1,0 +1,7 @@
+mod Rows
+mod Agree
+mod Least
+mod Judged
+mod Making
+mod Parts
+mod Rowing

@@ -1,0 +1,102 @@
+-- Runs over devices that have the words of the TAPE lines.
+use Rattle.std.proofs.Common.{◌≡◌, ℕ, ◌+◌, ◌*◌, ◌==◌, List, [], ◌∷◌, map, refl, subst, zero-add}
+use Rattle.std.specs.Bool.{if◌then◌else◌}
+use Rattle.std.specs.declared.option.Option.{Option}
+use Rattle.std.specs.declared.option.Option.TheVariants.{None, Some}
+use Rattle.lvdc_port.specs.Causes.{Rose}
+use Rattle.lvdc_port.specs.Device as device
+use Rattle.lvdc_port.specs.Devices.{count_at}
+use Rattle.lvdc_port.specs.Supplies.{ports_of, supplied}
+use Rattle.lvdc_plain.specs.Calls as plain_calls
+use Rattle.lvdc_plain.specs.Run.{Opening}
+use Rattle.lvdc_plain.specs.Stands as plain
+use Rattle.lvdc_plain.specs.View as plain_view
+use Rattle.lvdc_plain.specs.declared.records.PlainEnd.{PlainEnd}
+use Rattle.lvdc_plain.specs.declared.records.PlainEnd.TheVariants as plain_ends
+use Rattle.lvdc_plain.specs.declared.records.Unplug.{Unplug}
+use Rattle.lvdc_fault.specs.declared.event.Event.{Event}
+use Rattle.lvdc_model.specs.declared.outcome.Outcome.{Outcome}
+use Rattle.lvdc_model.specs.declared.outcome.Outcome.TheVariants.{Done, Stopped, Inadmissible, Device}
+use Rattle.lvdc_laws_voted.specs.Ends.{IsOpening}
+use Rattle.lvdc_machine.specs.Causes.{HasCause}
+use Rattle.lvdc_machine.specs.Stands.{Stands}
+use Rattle.lvdc_machine.specs.View.{View, answer_of_end}
+use Rattle.lvdc_machine.specs.declared.mode.Mode.{Mode}
+use Rattle.lvdc_campaign.specs.Campaign.{trial_under}
+use Rattle.lvdc_campaign.specs.Ran.{HasRun, HasRunPlainly, NoneFailed, NonePlainlyFailed}
+use Rattle.lvdc_study.specs.Failures.{EndsIn, EndsPlainlyIn}
+use Rattle.lvdc_study.specs.Study.{opening_over}
+use Rattle.lvdc_study.specs.declared.program.Program.{Program}
+
+-- what a machine was made of is the opening of the program over the devices
+module _ (p : Program) (devices ready : List device.Device) (unplugs : List Unplug) (u : unplugs ≡ p.unplugs.now) (r : ready ≡ supplied p.supplies.now devices) where
+  opening-same : record { image = p.image.now; banks = p.banks; start = p.start; unplugs = unplugs; devices = ready } ≡ opening_over p devices
+  opening-same = λ i. record { image = p.image.now; banks = p.banks; start = p.start; unplugs = u i; devices = r i }
+
+  pub plainly-run : ((program : Opening) (times : ℕ) (m : plain_view.View) (ds : List device.Device) → m.banks ≡ program.banks → plain.Stands program times m ds
+      → NonePlainlyFailed m.end → HasRunPlainly program times m)
+      → (m : plain_view.View) (now : List device.Device) → m.banks ≡ p.banks
+      → plain.Stands (record { image = p.image.now; banks = p.banks; start = p.start; unplugs = unplugs; devices = ready }) (0 + p.count) m now
+      → NonePlainlyFailed m.end → HasRunPlainly (opening_over p devices) p.count m
+  plainly-run law m now banks stands unfailed =
+      let here : plain.Stands (opening_over p devices) (0 + p.count) m now = subst (λ (o : Opening). plain.Stands o (0 + p.count) m now) opening-same stands in
+      let later : plain.Stands (opening_over p devices) p.count m now = subst (λ (n : ℕ). plain.Stands (opening_over p devices) n m now) (zero-add p.count) here in
+      law (opening_over p devices) p.count m now banks later unfailed
+
+  pub has-run : (script : List Event) (mode : Mode) (m : View) (now : List device.Device)
+      → IsOpening (record { image = p.image.now; banks = p.banks; start = p.start; unplugs = unplugs; devices = ready }) → m.mode ≡ mode
+      → Stands (trial_under (record { image = p.image.now; banks = p.banks; start = p.start; unplugs = unplugs; devices = ready }) script) (0 + 3 * p.count) m now
+      → NoneFailed m.end → HasRun mode (trial_under (opening_over p devices) script) p.count m
+  has-run script mode m now opens mode_is stands unfailed =
+      let o = trial_under (opening_over p devices) script in
+      let here : Stands o (0 + 3 * p.count) m now = subst (λ (q : Opening). Stands (trial_under q script) (0 + 3 * p.count) m now) opening-same stands in
+      let later : Stands o (3 * p.count) m now = subst (λ (n : ℕ). Stands o n m now) (zero-add (3 * p.count)) here in
+      record {
+        opening = subst IsOpening opening-same opens;
+        banks = later.shows.banks;
+        script = later.shows.script;
+        mode_is = mode_is;
+        left = now;
+        stands = later;
+        unfailed = unfailed;
+      }
+
+-- ---- devices that fail
+
+-- devices with the same ports and the same counts, one by one, have the same count at each port
+pub counts-stay : {B : Type 0} (device_of : B → device.Device) (count : B → ℕ) (port : ℕ) (xs ys : List B)
+    → ports_of (map device_of xs) ≡ ports_of (map device_of ys) → map count xs ≡ map count ys
+    → count_at device_of count port xs ≡ count_at device_of count port ys
+counts-stay device_of count port [] [] e f = refl
+counts-stay device_of count port [] (y ∷ ys) e f = absurd (cc)
+counts-stay device_of count port (x ∷ xs) [] e f = absurd (cc)
+counts-stay device_of count port (x ∷ xs) (y ∷ ys) e f =
+    let place : (device_of x).port ≡ (device_of y).port = cc in
+    let number : count x ≡ count y = cc in
+    let later : ports_of (map device_of xs) ≡ ports_of (map device_of ys) = cc in
+    let counts : map count xs ≡ map count ys = cc in
+    let rest = counts-stay device_of count port xs ys later counts in
+    λ i. if place i == port then number i else rest i
+
+module _ {B : Type 0} (device_of : B → device.Device) (faults : B → ℕ) (old ready new : List B)
+    (ports : ports_of (map device_of ready) ≡ ports_of (map device_of old)) (counts : map faults ready ≡ map faults old) where
+  rose-since : (failed port : ℕ) → failed ≡ port → Rose (count_at device_of faults failed ready) (count_at device_of faults failed new)
+      → Rose (count_at device_of faults port old) (count_at device_of faults port new)
+  rose-since failed port is rose =
+      subst (λ (k : ℕ). Rose k (count_at device_of faults port new)) (counts-stay device_of faults port ready old ports counts)
+      (subst (λ (q : ℕ). Rose (count_at device_of faults q ready) (count_at device_of faults q new)) is rose)
+
+  pub has-failed : (end : Option Outcome) (port : ℕ) → EndsIn end port → HasCause device_of faults (answer_of_end end) ready new
+      → Rose (count_at device_of faults port old) (count_at device_of faults port new)
+  has-failed None port is c = absurd is
+  has-failed (Some Done) port is c = absurd is
+  has-failed (Some (Stopped step stop)) port is c = absurd is
+  has-failed (Some (Inadmissible verdict)) port is c = absurd is
+  has-failed (Some (Device step failed)) port is c = rose-since failed port is c.rose
+
+  pub has-plainly-failed : (end : Option PlainEnd) (port : ℕ) → EndsPlainlyIn end port → plain_calls.HasCause device_of faults (plain_view.answer_of_end end) ready new
+      → Rose (count_at device_of faults port old) (count_at device_of faults port new)
+  has-plainly-failed None port is c = absurd is
+  has-plainly-failed (Some plain_ends.Done) port is c = absurd is
+  has-plainly-failed (Some (plain_ends.Stopped step stop)) port is c = absurd is
+  has-plainly-failed (Some (plain_ends.Device step failed)) port is c = rose-since failed port is c.rose

@@ -1,0 +1,74 @@
+-- A row, by what the runs of its script came to.
+use Rattle.std.proofs.Common.{◌≡◌, ℕ, ◌*◌, Bool, true, List, sym, subst, ◌∙◌}
+use Rattle.std.specs.declared.option.Option.{Option}
+use Rattle.std.specs.declared.option.Option.TheVariants.{None}
+use Rattle.lvdc_port.specs.Device.{Device}
+use Rattle.lvdc_plain.specs.Run.{Opening}
+use Rattle.lvdc_plain.specs.View as plain_view
+use Rattle.lvdc_fault.specs.declared.event.Event.{Event}
+use Rattle.lvdc_fault.specs.declared.named.Named.{Named}
+use Rattle.lvdc_fault.specs.declared.verdict.Verdict.{Verdict}
+use Rattle.lvdc_fault.specs.declared.verdict.Verdict.TheVariants.{Admissible}
+use Rattle.lvdc_masks.specs.Form.{masks}
+use Rattle.lvdc_model.specs.declared.repair.Repair.{Repair}
+use Rattle.lvdc_model.specs.Judging.{first_bad}
+use Rattle.lvdc_model.specs.Runs.{through}
+use Rattle.lvdc_model.specs.Trial.{Trial}
+use Rattle.lvdc_laws_repair.specs.Withstood.{Masked}
+use Rattle.lvdc_laws_voted.specs.Ends.{IsOpening}
+use Rattle.lvdc_machine.specs.Shows.{Shows}
+use Rattle.lvdc_machine.specs.View.{View}
+use Rattle.lvdc_machine.specs.declared.mode.Mode.TheVariants.{Guarded, Through}
+use Rattle.lvdc_campaign.specs.Campaign.{trial_under}
+use Rattle.lvdc_campaign.specs.Ran.{HasRun, HasRunPlainly}
+use Rattle.lvdc_study.specs.declared.difference.Difference.{Difference}
+use Rattle.lvdc_study.specs.declared.program.Program.{Program}
+use Rattle.lvdc_study.specs.Outcomes.{first_difference}
+use Rattle.lvdc_study.specs.Study.{opening_over, row_with, row_of, IsSame}
+
+row-is : (opening : Opening) (times : ℕ) (named : Named) (verdict : Verdict) (difference : Option Difference) (counts : List (List ℕ)) (repairs : List Repair) (form : Bool)
+    → verdict ≡ first_bad (trial_under opening named.script) times → difference ≡ first_difference (trial_under opening named.script) times
+    → counts ≡ (through (trial_under opening named.script) (3 * times)).counts → repairs ≡ (through (trial_under opening named.script) (3 * times)).repairs
+    → form ≡ masks named.script opening.banks times → row_with named.name verdict difference counts repairs form ≡ row_of opening times named
+row-is opening times named verdict difference counts repairs form v d c r f = λ i. row_with named.name (v i) (d i) (c i) (r i) (f i)
+
+-- a machine has judged a script over these devices, and this is what it tells of the verdict; and whether the script masks by form is this
+module _ (p : Program) (devices : List Device) (named : Named) (judged : View) (run : HasRun Guarded (trial_under (opening_over p devices) named.script) p.count judged)
+    (verdict : Verdict) (tells : (o : Trial) (times : ℕ) → HasRun Guarded o times judged → verdict ≡ first_bad o times)
+    (form : Bool) (is_form : form ≡ masks named.script p.banks p.count) where
+  abbrev o : Trial
+  o = trial_under (opening_over p devices) named.script
+
+  -- where the verdict is Admissible
+  pub admissible-row : verdict ≡ Admissible
+      → ((o : Trial) (times : ℕ) → IsOpening o.opening → first_bad o times ≡ Admissible → IsSame o times)
+      → ((o : Trial) (times : ℕ) (m : View) → HasRun Guarded o times m → first_bad o times ≡ Admissible
+      → (m.counts ≡ (through o (3 * times)).counts) × (m.repairs ≡ (through o (3 * times)).repairs))
+      → row_with named.name verdict None judged.counts judged.repairs form ≡ row_of (opening_over p devices) p.count named
+  admissible-row admitted same done =
+      let is = tells o p.count run in
+      let good = sym is ∙ admitted in
+      let counted = done o p.count judged run good in
+      row-is (opening_over p devices) p.count named verdict None judged.counts judged.repairs form is (sym (same o p.count run.opening good).difference)
+      counted.0 counted.1 is_form
+
+  -- a second machine went through every fault, over devices in the same states
+  pub through-row : (second : List Device) (again : List Event) (m : View) → second ≡ devices → again ≡ judged.script
+      → HasRun Through (trial_under (opening_over p second) again) p.count m
+      → ((o : Trial) (times : ℕ) (m : View) (h : HasRun Through o times m) → Shows o m h.left (through o (3 * times)))
+      → (plain : plain_view.View) → HasRunPlainly (opening_over p devices) p.count plain
+      → (difference : Option Difference)
+      → ((o : Trial) (times : ℕ) → HasRun Through o times m → HasRunPlainly o.opening times plain → difference ≡ first_difference o times)
+      → row_with named.name verdict difference m.counts m.repairs form ≡ row_of (opening_over p devices) p.count named
+  through-row second again m d s went shows plain ran difference differs =
+      let script : again ≡ named.script = s ∙ run.script in
+      let same : trial_under (opening_over p second) again ≡ o = λ i. trial_under (opening_over p (d i)) (script i) in
+      let gone : HasRun Through o p.count m = subst (λ (t : Trial). HasRun Through t p.count m) same went in
+      let shown = shows o p.count m gone in
+      row-is (opening_over p devices) p.count named verdict difference m.counts m.repairs form (tells o p.count run) (differs o p.count gone ran)
+      shown.counts shown.repairs is_form
+
+  -- a script that masks by form is admissible
+  pub form-admits : ((o : Trial) (count : ℕ) → IsOpening o.opening → masks o.script o.opening.banks count ≡ true → Masked o count)
+      → form ≡ true → verdict ≡ Admissible
+  form-admits law masking = tells o p.count run ∙ (law o p.count run.opening (sym is_form ∙ masking)).verdict

@@ -1,0 +1,17 @@
+use Rattle.std.proofs.Common.{refl, sym, ap, ◌∙◌}
+use Rattle.lvdc_port.specs.Supplies.{ports_of}
+use Rattle.lvdc_study.proofs.Making.{has-run, has-failed}
+use Rattle.lvdc_study.proofs.runs.run_script.Goals as goal
+
+pub returns-in-Some-clause-failed : goal.returns-in-Some-clause-failed
+returns-in-Some-clause-failed g c =
+    let answers = c.run.ensures.answers in
+    has-failed _ _ c.args.devices.now.items c.new.new.devices.items c.run.new.devices.items
+    (ap ports_of c.in_ok-machine.ensures.devices ∙ c.in_ok-supply_all.ensures.ports) (c.in_ok-machine.ensures.faults ∙ c.in_ok-supply_all.ensures.faults)
+    c.run.new.self.end c.in-Some.port c.in-Some.ensures (rw (sym answers.answer) (answers.cause (rw c.in_ok-machine.ensures.begins.fresh.end refl)))
+
+pub returns-in-None-clause-run : goal.returns-in-None-clause-run
+returns-in-None-clause-run g c =
+    let begins = c.in_ok-machine.ensures.begins in
+    has-run c.args.program.now _ _ _ c.in_ok-unplugs.ensures.items c.in_ok-supply_all.ensures.ok c.args.script c.args.mode
+    c.run.new.self _ begins.opening (c.run.ensures.leaves.keeps.mode ∙ begins.fresh.mode_is) (c.run.ensures.stands _ _ 0 begins.stands) c.in-None.ensures

@@ -1,0 +1,36 @@
+ghost use Rattle.std.specs.Prelude.{◌≡◌, ℕ, ◌*◌, is_none};
+ghost use Rattle.lvdc_fault.specs.declared.verdict.Verdict.TheVariants.{Admissible};
+ghost use Rattle.lvdc_laws_voted.specs.Ends.{IsOpening};
+ghost use Rattle.lvdc_machine.specs.View.{View};
+ghost use Rattle.lvdc_machine.specs.declared.mode.Mode.TheVariants.{Guarded};
+ghost use Rattle.lvdc_model.specs.Judging.{first_bad};
+ghost use Rattle.lvdc_model.specs.Runs.{through};
+ghost use Rattle.lvdc_model.specs.Trial.{Trial};
+ghost use Rattle.lvdc_campaign.specs.Campaign.{is_same};
+ghost use Rattle.lvdc_campaign.specs.Ran.{HasRun};
+ghost use Rattle.lvdc_study.specs.Outcomes.{first_difference};
+ghost use Rattle.lvdc_study.specs.Study.{IsSame};
+
+/// A law, which does nothing when it runs: under a script whose steps are all admissible the run through every fault comes to
+/// what the plain run comes to, port log and devices included.
+pub fn admissible_comes_to_the_same()
+    ensures { (o : Trial) (times : ℕ) → IsOpening o.opening → first_bad o times ≡ Admissible → IsSame o times }
+{
+    lvdc_campaign::admissible_is_same();
+    lvdc_campaign::through_is_guarded();
+    lvdc_laws_voted::guarded_times();
+}
+
+/// A law: no difference is told exactly where the run through every fault comes to what the plain run comes to, as in a campaign.
+pub fn no_difference_is_same()
+    ensures { (o : Trial) (times : ℕ) → is_none (first_difference o times) ≡ is_same o times }
+{}
+
+/// A law: where all steps are admissible a machine that judges has counted and repaired what the run through every fault has.
+pub(crate) fn judged_goes_through()
+    ensures { (o : Trial) (times : ℕ) (m : View) → HasRun Guarded o times m → first_bad o times ≡ Admissible
+        → (m.counts ≡ (through o (3 * times)).counts) × (m.repairs ≡ (through o (3 * times)).repairs) }
+{
+    lvdc_campaign::through_is_guarded();
+    lvdc_laws_voted::judges_alone();
+}

@@ -1,0 +1,23 @@
+//! Studies: many scripts against one program with devices, each with its verdict, what its run through every fault came to beside the
+//! plain run, what the redundancy did, and whether the script masks by form.
+#![tactic(auto)]
+
+mod compare;
+mod difference;
+mod fault;
+mod laws;
+mod program;
+mod row;
+mod runs;
+mod study;
+
+pub use difference::Difference;
+pub use fault::Unstudied;
+pub use laws::{admissible_comes_to_the_same, no_difference_is_same};
+pub use program::Program;
+pub use row::Row;
+pub use runs::run_plain;
+pub use study::study_script;
+
+/// The most instruction times of a run (this project's profile).
+pub const MOST_TIMES: u64 = 1_000_000;

@@ -1,0 +1,103 @@
+//! Runs of one program, each over devices in their first states.
+
+ghost use Rattle.std.specs.Prelude.{◌≡◌, ◌≤◌, length, map, All, IfOk, IfErr, MatchOption};
+ghost use Rattle.lvdc_fault.specs.Events.{IsEvent};
+ghost use Rattle.lvdc_port.specs.Devices.{AreDistinct};
+ghost use Rattle.lvdc_campaign.specs.declared.TheConstants.{MOST_EVENTS};
+ghost use Rattle.lvdc_campaign.specs.Campaign.{trial_under};
+ghost use Rattle.lvdc_campaign.specs.Ran.{HasRun, HasRunPlainly, NoneFailed, NonePlainlyFailed};
+ghost use Rattle.lvdc_study.specs.Failures.{HasFailed, EndsIn, EndsPlainlyIn};
+ghost use Rattle.lvdc_study.specs.Study.{opening_over, IsProgram};
+
+use crate::{Program, Unstudied};
+use lvdc_campaign::plain_machine_has_run;
+use lvdc_fault::Script;
+use lvdc_machine::{Machine, Mode, Outcome};
+use lvdc_plain::{Plain, PlainEnd};
+use lvdc_port::{PortDevice, supply_all};
+use std::alloc::Global;
+
+/// The port of the device whose failure is the end, if it is one.
+fn failed_port(machine: &Machine) -> Option<u8>
+    ensures { MatchOption result (NoneFailed machine.now.end) (λ port. EndsIn machine.now.end port) }
+{
+    match machine.ended() {
+        Some(Outcome::Device { port, .. }) => Some(port),
+        _ => None,
+    }
+}
+
+/// The same of the plain machine.
+fn plainly_failed_port(plain: &Plain) -> Option<u8>
+    ensures { MatchOption result (NonePlainlyFailed plain.now.end) (λ port. EndsPlainlyIn plain.now.end port) }
+{
+    match plain.end() {
+        Some(PlainEnd::Device { port, .. }) => Some(port),
+        _ => None,
+    }
+}
+
+/// The plain machine after the times of a program, over devices in their first states.
+pub fn run_plain(
+    alloc: Global,
+    program: &Program<'_>,
+    devices: &mut Vec<Box<dyn PortDevice>>,
+) -> Result<Plain, Unstudied>
+    requires program { IsProgram program.now }
+    requires distinct { AreDistinct (map device_of devices.old.items) }
+    ensures run { IfOk result (λ plain. HasRunPlainly (opening_over program.now (map device_of devices.old.items)) program.now.count plain) }
+    ensures failed { IfErr result (λ e. HasFailed device_of faults e devices.old.items devices.new.items) }
+{
+    plain_machine_has_run();
+    supply_all(devices, program.supplies)?;
+    let unplugs = Vec::from_slice(alloc, program.unplugs)?;
+    let mut plain = Plain::new(
+        alloc,
+        program.image,
+        program.banks,
+        program.start,
+        unplugs,
+        program.count,
+        devices,
+    )?;
+    plain.run(program.count, devices);
+    match plainly_failed_port(&plain) {
+        Some(port) => Err(Unstudied::Device(port)),
+        None => Ok(plain),
+    }
+}
+
+/// The voted machine after the times of a program under a script, over devices in their first states.
+pub(crate) fn run_script(
+    alloc: Global,
+    program: &Program<'_>,
+    mode: Mode,
+    script: Script,
+    devices: &mut Vec<Box<dyn PortDevice>>,
+) -> Result<Machine, Unstudied>
+    requires program { IsProgram program.now }
+    requires few { length script ≤ MOST_EVENTS }
+    requires events { All IsEvent script }
+    requires distinct { AreDistinct (map device_of devices.old.items) }
+    ensures run { IfOk result (λ machine. HasRun mode (trial_under (opening_over program.now (map device_of devices.old.items)) script) program.now.count machine) }
+    ensures failed { IfErr result (λ e. HasFailed device_of faults e devices.old.items devices.new.items) }
+{
+    supply_all(devices, program.supplies)?;
+    let unplugs = Vec::from_slice(alloc, program.unplugs)?;
+    let mut machine = Machine::new(
+        alloc,
+        program.image,
+        program.banks,
+        program.start,
+        script,
+        unplugs,
+        mode,
+        program.count,
+        devices,
+    )?;
+    machine.run(program.orders, program.count, devices);
+    match failed_port(&machine) {
+        Some(port) => Err(Unstudied::Device(port)),
+        None => Ok(machine),
+    }
+}

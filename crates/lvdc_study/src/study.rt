@@ -1,0 +1,107 @@
+//! The row of a script.
+
+ghost use Rattle.std.specs.Prelude.{◌≡◌, map, true, IfOk, IfErr, ◌⊎◌};
+ghost use Rattle.lvdc_fault.specs.declared.verdict.Verdict.TheVariants as verdicts;
+ghost use Rattle.lvdc_masks.specs.Form.{masks};
+ghost use Rattle.lvdc_port.specs.Devices.{AreDistinct};
+ghost use Rattle.std.specs.declared.option.Option.TheVariants.{None};
+ghost use Rattle.lvdc_campaign.specs.Campaign.{trial_under, IsScript};
+ghost use Rattle.lvdc_campaign.specs.Ran.{HasRunPlainly};
+ghost use Rattle.lvdc_study.specs.Failures.{HasFailed};
+ghost use Rattle.lvdc_study.specs.Study.{opening_over, IsProgram, first_step, row_with, row_of};
+
+use crate::compare::first_difference;
+use crate::laws::{admissible_comes_to_the_same, judged_goes_through};
+use crate::runs::run_script;
+use crate::{Difference, Program, Row, Unstudied};
+use lvdc_campaign::{is_admissible, through_is_shown, verdict_of};
+use lvdc_fault::{Named, Script, Verdict};
+use lvdc_laws_masking::form_masks;
+use lvdc_machine::{Machine, Mode};
+use lvdc_masks::first_unmet;
+use lvdc_model::Repair;
+use lvdc_plain::Plain;
+use lvdc_port::PortDevice;
+use lvdc_report::all_counts;
+use lvdc_word::{NoMemory, Seq};
+use std::alloc::Global;
+
+/// The step of the first repair.
+fn first_step(repairs: &[Repair]) -> Option<u64>
+    ensures { result ≡ first_step repairs.now }
+{
+    let repair = repairs.first()?;
+    Some(repair.step)
+}
+
+/// The row of a name, with what a machine counted and repaired.
+fn row_with(
+    name: Seq<u8>,
+    verdict: Verdict,
+    difference: Option<Difference>,
+    machine: &Machine,
+    masks: bool,
+) -> Row
+    ensures { result ≡ row_with name verdict difference machine.now.counts machine.now.repairs masks }
+{
+    let repairs = machine.repairs();
+    Row {
+        name,
+        verdict,
+        difference,
+        copies: all_counts(machine),
+        repairs: repairs.len() as u64,
+        first_repair: first_step(repairs),
+        masks,
+    }
+}
+
+/// Whether a script masks by form in the run of a program.
+fn masks(alloc: Global, program: &Program<'_>, script: &Script) -> Result<bool, NoMemory>
+    ensures { IfOk result (λ answer. answer ≡ masks script.now program.now.banks program.now.count) }
+{
+    let unmet = first_unmet(alloc, script, program.banks, program.count)?;
+    Ok(unmet.is_none())
+}
+
+/// The row of a script, beside the plain run of the same program. Each run has devices of its own, in their first states: a script
+/// that isn't admissible has a second run, through every fault, over the second ones.
+pub fn study_script(
+    alloc: Global,
+    program: &Program<'_>,
+    plain: &Plain,
+    named: Named,
+    first: &mut Vec<Box<dyn PortDevice>>,
+    second: &mut Vec<Box<dyn PortDevice>>,
+) -> Result<Row, Unstudied>
+    requires program { IsProgram program.now }
+    requires plain { HasRunPlainly (opening_over program.now (map device_of first.old.items)) program.now.count plain.now }
+    requires script { IsScript named }
+    requires distinct { AreDistinct (map device_of first.old.items) }
+    requires alike { map device_of second.old.items ≡ map device_of first.old.items }
+
+    // The row of the definition. The orders of latching don't matter.
+    ensures row { IfOk result (λ row. row ≡ row_of (opening_over program.now (map device_of first.old.items)) program.now.count named) }
+
+    // Each admissible script comes to what the plain run comes to, and one that masks by form is admissible.
+    ensures same { IfOk result (λ row. row.verdict ≡ verdicts.Admissible → row.difference ≡ None) }
+    ensures form { IfOk result (λ row. row.masks ≡ true → row.verdict ≡ verdicts.Admissible) }
+    ensures failed { IfErr result (λ e. HasFailed device_of faults e first.old.items first.new.items
+        ⊎ HasFailed device_of faults e second.old.items second.new.items) }
+{
+    admissible_comes_to_the_same();
+    form_masks();
+    judged_goes_through();
+    through_is_shown();
+    let Named { name, script } = named;
+    let masks = masks(alloc, program, &script)?;
+    let machine = run_script(alloc, program, Mode::Guarded, script, first)?;
+    let verdict = verdict_of(&machine);
+    if is_admissible(&verdict) {
+        return Ok(row_with(name, verdict, None, &machine, masks));
+    }
+    let again = machine.script(alloc)?;
+    let machine = run_script(alloc, program, Mode::Through, again, second)?;
+    let difference = first_difference(&machine, plain);
+    Ok(row_with(name, verdict, difference, &machine, masks))
+}
