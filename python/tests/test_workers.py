@@ -155,6 +155,21 @@ def test_a_worker_is_found_or_it_is_said_what_to_do(program: Path, monkeypatch: 
     assert find_worker().name == "lvdc-worker"
 
 
+def test_a_program_that_is_none(tmp_path: Path) -> None:
+    with pytest.raises(NoWorker, match="is no program"):
+        Worker(tmp_path / "none")
+
+
+def test_a_program_in_this_folder_is_not_looked_for_elsewhere(program: Path, monkeypatch: pytest.MonkeyPatch) -> None:
+    monkeypatch.chdir(program.parent)
+    assert Worker(f"./{program.name}").program == program.resolve()
+    with pytest.raises(NoWorker, match="is no program"):
+        Worker("./ls")
+
+
 def test_a_program_that_cant_be_started(tmp_path: Path) -> None:
+    broken = tmp_path / "broken"
+    broken.write_text("#!/none\n")
+    broken.chmod(0o755)
     with pytest.raises(NoWorker, match="can't be started"):
-        Worker(tmp_path / "none").ask(["run"])
+        Worker(broken).ask(["run"])

@@ -50,6 +50,14 @@ class Asker(Protocol):
         """Asks with these words and this input; `limit` is in seconds."""
 
 
+def named_program(name: str | os.PathLike[str]) -> Path:
+    """The program of this name: a file where the name has a folder, `./` among them, else that on PATH."""
+    found = shutil.which(name)
+    if found is None:
+        raise NoWorker(f"{os.fspath(name)} is no program: name the lvdc-worker that ./build makes")
+    return Path(found).resolve()
+
+
 def find_worker() -> Path:
     """The program: what LVDC_WORKER names; else lvdc-worker beside the package or above its sources; else that on PATH."""
     named = os.environ.get("LVDC_WORKER")
@@ -87,7 +95,7 @@ class Worker:
     own; None is no limit."""
 
     def __init__(self, program: str | os.PathLike[str] | None = None, *, limit: float | None = None) -> None:
-        self.program = find_worker() if program is None else Path(program)
+        self.program = find_worker() if program is None else named_program(program)
         self.limit = limit
         self._lock = threading.Lock()
         self._is_killed = False
