@@ -1,5 +1,4 @@
 mod Rows
 mod Clear
-mod Supplying
 mod Plain
 mod Telling

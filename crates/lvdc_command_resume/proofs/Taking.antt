@@ -16,7 +16,7 @@ use Rattle.lvdc_plain.proofs.Causes.{since-more}
 use Rattle.lvdc_plain.proofs.Lefts.{others-in}
 use Rattle.lvdc_plain.specs.Lists.{Since}
 use Rattle.lvdc_plain.specs.declared.records.Unplug.{Unplug}
-use Rattle.lvdc_command_run.proofs.Counts.{count-same}
+use Rattle.lvdc_port.proofs.Lists.{count-same}
 use Rattle.lvdc_command_resume.specs.declared.restore.Unrestored.{Unrestored}
 use Rattle.lvdc_command_resume.specs.declared.restore.Unrestored.TheVariants.{NoMemory, Failed}
 use Rattle.lvdc_command_resume.specs.Restore.{left_before, after_state_by, after_state, with_states, HasFailed, HasRefused, HaveTaken, HaveRefused}

@@ -1,9 +1,9 @@
 -- The devices' counts of faults while they are made ready for a run, and what a want of memory leaves of them.
-use Rattle.std.proofs.Common.{◌≡◌, ℕ, ◌==◌, if◌then◌else◌, take, length, List, [], ◌∷◌, map, refl, sym, subst, ap, ◌∙◌, arith}
+use Rattle.std.proofs.Common.{◌≡◌, ℕ, take, length, List, map, sym, subst, ap, ◌∙◌, arith}
 use Rattle.std.proofs.lemmas.List.{take_all}
 use Rattle.lvdc_port.specs.Device as device
 use Rattle.lvdc_port.specs.Devices.{count_at, has_port}
-use Rattle.lvdc_port.specs.Supplies.{ports_of, supplied, IsSuppliedInPart}
+use Rattle.lvdc_port.specs.Supplies.{supplied, IsSuppliedInPart}
 use Rattle.lvdc_port.specs.declared.requests.Supply.{Supply}
 use Rattle.lvdc_plain.specs.Calls as plain_calls
 use Rattle.lvdc_plain.specs.Stands as plain
@@ -14,21 +14,6 @@ use Rattle.lvdc_deck.specs.declared.deck.Deck.{Deck}
 use Rattle.lvdc_command_run.specs.declared.job.Job.{Job}
 use Rattle.lvdc_command_run.specs.Ready.{AreSupplied}
 use Rattle.lvdc_command_run.specs.Replies.{IsUnreported, supplying}
-
--- devices with the same ports and the same counts, one by one, have the same count at each port
-pub count-same : {B : Type 0} (device_of : B → device.Device) (count : B → ℕ) (port : ℕ) (xs ys : List B)
-    → ports_of (map device_of xs) ≡ ports_of (map device_of ys) → map count xs ≡ map count ys
-    → count_at device_of count port xs ≡ count_at device_of count port ys
-count-same device_of count port [] [] e f = refl
-count-same device_of count port [] (y ∷ ys) e f = absurd (cc)
-count-same device_of count port (x ∷ xs) [] e f = absurd (cc)
-count-same device_of count port (x ∷ xs) (y ∷ ys) e f =
-    let place : (device_of x).port ≡ (device_of y).port = cc in
-    let number : count x ≡ count y = cc in
-    let later : ports_of (map device_of xs) ≡ ports_of (map device_of ys) = cc in
-    let counts : map count xs ≡ map count ys = cc in
-    let rest = count-same device_of count port xs ys later counts in
-    λ i. if place i == port then number i else rest i
 
 -- no count has grown while devices were made ready
 abbrev pub AreStill : {B : Type 0} → (B → device.Device) → (B → ℕ) → List B → List B → Type 0

@@ -1,4 +1,4 @@
-ghost use Rattle.std.specs.Prelude.{◌≡◌, ◌<◌, true, IfOk, slice_set};
+ghost use Rattle.std.specs.Prelude.{◌≡◌, ◌<◌, ◌^◌, true, All, IfOk, slice_set};
 ghost use Rattle.lvdc_map.specs.Address.{number_of};
 ghost use Rattle.lvdc_map.specs.Banks.{is_there};
 ghost use Rattle.lvdc_map.specs.Memory.{Memory, AllThere, IsMemory, word_at, stored, memory_of};
@@ -37,6 +37,8 @@ impl Ledger {
         requires { AllThere banks image.now }
         ensures banks { IfOk result (λ l. l.banks ≡ banks) }
         ensures words { IfOk result (λ l. IsMemory l.words (memory_of image.now)) }
+        // What an image places are words, by their type.
+        ensures placed { IfOk result (λ l. All (λ placed. placed.word < 2 ^ 26) image.now) }
     {
         let words = Words::of_image(alloc, image)?;
         Ok(Ledger { banks, words })

@@ -1,7 +1,7 @@
 ghost use Rattle.std.specs.Prelude.{◌≡◌, ◌<◌};
 ghost use Rattle.lvdc_isa.specs.Instr.{operation_code, takes_operand};
 
-/// What an instruction does. The eighteen mnemonics and their codes are this project's profile of the published list:
+/// What an instruction does. The eighteen mnemonics and their codes are this project's profile:
 /// none names `WrongShift`, which is a shift whose pattern means nothing.
 #[derive(Clone, Copy, Debug, PartialEq, Eq)]
 pub enum Op {
@@ -39,7 +39,7 @@ pub enum Op {
     Shf,
     /// A shift whose pattern means nothing: it stops the machine. It is written `SHF`.
     WrongShift,
-    /// Executes a modified instruction in the published list; in this profile it stops the machine.
+    /// Stops the machine: in this project's profile no instruction is modified and executed.
     Exm,
     /// Clears the accumulator and adds the operand.
     Cla,

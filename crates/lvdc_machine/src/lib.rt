@@ -8,7 +8,6 @@ mod machine;
 mod made;
 mod mode;
 mod notes;
-mod opening;
 mod resumed;
 mod shown;
 mod snapshot;

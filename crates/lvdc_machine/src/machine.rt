@@ -16,12 +16,11 @@ ghost use Rattle.lvdc_machine.specs.View.{answer_of_end};
 
 use crate::kept_end::KeptEnd;
 use crate::made::Made;
-use crate::opening::{is_hop_constant, places_words};
 use crate::start::Start;
 use crate::{Mode, Order, Orders, Pace};
 use lvdc_fault::{Active, Script, WrongCopies};
 use lvdc_logic::{InForce, Logic};
-use lvdc_map::{Banks, Hop, Placed};
+use lvdc_map::{Banks, Hop, Placed, is_hop_constant};
 use lvdc_memory::VotedMemory;
 use lvdc_model::{Outcome, Repair};
 use lvdc_modules::Bus;
@@ -178,7 +177,6 @@ impl Machine {
             mode,
             limit,
         } = start;
-        places_words(image);
         is_hop_constant(start);
         let pace = Pace::of(mode);
         let memory = VotedMemory::new(alloc, image, banks)?;

@@ -1,4 +1,5 @@
 ghost use Rattle.std.specs.Prelude.{◌≡◌, ◌<◌};
+ghost use Rattle.lvdc_map.specs.Hop.{IsHopConstant};
 
 use crate::{Address, Banks, is_a9, low_bits};
 use lvdc_word::{Syllable, Word};
@@ -157,3 +158,8 @@ impl Hop {
         }
     }
 }
+
+/// The fields of a HOP constant are in their ranges, by its type. The call has no effect.
+pub fn is_hop_constant(start: Hop)
+    ensures { IsHopConstant start }
+{}

@@ -11,8 +11,8 @@ mod words;
 
 pub use address::{Address, same_address};
 pub use banks::{Banks, banks_are_held};
-pub use hop::Hop;
+pub use hop::{Hop, is_hop_constant};
 pub use operand::{OperandKind, is_a9, low_bits, operand_place};
 pub use place::Place;
-pub use placed::Placed;
+pub use placed::{Placed, places_words};
 pub use words::Words;

@@ -1,6 +1,6 @@
 //! The words of memory.
 
-ghost use Rattle.std.specs.Prelude.{◌≡◌, [], IfOk, slice_index, slice_set};
+ghost use Rattle.std.specs.Prelude.{◌≡◌, ◌<◌, ◌^◌, All, [], IfOk, slice_index, slice_set};
 ghost use Rattle.lvdc_map.specs.Address.{number_of};
 ghost use Rattle.lvdc_map.specs.Memory.{Memory, word_at, stored, memory_of, IsMemory};
 
@@ -28,7 +28,9 @@ impl Model for Words {
 impl Words {
     /// The words of an image at their places, and 0 elsewhere.
     pub fn of_image(alloc: Global, image: &[Placed]) -> Result<Words, NoMemory>
-        ensures { IfOk result (λ words. IsMemory words (memory_of image.now)) }
+        ensures memory { IfOk result (λ words. IsMemory words (memory_of image.now)) }
+        // What an image places are words, by their type.
+        ensures words { IfOk result (λ words. All (λ placed. placed.word < 2 ^ 26) image.now) }
     {
         let mut words = Words::zero(alloc)?;
         for placed in image {
@@ -57,6 +59,7 @@ impl Words {
     pub fn store(&mut self, at: Address, word: Word)
         ensures value { self.new ≡ slice_set self.old (number_of at) word }
         ensures memory { (m : Memory) → IsMemory self.old m → IsMemory self.new (stored m at word) }
+        ensures word { word < 2 ^ 26 }
     {
         self.words[at.number()] = word;
     }

@@ -1,6 +1,6 @@
 //! The memory of the voted machine.
 
-ghost use Rattle.std.specs.Prelude.{◌≡◌, ℕ, ◌+◌, ◌<◌, true, All, List, [], ◌∷◌, ◌++◌, length, Option, None, Some, IfOk, IfSome, OnErr};
+ghost use Rattle.std.specs.Prelude.{◌≡◌, ℕ, ◌+◌, ◌<◌, ◌^◌, true, All, List, [], ◌∷◌, ◌++◌, length, Option, None, Some, IfOk, IfSome, OnErr};
 ghost use Rattle.lvdc_map.specs.Banks.{is_there, IsPlace};
 ghost use Rattle.lvdc_map.specs.Memory.{Memory, word_at, stored, memory_of, AllThere};
 ghost use Rattle.lvdc_twin.specs.Store.{IsStore, stuck_in, with_stuck_bits};
@@ -59,6 +59,8 @@ impl VotedMemory {
             → o.opening.banks ≡ banks
             → Holds o None m (twins_at_start o) (memory_of o.opening.image)) }
         ensures banks { IfOk result (λ m. m.twins.banks ≡ banks) }
+        // What an image places are words, by their type.
+        ensures placed { IfOk result (λ m. All (λ placed. placed.word < 2 ^ 26) image.now) }
     {
         Ok(VotedMemory {
             twins: Twins::new(alloc, image, banks)?,

@@ -8,6 +8,7 @@ use Rattle.lvdc_port.proofs.Firsts.{request_port}
 use Rattle.lvdc_port.specs.Causes.{Rose}
 use Rattle.lvdc_port.specs.Device.{Device}
 use Rattle.lvdc_port.specs.Devices.{port_of, after_request, after_exchange, without, has_port, count_at, HasSpare, RoomAt, AreDistinct}
+use Rattle.lvdc_port.specs.Supplies.{ports_of}
 use Rattle.lvdc_port.specs.declared.requests.PortRequest.{PortRequest}
 use Rattle.lvdc_port.specs.declared.requests.PortRequest.TheVariants.{Read, Write}
 
@@ -184,3 +185,18 @@ rose-has-at device_of count port before bs false is rose =
 pub rose-has : {B : Type 0} (device_of : B → Device) (count : B → ℕ) (port before : ℕ) (bs : List B) →
     Rose before (count_at device_of count port bs) → has_port device_of port bs ≡ true
 rose-has device_of count port before bs rose = rose-has-at device_of count port before bs (has_port device_of port bs) refl rose
+
+-- devices with the same ports and the same counts, one by one, have the same count at each port
+pub count-same : {B : Type 0} (device_of : B → Device) (count : B → ℕ) (port : ℕ) (xs ys : List B)
+    → ports_of (map device_of xs) ≡ ports_of (map device_of ys) → map count xs ≡ map count ys
+    → count_at device_of count port xs ≡ count_at device_of count port ys
+count-same device_of count port [] [] e f = refl
+count-same device_of count port [] (y ∷ ys) e f = absurd (cc)
+count-same device_of count port (x ∷ xs) [] e f = absurd (cc)
+count-same device_of count port (x ∷ xs) (y ∷ ys) e f =
+    let place : (device_of x).port ≡ (device_of y).port = cc in
+    let number : count x ≡ count y = cc in
+    let later : ports_of (map device_of xs) ≡ ports_of (map device_of ys) = cc in
+    let counts : map count xs ≡ map count ys = cc in
+    let rest = count-same device_of count port xs ys later counts in
+    λ i. if place i == port then number i else rest i

@@ -1,13 +1,15 @@
--- Devices that hold words answer words, and hold words after an exchange and an unplugging.
-use Rattle.std.proofs.Common.{ℕ, ◌<◌, ◌^◌, ◌==◌, List, [], ◌∷◌, true, false, arith}
+-- Devices that hold words answer words, and hold words after an exchange, an unplugging and words supplied.
+use Rattle.std.proofs.Common.{ℕ, ◌<◌, ◌^◌, ◌==◌, Bool, true, false, cond, List, [], ◌∷◌, All, arith}
 use Rattle.std.specs.Bool.{if◌then◌else◌}
 use Rattle.std.proofs.lemmas.List.Elements.{All-head, All-tail, All-cons, All-push}
-use Rattle.lvdc_port.specs.Device.{Device, AreWords, word_by_kind, state_after_read, state_after_write}
+use Rattle.lvdc_port.specs.Device.{Device, AreWords, word_by_kind, state_after_read, state_after_write, state_after_supply, after_supply}
 use Rattle.lvdc_port.specs.Devices.{port_of, answer_of, after_request, exchange_word, after_exchange, without, HoldWords, CarriesWord}
+use Rattle.lvdc_port.specs.Supplies.{after_supply_of, supplied}
 use Rattle.lvdc_port.specs.declared.device.Kind.{Kind}
 use Rattle.lvdc_port.specs.declared.device.Kind.TheVariants.{Tape, Latch, Ticker, Recorder}
 use Rattle.lvdc_port.specs.declared.requests.PortRequest.{PortRequest}
 use Rattle.lvdc_port.specs.declared.requests.PortRequest.TheVariants.{Read, Write}
+use Rattle.lvdc_port.specs.declared.requests.Supply.{Supply}
 
 word_by_kind_small : (kind : Kind) (state : List ℕ) (time : ℕ) → AreWords state → time < 2 ^ 26 →
     word_by_kind kind state time < 2 ^ 26
@@ -77,3 +79,33 @@ words-without port (d ∷ ds) words =
           (All-head (λ (x : Device). AreWords x.state) d ds words)
           (words-without port ds (All-tail (λ (x : Device). AreWords x.state) d ds words))
     ]
+
+-- and words supplied
+words_after_supply : (kind : Kind) (state : List ℕ) (word : ℕ) → word < 2 ^ 26 → AreWords state → AreWords (state_after_supply kind state word)
+words_after_supply Tape state word small h = All-push (λ number. number < 2 ^ 26) state word h small
+words_after_supply Latch state word small h = h
+words_after_supply Ticker state word small h = h
+words_after_supply Recorder state word small h = h
+
+words-supply : (supply : Supply) (ds : List Device) → supply.word < 2 ^ 26 → HoldWords ds → HoldWords (after_supply_of supply ds)
+words-supply supply [] small h = h
+words-supply supply (d ∷ ds) small h = by_port (d.port == supply.port) (words-supply supply ds small others)
+  where
+    Holds : Device → Type 0
+    Holds device = AreWords device.state
+
+    first : AreWords d.state
+    first = All-head Holds d ds h
+
+    others : HoldWords ds
+    others = All-tail Holds d ds h
+
+    by_port : (b : Bool) → HoldWords (after_supply_of supply ds) → HoldWords (cond b (after_supply d supply.word ∷ ds) (d ∷ after_supply_of supply ds))
+    by_port true later = All-cons Holds (after_supply d supply.word) ds (words_after_supply d.kind d.state supply.word small first) others
+    by_port false later = All-cons Holds d (after_supply_of supply ds) first later
+
+pub words-supplied : (supplies : List Supply) (ds : List Device) → All (λ supply. supply.word < 2 ^ 26) supplies → HoldWords ds → HoldWords (supplied supplies ds)
+words-supplied [] ds small h = h
+words-supplied (supply ∷ supplies) ds small h =
+    words-supplied supplies (after_supply_of supply ds) (All-tail (λ s. s.word < 2 ^ 26) supply supplies small)
+    (words-supply supply ds (All-head (λ s. s.word < 2 ^ 26) supply supplies small) h)

@@ -16,6 +16,6 @@ pub use failing::Failing;
 pub use latch::Latch;
 pub use recorder::Recorder;
 pub use requests::{DeviceFault, PortRequest, Supply, exchange, prepare_all, unplug, words_stay};
-pub use supplies::{kind_at, supply_all};
+pub use supplies::{kind_at, supplies_words, supply_all};
 pub use tape::Tape;
 pub use ticker::Ticker;

@@ -1,11 +1,12 @@
-ghost use Rattle.std.specs.Prelude.{◌≡◌, ◌+◌, ◌≤◌, ◌<◌, ◌^◌, ℕ, ◌↔◌, List, IsTrue, map, OnOk, OnErr, IfOk, IfErr, MatchOption};
+ghost use Rattle.std.specs.Prelude.{◌≡◌, ◌+◌, ◌≤◌, ◌<◌, ◌^◌, ℕ, ◌↔◌, List, All, IsTrue, map, OnOk, OnErr, IfOk, IfErr, MatchOption};
 ghost use Rattle.lvdc_port.specs.Causes.{HasCause, Rose};
 ghost use Rattle.lvdc_port.specs.Device.{Device, AreWords};
 ghost use Rattle.lvdc_port.specs.declared.device.Kind.TheVariants.{Recorder};
 ghost use Rattle.lvdc_port.specs.declared.requests.PortRequest.{PortRequest};
+ghost use Rattle.lvdc_port.specs.declared.requests.Supply.{Supply};
 ghost use Rattle.lvdc_port.specs.Devices.{port_of, answer_of, after_request, exchange_word, after_exchange, without, has_port, count_at, OthersKept, HasSpare, HoldWords, CarriesWord, RoomFor, RoomAt};
 ghost use Rattle.lvdc_port.specs.Places.{IsFirstAt, Lacks};
-ghost use Rattle.lvdc_port.specs.Supplies.{HasRecorder};
+ghost use Rattle.lvdc_port.specs.Supplies.{HasRecorder, supplied};
 
 use crate::device::{Failed, PortDevice};
 use lvdc_word::{NoMemory, Word};
@@ -195,8 +196,8 @@ pub fn prepare_all(devices: &mut Vec<Box<dyn PortDevice>>, writes: u64) -> Resul
     prepare_each(devices, writes)
 }
 
-/// Plain devices that hold words answer words to a time that is one, and hold words after an exchange and without one of
-/// them.
+/// Plain devices that hold words answer words to a time that is one, and hold words after an exchange, without one of them, and
+/// after words were supplied.
 pub fn words_stay()
     ensures answer { (request : PortRequest) (time : ℕ) (devices : List Device) → HoldWords devices
         → time < 2 ^ 26 → exchange_word request time devices < 2 ^ 26 }
@@ -204,4 +205,6 @@ pub fn words_stay()
         → CarriesWord request → HoldWords (after_exchange request devices) }
     ensures unplug { (port : ℕ) (devices : List Device) → HoldWords devices
         → HoldWords (without (λ device. device) port devices) }
+    ensures supply { (supplies : List Supply) (devices : List Device) → All (λ supply. supply.word < 2 ^ 26) supplies
+        → HoldWords devices → HoldWords (supplied supplies devices) }
 {}

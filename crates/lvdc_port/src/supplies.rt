@@ -1,4 +1,4 @@
-ghost use Rattle.std.specs.Prelude.{◌≡◌, ◌<◌, ◌^◌, length, map, OnOk, OnErr, Some};
+ghost use Rattle.std.specs.Prelude.{◌≡◌, ◌<◌, ◌^◌, All, length, map, OnOk, OnErr, Some};
 ghost use Rattle.lvdc_port.specs.Device.{after_supply};
 ghost use Rattle.lvdc_port.specs.declared.device.Kind.TheVariants.{Tape};
 ghost use Rattle.lvdc_port.specs.Devices.{AreDistinct};
@@ -85,4 +85,20 @@ pub fn supply_all(
         }
     }
     Ok(())
+}
+
+/// What is supplied is a word, by its type.
+fn supplies_word(supply: &Supply)
+    ensures { supply.now.word < 2 ^ 26 }
+{
+    supply.word.value();
+}
+
+/// What is supplied are words, by their type. The loop has no effect.
+pub fn supplies_words(supplies: &[Supply])
+    ensures { All (λ supply. supply.word < 2 ^ 26) supplies.now }
+{
+    for supply in supplies {
+        supplies_word(supply);
+    }
 }

@@ -1,12 +1,12 @@
 -- Runs over devices that have the words of the TAPE lines.
-use Rattle.std.proofs.Common.{◌≡◌, ℕ, ◌+◌, ◌*◌, ◌==◌, List, [], ◌∷◌, map, refl, subst, zero-add}
-use Rattle.std.specs.Bool.{if◌then◌else◌}
+use Rattle.std.proofs.Common.{◌≡◌, ℕ, ◌+◌, ◌*◌, List, map, subst, zero-add}
 use Rattle.std.specs.declared.option.Option.{Option}
 use Rattle.std.specs.declared.option.Option.TheVariants.{None, Some}
 use Rattle.lvdc_port.specs.Causes.{Rose}
 use Rattle.lvdc_port.specs.Device as device
 use Rattle.lvdc_port.specs.Devices.{count_at}
 use Rattle.lvdc_port.specs.Supplies.{ports_of, supplied}
+use Rattle.lvdc_port.proofs.Lists.{count-same}
 use Rattle.lvdc_plain.specs.Calls as plain_calls
 use Rattle.lvdc_plain.specs.Run.{Opening}
 use Rattle.lvdc_plain.specs.Stands as plain
@@ -63,27 +63,12 @@ module _ (p : Program) (devices ready : List device.Device) (unplugs : List Unpl
 
 -- ---- devices that fail
 
--- devices with the same ports and the same counts, one by one, have the same count at each port
-pub counts-stay : {B : Type 0} (device_of : B → device.Device) (count : B → ℕ) (port : ℕ) (xs ys : List B)
-    → ports_of (map device_of xs) ≡ ports_of (map device_of ys) → map count xs ≡ map count ys
-    → count_at device_of count port xs ≡ count_at device_of count port ys
-counts-stay device_of count port [] [] e f = refl
-counts-stay device_of count port [] (y ∷ ys) e f = absurd (cc)
-counts-stay device_of count port (x ∷ xs) [] e f = absurd (cc)
-counts-stay device_of count port (x ∷ xs) (y ∷ ys) e f =
-    let place : (device_of x).port ≡ (device_of y).port = cc in
-    let number : count x ≡ count y = cc in
-    let later : ports_of (map device_of xs) ≡ ports_of (map device_of ys) = cc in
-    let counts : map count xs ≡ map count ys = cc in
-    let rest = counts-stay device_of count port xs ys later counts in
-    λ i. if place i == port then number i else rest i
-
 module _ {B : Type 0} (device_of : B → device.Device) (faults : B → ℕ) (old ready new : List B)
     (ports : ports_of (map device_of ready) ≡ ports_of (map device_of old)) (counts : map faults ready ≡ map faults old) where
   rose-since : (failed port : ℕ) → failed ≡ port → Rose (count_at device_of faults failed ready) (count_at device_of faults failed new)
       → Rose (count_at device_of faults port old) (count_at device_of faults port new)
   rose-since failed port is rose =
-      subst (λ (k : ℕ). Rose k (count_at device_of faults port new)) (counts-stay device_of faults port ready old ports counts)
+      subst (λ (k : ℕ). Rose k (count_at device_of faults port new)) (count-same device_of faults port ready old ports counts)
       (subst (λ (q : ℕ). Rose (count_at device_of faults q ready) (count_at device_of faults q new)) is rose)
 
   pub has-failed : (end : Option Outcome) (port : ℕ) → EndsIn end port → HasCause device_of faults (answer_of_end end) ready new

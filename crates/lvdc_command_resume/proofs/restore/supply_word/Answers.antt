@@ -1,5 +1,5 @@
 use Rattle.lvdc_plain.proofs.Lefts.{spare-same}
-use Rattle.lvdc_command_run.proofs.Counts.{count-same}
+use Rattle.lvdc_port.proofs.Lists.{count-same}
 use Rattle.lvdc_command_resume.proofs.Taking.{state-supplied, since-same}
 use Rattle.lvdc_command_resume.proofs.restore.supply_word.Goals as goal
 

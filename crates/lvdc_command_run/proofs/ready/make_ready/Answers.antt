@@ -1,7 +1,8 @@
 use Rattle.std.proofs.Common.{ap, ◌∙◌}
 use Rattle.lvdc_port.specs.Supplies.{ports_of}
 use Rattle.lvdc_reply.proofs.Statuses.{on_err}
-use Rattle.lvdc_command_run.proofs.Counts.{count-same, supplied_some, supplied_all}
+use Rattle.lvdc_port.proofs.Lists.{count-same}
+use Rattle.lvdc_command_run.proofs.Counts.{supplied_some, supplied_all}
 use Rattle.lvdc_command_run.proofs.Making.{begins_ready}
 use Rattle.lvdc_command_run.proofs.ready.make_ready.Goals as goal
 

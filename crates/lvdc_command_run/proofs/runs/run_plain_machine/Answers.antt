@@ -1,7 +1,8 @@
 use Rattle.std.proofs.Common.{refl, ap, ◌∙◌}
 use Rattle.lvdc_port.specs.Supplies.{ports_of}
 use Rattle.lvdc_reply.proofs.Statuses.{on_err}
-use Rattle.lvdc_command_run.proofs.Counts.{count-same, unmade, supplied_some, supplied_all}
+use Rattle.lvdc_port.proofs.Lists.{count-same}
+use Rattle.lvdc_command_run.proofs.Counts.{unmade, supplied_some, supplied_all}
 use Rattle.lvdc_command_run.proofs.Making.{has_run_plainly}
 use Rattle.lvdc_command_run.proofs.runs.run_plain_machine.Goals as goal
 

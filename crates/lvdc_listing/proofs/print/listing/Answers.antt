@@ -12,7 +12,7 @@ returns-clause-text c =
     parts c.args.assembly.now (numbered c.args.bytes.now c.args.lines.now) c.new-out.result.items c.put_lines.new.out.items c.put_pool.new.out.items _ c.new-out.ensures.items
     c.in_ok-put_lines.ensures
     (c.in_ok-put_pool.ensures (memory_of c.args.assembly.now.words)
-    (subst (λ (words : List Placed). IsMemory c.in_ok-memory.memory (memory_of words)) (c.words.ensures.words ∙ ap (λ (image : Contents). image.words) c.image.ensures) c.in_ok-memory.ensures))
+    (subst (λ (words : List Placed). IsMemory c.in_ok-memory.memory (memory_of words)) (c.words.ensures.words ∙ ap (λ (image : Contents). image.words) c.image.ensures) c.in_ok-memory.ensures.memory))
     c.in_ok-put_names.ensures
 
 pub returns-clause-short : goal.returns-clause-short

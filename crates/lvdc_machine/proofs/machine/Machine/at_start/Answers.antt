@@ -30,7 +30,7 @@ invariant_of-result c = record {
 pub returns : goal.returns
 returns c = record {
   begins = λ devices words. record {
-    opening = record { image = c.places_words.ensures; start = c.is_hop_constant.ensures; devices = words };
+    opening = record { image = c.in_ok-memory.ensures.placed; start = c.is_hop_constant.ensures; devices = words };
     stands = stands-start _ _ _ (record {
       banks = refl;
       script = refl;

@@ -4,7 +4,7 @@ use Rattle.lvdc_plain.proofs.plain.Plain.new.Goals as goal
 
 pub returns-clause-begins : goal.returns-clause-begins
 returns-clause-begins g c =
-    let h = c.started.ensures.holds (memory_of c.args.image.now) c.in_ok-words.ensures in
+    let h = c.started.ensures.holds (memory_of c.args.image.now) c.in_ok-words.ensures.memory in
     record {
       stands = record {
         unplugs = refl;

@@ -2,7 +2,7 @@ use Rattle.std.proofs.Common.{◌<◌, ◌^◌, All, subst}
 use Rattle.std.proofs.lemmas.List.{take_all}
 use Rattle.std.proofs.lemmas.List.Elements.{All-more}
 use Rattle.lvdc_port.specs.declared.requests.Supply.{Supply}
-use Rattle.lvdc_command_form.proofs.opening.supplies_words.Goals as goal
+use Rattle.lvdc_port.proofs.supplies.supplies_words.Goals as goal
 
 pub loop-supply-preserved : goal.loop-supply-preserved
 loop-supply-preserved c =
