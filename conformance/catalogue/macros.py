@@ -141,6 +141,15 @@ def as_long(rest: int) -> str:
     return "M MACRO\n" + 10 * line + " MEND\n" + 873 * " M\n" + 8 * line + "*" + (rest - 1) * "X" + "\n END\n"
 
 
+def grown(length: int, label: str = "") -> str:
+    """Macros whose argument grows tenfold from call to call, to so many bytes; the last one, called with this label, uses nothing of it."""
+    text = "G0 MACRO\n* DONE\n MEND\n"
+    digits = str(length)[2:]
+    for k, digit in enumerate(reversed(digits), 1):
+        text += "G%d MACRO\n%s G%d %s\n MEND\n" % (k, label if k == 1 else "", k - 1, 10 * "&1" + int(digit) * "X")
+    return text + " G%d %s\n" % (len(digits), int(str(length)[:2]) * "X")
+
+
 CASES = [
     macro("double-with-image", "Arguments are put in for &1 to &9.", DOUBLE % "X,X+1", "macro --image",
           has="0 00 000 000017000\n0 00 001 000007000\n0 00 002 000013001\n0 01 000 000000005", worked=True),
@@ -181,6 +190,12 @@ CASES = [
          text="LVDC 1\nEND"),
     refused("an-expansion-a-byte-too-long", "Each line counts with its LF; the one that passes 1,048,576 bytes is named.",
             as_long(11), "ExpansionTooLong %d" % as_long(11).count("\n"), "macro --image"),
+    Case("a-call-as-long-as-an-expansion", "A call may come to 1,048,576 bytes with its LF, and use nothing of them.", "macro",
+         grown(1_048_571), text="* DONE"),
+    refused("a-call-a-byte-too-long", "A call that comes to 1,048,577 bytes is too long, though it uses nothing of them.",
+            grown(1_048_572), "ExpansionTooLong 19"),
+    refused("a-call-too-long-with-a-label", "A line that is too long isn't looked at: it isn't BadMacro for its label.",
+            grown(1_048_572, "X"), "ExpansionTooLong 19"),
     refused("a-macro-named-exm", "A macro isn't called EXM.", "EXM MACRO\n MEND\n", "BadMacro 1"),
     refused("a-macro-named-mend", "Nor MEND.", "MEND MACRO\n MEND\n", "BadMacro 1"),
     refused("a-label-before-the-level", "A call with a label on level 17 is BadMacro.", chain("X M17") + " M1\n",

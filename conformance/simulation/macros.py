@@ -76,7 +76,14 @@ class Expander:
         put = {"&0": "%03d" % self.calls}
         put.update({"&%d" % k: arguments[k - 1] if k <= len(arguments) else "" for k in range(1, 10)})
         for line in body:
+            self.check_length(line, put, origin)
             self.line(re.sub("&[0-9]", lambda found: put[found[0]], line), origin, level + 1)
+
+    def check_length(self, line: str, put: dict[str, str], origin: int) -> None:
+        """Refuses a line of a body that is longer than an expansion may be; nothing so long is made."""
+        length = len(line) + sum(len(put[found]) - 2 for found in re.findall("&[0-9]", line))
+        if length + 1 > MOST_BYTES:
+            self.refuse("ExpansionTooLong", origin)
 
 
 def expansion(lines: list[str]) -> Expander:

@@ -7,15 +7,15 @@ use Rattle.lvdc_text.specs.Joined.{text_of}
 use Rattle.lvdc_text.specs.Lines.{part_of}
 use Rattle.lvdc_text.proofs.Joining.{text_of-append}
 use Rattle.lvdc_macro.specs.declared.fault.MacroFault.{MacroFault}
-use Rattle.lvdc_macro.specs.declared.fault.MacroFault.TheVariants.{BadMacro, TooDeep, TooManyCalls}
+use Rattle.lvdc_macro.specs.declared.fault.MacroFault.TheVariants.{BadMacro, TooDeep, TooManyCalls, ExpansionTooLong}
 use Rattle.lvdc_macro.specs.Macros.{Macro, Meaning, meaning_of}
 use Rattle.lvdc_macro.specs.Substitution.{arguments_of, substituted}
-use Rattle.lvdc_macro.specs.Expansion.{Written, Progress, Piece, before, and_then, pieces, inner_by, called, is_wrong_call, bytes_of, origins_of}
+use Rattle.lvdc_macro.specs.Expansion.{Written, Progress, Piece, before, and_then, pieces, unless_longer, inner_by, called, is_wrong_call, bytes_of, origins_of}
 use Rattle.lvdc_macro.specs.Making.{Out, progress_of, IsWritten, Writes, Meets}
 
 -- a line of a body, where so many levels are left for the call itself
 abbrev pub inner : ℕ → List Macro → ℕ → Progress → List ℕ → Result Piece MacroFault
-inner left macros origin p text = inner_by (called (left - 1) macros origin) origin p text (meaning_of macros text)
+inner left macros origin p text = unless_longer origin text (inner_by (called (left - 1) macros origin) origin p text (meaning_of macros text))
 
 -- the lines of a body
 abbrev pub body_from : ℕ → List Macro → ℕ → Progress → List (List ℕ) → Result Piece MacroFault
@@ -76,7 +76,7 @@ unfolding called
 wrong zero macros origin p labelled operand body e = ap (λ (b : Bool). cond b (Err (BadMacro origin)) (Err (TooDeep origin))) e
 wrong (suc left) macros origin p labelled operand body e = ap (λ (b : Bool). cond b (Err (BadMacro origin))
     (cond (nat_lt 999 (p.calls + 1)) (Err (TooManyCalls origin))
-    (pieces (λ q text. inner_by (called left macros origin) origin q text (meaning_of macros text)) (record p { calls = p.calls + 1 }) (map (substituted (p.calls + 1) (arguments_of operand)) body)))) e
+    (pieces (λ q text. unless_longer origin text (inner_by (called left macros origin) origin q text (meaning_of macros text))) (record p { calls = p.calls + 1 }) (map (substituted (p.calls + 1) (arguments_of operand)) body)))) e
 
 pub too_many_arguments : (left : ℕ) (macros : List Macro) (origin : ℕ) (p : Progress) (labelled : Bool) (operand : List ℕ) (body : List (List ℕ)) → 9 < length (arguments_of operand)
     → called left macros origin p labelled operand body ≡ Err (BadMacro origin)
@@ -108,11 +108,11 @@ module _ (macros : List Macro) (origin : ℕ) (p : Progress) (labelled : Bool) (
   entered zero b some e = absurd (omega arith)
   entered (suc left) b some e =
       ap (λ (w : Bool). cond w (Err (BadMacro origin)) (cond (nat_lt 999 (p.calls + 1)) (Err (TooManyCalls origin))
-      (pieces (λ q text. inner_by (called left macros origin) origin q text (meaning_of macros text)) (record p { calls = p.calls + 1 }) (map (substituted (p.calls + 1) (arguments_of operand)) body)))) (right labelled operand unlabelled few)
+      (pieces (λ q text. unless_longer origin text (inner_by (called left macros origin) origin q text (meaning_of macros text))) (record p { calls = p.calls + 1 }) (map (substituted (p.calls + 1) (arguments_of operand)) body)))) (right labelled operand unlabelled few)
       ∙ ap (λ (w : Bool). cond w (Err (TooManyCalls origin))
-      (pieces (λ q text. inner_by (called left macros origin) origin q text (meaning_of macros text)) (record p { calls = p.calls + 1 }) (map (substituted (p.calls + 1) (arguments_of operand)) body))) e
+      (pieces (λ q text. unless_longer origin text (inner_by (called left macros origin) origin q text (meaning_of macros text))) (record p { calls = p.calls + 1 }) (map (substituted (p.calls + 1) (arguments_of operand)) body))) e
       ∙ ap (λ (n : ℕ). cond b (Err (TooManyCalls origin))
-      (pieces (λ q text. inner_by (called n macros origin) origin q text (meaning_of macros text)) (record p { calls = p.calls + 1 }) (map (substituted (p.calls + 1) (arguments_of operand)) body))) one_less
+      (pieces (λ q text. unless_longer origin text (inner_by (called n macros origin) origin q text (meaning_of macros text))) (record p { calls = p.calls + 1 }) (map (substituted (p.calls + 1) (arguments_of operand)) body))) one_less
     where
       one_less : left ≡ suc left - 1
       one_less = omega arith
@@ -166,28 +166,47 @@ abbrev pub rest_from : ℕ → List Macro → ℕ → Progress → ℕ → List 
 rest_from left macros origin p number arguments bytes body i = body_from left macros origin p (map (substituted number arguments) (map (part_of bytes) (drop i body)))
 
 module _ (left origin number : ℕ) (macros : List Macro) (arguments : List (List ℕ)) (bytes : List ℕ) (body : List Line) (i : ℕ) (d : Line) (within : i < length body) (out : Out) (line text : List ℕ)
-    (line_is : line ≡ part_of bytes (get_or body i d)) (text_is : text ≡ substituted number arguments line) (meaning : Meaning) (means : meaning_of macros text ≡ meaning) where
+    (line_is : line ≡ part_of bytes (get_or body i d)) (text_is : text ≡ substituted number arguments line) where
   here : rest_from left macros origin (progress_of out) number arguments bytes body i ≡ body_from left macros origin (progress_of out) (text ∷ map (substituted number arguments) (map (part_of bytes) (drop (i + 1) body)))
   here =
       ap (body_from left macros origin (progress_of out)) (lines_left bytes (substituted number arguments) body i d within)
       ∙ ap (λ (w : List ℕ). body_from left macros origin (progress_of out) (w ∷ map (substituted number arguments) (map (part_of bytes) (drop (i + 1) body))))
       (ap (substituted number arguments) (sym line_is) ∙ sym text_is)
 
-  due : inner left macros origin (progress_of out) text ≡ inner_by (called (left - 1) macros origin) origin (progress_of out) text meaning
-  due = ap (inner_by (called (left - 1) macros origin) origin (progress_of out) text) means
-
-  pub refused_here : (fault : MacroFault) → inner_by (called (left - 1) macros origin) origin (progress_of out) text meaning ≡ Err fault
+  refused_by : (fault : MacroFault) → inner left macros origin (progress_of out) text ≡ Err fault
       → rest_from left macros origin (progress_of out) number arguments bytes body i ≡ Err fault
-  refused_here fault e =
+  refused_by fault e =
       here ∙ pieces-more (inner left macros origin) (progress_of out) text (map (substituted number arguments) (map (part_of bytes) (drop (i + 1) body)))
-      ∙ ap (λ (r : Result Piece MacroFault). and_then r (λ q. pieces (inner left macros origin) q (map (substituted number arguments) (map (part_of bytes) (drop (i + 1) body))))) (due ∙ e)
+      ∙ ap (λ (r : Result Piece MacroFault). and_then r (λ q. pieces (inner left macros origin) q (map (substituted number arguments) (map (part_of bytes) (drop (i + 1) body))))) e
 
-  pub goes_on : (mid new : Out) (r : Result (Unit {0}) MacroFault) → Writes (inner_by (called (left - 1) macros origin) origin (progress_of out) text meaning) out mid
+  -- longer than an expansion may be
+  pub too_long_here : 1048576 ≤ length text → rest_from left macros origin (progress_of out) number arguments bytes body i ≡ Err (ExpansionTooLong origin)
+  too_long_here long = refused_by (ExpansionTooLong origin) (ap (λ (b : Bool). cond b (Err (ExpansionTooLong origin))
+      (inner_by (called (left - 1) macros origin) origin (progress_of out) text (meaning_of macros text))) is_longer)
+    where
+      is_longer : nat_lt 1048576 (length text + 1) ≡ true
+      is_longer = grind (arith, nat_tests)
+
+  due : length text < 1048576 → (meaning : Meaning) → meaning_of macros text ≡ meaning
+      → inner left macros origin (progress_of out) text ≡ inner_by (called (left - 1) macros origin) origin (progress_of out) text meaning
+  due short meaning means = ap (λ (b : Bool). cond b (Err (ExpansionTooLong origin))
+      (inner_by (called (left - 1) macros origin) origin (progress_of out) text (meaning_of macros text))) is_shorter
+      ∙ ap (inner_by (called (left - 1) macros origin) origin (progress_of out) text) means
+    where
+      is_shorter : nat_lt 1048576 (length text + 1) ≡ false
+      is_shorter = grind (arith, nat_tests)
+
+  pub refused_here : length text < 1048576 → (meaning : Meaning) → meaning_of macros text ≡ meaning
+      → (fault : MacroFault) → inner_by (called (left - 1) macros origin) origin (progress_of out) text meaning ≡ Err fault
+      → rest_from left macros origin (progress_of out) number arguments bytes body i ≡ Err fault
+  refused_here short meaning means fault e = refused_by fault (due short meaning means ∙ e)
+
+  pub goes_on : length text < 1048576 → (meaning : Meaning) → meaning_of macros text ≡ meaning → (mid new : Out) (r : Result (Unit {0}) MacroFault) → Writes (inner_by (called (left - 1) macros origin) origin (progress_of out) text meaning) out mid
       → Meets r (rest_from left macros origin (progress_of mid) number arguments bytes body (i + 1)) mid new → Meets r (rest_from left macros origin (progress_of out) number arguments bytes body i) out new
-  goes_on mid new r a b =
+  goes_on short meaning means mid new r a b =
       subst (λ (w : Result Piece MacroFault). Meets r w out new) (sym here)
       (line_written (inner left macros origin) text (map (substituted number arguments) (map (part_of bytes) (drop (i + 1) body))) out mid new r
-      (subst (λ (w : Result Piece MacroFault). Writes w out mid) (sym due) a) b)
+      (subst (λ (w : Result Piece MacroFault). Writes w out mid) (sym (due short meaning means)) a) b)
 
 pub ended_here : (left origin number : ℕ) (macros : List Macro) (arguments : List (List ℕ)) (bytes : List ℕ) (body : List Line) (i : ℕ) → length body ≤ i → (out : Out)
     → Meets {T = Unit {0}} (Ok tt) (rest_from left macros origin (progress_of out) number arguments bytes body i) out out

@@ -1,6 +1,6 @@
 -- A text in which `&` and digits are replaced, from a place on.
-use Rattle.std.proofs.Common.{inl, inr, ◌⊎◌, ◌≡◌, ℕ, ◌+◌, ◌<◌, ◌≤◌, ◌==◌, Bool, true, false, true≢false, cond, ◌&&◌, List, [], ◌∷◌, ◌++◌, length, get_or, drop, refl, sym, ap, ◌∙◌, append_assoc, append-nil}
-use Rattle.std.proofs.lemmas.List.{drop_more, drop_all}
+use Rattle.std.proofs.Common.{inl, inr, ◌⊎◌, ◌≡◌, ℕ, ◌+◌, ◌<◌, ◌≤◌, ◌==◌, Bool, true, false, true≢false, cond, ◌&&◌, List, [], ◌∷◌, ◌++◌, length, get_or, drop, refl, sym, ap, ◌∙◌, append_assoc, append-nil, arith}
+use Rattle.std.proofs.lemmas.List.{drop_more, drop_all, length-append}
 use Rattle.std.proofs.lemmas.Bool.{cases_lt}
 use Rattle.lvdc_text.specs.Numbers.{is_digit}
 use Rattle.lvdc_macro.specs.Substitution.{stands_for, substituted}
@@ -55,3 +55,7 @@ first_false false b h = refl
 pub second_false : (a b : Bool) → b ≡ false → (a && b) ≡ false
 second_false true b h = h
 second_false false b h = refl
+
+-- a front is no longer than the whole
+pub front_is_short : (n : ℕ) (front rest whole : List ℕ) → front ++ rest ≡ whole → n ≤ length front → n ≤ length whole
+front_is_short n front rest whole e l = let parts = length-append front rest in let whole_is = ap length e in omega (arith, parts, whole_is, l)

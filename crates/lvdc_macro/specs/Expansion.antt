@@ -60,6 +60,10 @@ pieces piece p (text ∷ texts) = and_then (piece p text) (λ q. pieces piece q 
 abbrev pub is_wrong_call : Bool → List ℕ → Bool
 is_wrong_call labelled operand = labelled || nat_lt MOST_ARGUMENTS (length (arguments_of operand))
 
+-- a line of a body, unless it alone is longer than an expansion may be
+abbrev pub unless_longer : ℕ → List ℕ → Result Piece MacroFault → Result Piece MacroFault
+unless_longer origin text piece = if nat_lt LONGEST_EXPANSION (length text + 1) then Err (ExpansionTooLong origin) else piece
+
 -- a line of a body, by what it is; no macro begins or ends there
 abbrev pub inner_by : (Progress → Bool → List ℕ → List (List ℕ) → Result Piece MacroFault) → ℕ → Progress → List ℕ → Meaning → Result Piece MacroFault
 inner_by call origin p text Text = write origin p text
@@ -67,13 +71,13 @@ inner_by call origin p text (Begin name) = Err (BadMacro origin)
 inner_by call origin p text (End labelled) = Err (BadMacro origin)
 inner_by call origin p text (Call labelled operand body) = call p labelled operand body
 
--- a call, where so many levels of calls are left: in each line of the body the arguments are put in, and then it is expanded
+-- a call, where so many levels of calls are left: in each line of the body the arguments are put in, and then it is expanded, unless it is too long
 unfoldable pub called : ℕ → List Macro → ℕ → Progress → Bool → List ℕ → List (List ℕ) → Result Piece MacroFault
 called zero macros origin p labelled operand body = if is_wrong_call labelled operand then Err (BadMacro origin) else Err (TooDeep origin)
 called (suc left) macros origin p labelled operand body =
     if is_wrong_call labelled operand then Err (BadMacro origin)
     else (if nat_lt MOST_CALLS (p.calls + 1) then Err (TooManyCalls origin)
-    else pieces (λ q text. inner_by (called left macros origin) origin q text (meaning_of macros text)) (record p { calls = p.calls + 1 })
+    else pieces (λ q text. unless_longer origin text (inner_by (called left macros origin) origin q text (meaning_of macros text))) (record p { calls = p.calls + 1 })
     (map (substituted (p.calls + 1) (arguments_of operand)) body))
 
 -- ---- the source

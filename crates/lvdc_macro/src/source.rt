@@ -63,7 +63,7 @@ fn call(
     let number = out.begin_call(origin)?;
     let entered = Call { number, arguments };
     for line in calling.body {
-        let text = entered.substituted(alloc, part(bytes, line))?;
+        let text = entered.substituted(alloc, part(bytes, line), origin)?;
         match meaning_of(alloc, macros, &text)? {
             Meaning::Text => out.write(&text, origin)?,
             Meaning::Call {

@@ -1,14 +1,15 @@
-ghost use Rattle.std.specs.Prelude.{◌≡◌, ℕ, List, ◌+◌, ◌<◌, ◌≤◌, ◌∷◌, ◌++◌, true, length, drop, map, slice_index, IfOk, OnOk, IfSome, IfNone};
+ghost use Rattle.std.specs.Prelude.{◌≡◌, ◌≢◌, ℕ, List, ◌+◌, ◌<◌, ◌≤◌, ◌∷◌, ◌++◌, true, length, drop, map, slice_index, IfOk, OnOk, IfErr, IfSome, IfNone};
+ghost use Rattle.lvdc_macro.specs.declared.fault.MacroFault.TheVariants.{NoMemory as WantsMemory, ExpansionTooLong};
+ghost use Rattle.lvdc_macro.specs.declared.expansion.TheConstants.{LONGEST_EXPANSION};
 ghost use Rattle.lvdc_text.specs.Numbers.{is_digit};
 ghost use Rattle.lvdc_macro.specs.Substitution.{three_digits, stands_for, substituted};
 
+use crate::MacroFault;
 use crate::arguments::MOST_ARGUMENTS;
+use crate::expansion::LONGEST_EXPANSION;
 use arrayvec::ArrayVec;
 use lvdc_word::NoMemory;
 use std::alloc::Global;
-
-/// The most bytes for which there is memory in a line with what a call puts into it: four times those of the longest expansion.
-const LONGEST_LINE: usize = 4_194_304;
 
 /// A call: its number, counted from 1, and its arguments.
 #[derive(Clone, Debug, Drop)]
@@ -41,15 +42,23 @@ impl Call<'_> {
         Ok(())
     }
 
-    /// The line of a body with what the call puts into it.
-    pub(crate) fn substituted(&self, alloc: Global, text: &[u8]) -> Result<Vec<u8>, NoMemory>
+    /// The line of a body with what the call puts into it, unless it alone is longer than an expansion may be. The call stands in this
+    /// line of the source.
+    pub(crate) fn substituted(
+        &self,
+        alloc: Global,
+        text: &[u8],
+        origin: u32,
+    ) -> Result<Vec<u8>, MacroFault>
         requires { self.now.number < 1000 }
         ensures line { IfOk result (λ line. line.items ≡ substituted self.now.number (map (λ a. a.now) self.now.arguments.items) text.now) }
-        ensures short { IfOk result (λ line. length line.items ≤ LONGEST_LINE) }
+        ensures short { IfOk result (λ line. length line.items < LONGEST_EXPANSION) }
+        ensures refusal { IfErr result (λ fault. fault ≢ WantsMemory → (fault ≡ ExpansionTooLong origin)
+            × (LONGEST_EXPANSION ≤ length (substituted self.now.number (map (λ a. a.now) self.now.arguments.items) text.now))) }
     {
         let mut out = Vec::new(alloc);
         let mut at = 0;
-        while at < text.len() {
+        while at < text.len() && out.len() < LONGEST_EXPANSION {
             match digit_at(text, at) {
                 Some(digit) => {
                     self.put(&mut out, digit)?;
@@ -60,9 +69,9 @@ impl Call<'_> {
                     at += 1;
                 }
             }
-            if out.len() > LONGEST_LINE {
-                return Err(NoMemory);
-            }
+        }
+        if out.len() >= LONGEST_EXPANSION {
+            return Err(MacroFault::ExpansionTooLong(origin));
         }
         Ok(out)
     }

@@ -7,9 +7,9 @@ use Rattle.lvdc_macro.specs.Making.{Out, progress_of, macros_of, Writes}
 use Rattle.lvdc_macro.specs.declared.fault.MacroFault.{MacroFault}
 use Rattle.lvdc_macro.specs.declared.fault.MacroFault.TheVariants.{BadMacro}
 use Rattle.lvdc_macro.specs.Macros.{Text, Begin, End, Call, meaning_of}
-use Rattle.lvdc_macro.specs.Substitution.{arguments_of}
+use Rattle.lvdc_macro.specs.Substitution.{arguments_of, substituted}
 use Rattle.lvdc_macro.specs.Expansion.{write, called}
-use Rattle.lvdc_macro.proofs.Calling.{too_many_arguments, labelled_call, too_deep, too_many_calls, entered_with, refused_here, goes_on, ended_here}
+use Rattle.lvdc_macro.proofs.Calling.{too_many_arguments, labelled_call, too_deep, too_many_calls, entered_with, too_long_here, refused_here, goes_on, ended_here}
 use Rattle.lvdc_macro.proofs.source.+call.Goals as goal
 use Rattle.lvdc_macro.proofs.source.+call.Goals.{in-Text+in_ok-write-in-Text, in-Call+in_ok-call-in-Call}
 
@@ -53,12 +53,20 @@ loop-line-init t c = let most : c.in_ok-number.number ≤ 999 = c.in_ok-number.e
       (map (λ a. a.now) c.in-Some.arguments.items) result (omega arith) most c.in_ok-number.ensures.number c.in_ok-number.ensures.begun c.in-Some.ensures.some h;
 }
 
+pub returns-in_err-text : goal.returns-in_err-text
+returns-in_err-text t c =
+    let parts = err_from_is_err_and c.from_residual-in_err-text.result c.from_residual-in_err-text.ensures.1 in
+    rw (parts.1, parts.2) (λ free. c.loop-line.invariant.rest (Err c.in_err-text.field-0.0) c.loop-line.out (λ _.
+    too_long_here c.args.left c.args.calling.origin c.in_ok-number.number (macros_of c.args.bytes.now c.args.macros.now) (map (λ a. a.now) c.in-Some.arguments.items) c.args.bytes.now c.args.calling.body.now c.loop-line.line-index no_line c.loop-line-test.true c.loop-line.out c.part.result.now
+    (substituted c.in_ok-number.number (map (λ a. a.now) c.in-Some.arguments.items) c.part.result.now) c.part.ensures refl (c.in_err-text.ensures.refusal free).1
+    ∙ ap (λ (f : MacroFault). Err f) (sym (c.in_err-text.ensures.refusal free).0)) free)
+
 pub returns-in_err-write-in-Text : goal.returns-in_err-write-in-Text
 returns-in_err-write-in-Text t c =
     let parts = err_from_is_err_and c.from_residual-in_err-write-in-Text.result c.from_residual-in_err-write-in-Text.ensures.1 in
     rw (parts.1, parts.2) (λ free. c.loop-line.invariant.rest (Err c.in_err-write-in-Text.field-0.0) c.loop-line.out (λ _.
     refused_here c.args.left c.args.calling.origin c.in_ok-number.number (macros_of c.args.bytes.now c.args.macros.now) (map (λ a. a.now) c.in-Some.arguments.items) c.args.bytes.now c.args.calling.body.now c.loop-line.line-index no_line c.loop-line-test.true c.loop-line.out c.part.result.now c.in_ok-text.text.items
-    c.part.ensures c.in_ok-text.ensures.line Text (ap (meaning_of (macros_of c.args.bytes.now c.args.macros.now)) (sym c.deref.ensures.value) ∙ (rw c.in-Text.is at (c.in_ok-meaning_of.ensures.means c.args.bytes.now)))
+    c.part.ensures c.in_ok-text.ensures.line c.in_ok-text.ensures.short Text (ap (meaning_of (macros_of c.args.bytes.now c.args.macros.now)) (sym c.deref.ensures.value) ∙ (rw c.in-Text.is at (c.in_ok-meaning_of.ensures.means c.args.bytes.now)))
     c.in_err-write-in-Text.field-0.0 (ap (write c.args.calling.origin (progress_of c.loop-line.out)) (sym c.deref-in-Text.ensures.value) ∙ c.in_err-write-in-Text.ensures free)) free)
 
 pub call-requires : goal.call-requires
@@ -72,21 +80,21 @@ returns-in_err-call-in-Call t c =
     let parts = err_from_is_err_and c.from_residual-in_err-call-in-Call.result c.from_residual-in_err-call-in-Call.ensures.1 in
     rw (parts.1, parts.2) (λ free. c.loop-line.invariant.rest (Err c.in_err-call-in-Call.field-0.0) c.loop-line.out (λ _.
     refused_here c.args.left c.args.calling.origin c.in_ok-number.number (macros_of c.args.bytes.now c.args.macros.now) (map (λ a. a.now) c.in-Some.arguments.items) c.args.bytes.now c.args.calling.body.now c.loop-line.line-index no_line c.loop-line-test.true c.loop-line.out c.part.result.now c.in_ok-text.text.items
-    c.part.ensures c.in_ok-text.ensures.line (Call c.in-Call.labelled c.in-Call.operand.now (map (part_of c.args.bytes.now) c.in-Call.body.now)) (ap (meaning_of (macros_of c.args.bytes.now c.args.macros.now)) (sym c.deref.ensures.value) ∙ (rw c.in-Call.is at (c.in_ok-meaning_of.ensures.means c.args.bytes.now)))
+    c.part.ensures c.in_ok-text.ensures.line c.in_ok-text.ensures.short (Call c.in-Call.labelled c.in-Call.operand.now (map (part_of c.args.bytes.now) c.in-Call.body.now)) (ap (meaning_of (macros_of c.args.bytes.now c.args.macros.now)) (sym c.deref.ensures.value) ∙ (rw c.in-Call.is at (c.in_ok-meaning_of.ensures.means c.args.bytes.now)))
     c.in_err-call-in-Call.field-0.0 (c.in_err-call-in-Call.ensures free)) free)
 
 pub returns-in-Begin : goal.returns-in-Begin
 returns-in-Begin t c =
     λ free. c.loop-line.invariant.rest (Err (BadMacro c.args.calling.origin)) c.loop-line.out (λ _.
     refused_here c.args.left c.args.calling.origin c.in_ok-number.number (macros_of c.args.bytes.now c.args.macros.now) (map (λ a. a.now) c.in-Some.arguments.items) c.args.bytes.now c.args.calling.body.now c.loop-line.line-index no_line c.loop-line-test.true c.loop-line.out c.part.result.now c.in_ok-text.text.items
-    c.part.ensures c.in_ok-text.ensures.line (Begin c.in-Begin.field-0.now) (ap (meaning_of (macros_of c.args.bytes.now c.args.macros.now)) (sym c.deref.ensures.value) ∙ (rw c.in-Begin.is at (c.in_ok-meaning_of.ensures.means c.args.bytes.now)))
+    c.part.ensures c.in_ok-text.ensures.line c.in_ok-text.ensures.short (Begin c.in-Begin.field-0.now) (ap (meaning_of (macros_of c.args.bytes.now c.args.macros.now)) (sym c.deref.ensures.value) ∙ (rw c.in-Begin.is at (c.in_ok-meaning_of.ensures.means c.args.bytes.now)))
     (BadMacro c.args.calling.origin) refl) free
 
 pub returns-in-End : goal.returns-in-End
 returns-in-End t c =
     λ free. c.loop-line.invariant.rest (Err (BadMacro c.args.calling.origin)) c.loop-line.out (λ _.
     refused_here c.args.left c.args.calling.origin c.in_ok-number.number (macros_of c.args.bytes.now c.args.macros.now) (map (λ a. a.now) c.in-Some.arguments.items) c.args.bytes.now c.args.calling.body.now c.loop-line.line-index no_line c.loop-line-test.true c.loop-line.out c.part.result.now c.in_ok-text.text.items
-    c.part.ensures c.in_ok-text.ensures.line (End c.in-End.labelled) (ap (meaning_of (macros_of c.args.bytes.now c.args.macros.now)) (sym c.deref.ensures.value) ∙ (rw c.in-End.is at (c.in_ok-meaning_of.ensures.means c.args.bytes.now)))
+    c.part.ensures c.in_ok-text.ensures.line c.in_ok-text.ensures.short (End c.in-End.labelled) (ap (meaning_of (macros_of c.args.bytes.now c.args.macros.now)) (sym c.deref.ensures.value) ∙ (rw c.in-End.is at (c.in_ok-meaning_of.ensures.means c.args.bytes.now)))
     (BadMacro c.args.calling.origin) refl) free
 
 pub loop-line-preserved : goal.loop-line-preserved
@@ -96,12 +104,12 @@ loop-line-preserved t c = record {
   rest = λ result new h. c.loop-line.invariant.rest result new (elim c.match-branch-4.branch [
     | in-Text+in_ok-write-in-Text w ↦
         goes_on c.args.left c.args.calling.origin c.in_ok-number.number (macros_of c.args.bytes.now c.args.macros.now) (map (λ a. a.now) c.in-Some.arguments.items) c.args.bytes.now c.args.calling.body.now c.loop-line.line-index no_line c.loop-line-test.true c.loop-line.out c.part.result.now c.in_ok-text.text.items
-        c.part.ensures c.in_ok-text.ensures.line Text (ap (meaning_of (macros_of c.args.bytes.now c.args.macros.now)) (sym c.deref.ensures.value) ∙ (rw w.in-Text.is at (c.in_ok-meaning_of.ensures.means c.args.bytes.now))) c.match-branch-4.out new result
+        c.part.ensures c.in_ok-text.ensures.line c.in_ok-text.ensures.short Text (ap (meaning_of (macros_of c.args.bytes.now c.args.macros.now)) (sym c.deref.ensures.value) ∙ (rw w.in-Text.is at (c.in_ok-meaning_of.ensures.means c.args.bytes.now))) c.match-branch-4.out new result
         (subst (λ (o : Out). Writes (write c.args.calling.origin (progress_of c.loop-line.out) c.in_ok-text.text.items) c.loop-line.out o) (sym w.out-is)
         (subst (λ (text : List ℕ). Writes (write c.args.calling.origin (progress_of c.loop-line.out) text) c.loop-line.out w.write.new.self) w.deref-in-Text.ensures.value w.in_ok-write-in-Text.ensures)) h
     | in-Call+in_ok-call-in-Call w ↦
         goes_on c.args.left c.args.calling.origin c.in_ok-number.number (macros_of c.args.bytes.now c.args.macros.now) (map (λ a. a.now) c.in-Some.arguments.items) c.args.bytes.now c.args.calling.body.now c.loop-line.line-index no_line c.loop-line-test.true c.loop-line.out c.part.result.now c.in_ok-text.text.items
-        c.part.ensures c.in_ok-text.ensures.line (Call w.in-Call.labelled w.in-Call.operand.now (map (part_of c.args.bytes.now) w.in-Call.body.now)) (ap (meaning_of (macros_of c.args.bytes.now c.args.macros.now)) (sym c.deref.ensures.value) ∙ (rw w.in-Call.is at (c.in_ok-meaning_of.ensures.means c.args.bytes.now))) c.match-branch-4.out new result
+        c.part.ensures c.in_ok-text.ensures.line c.in_ok-text.ensures.short (Call w.in-Call.labelled w.in-Call.operand.now (map (part_of c.args.bytes.now) w.in-Call.body.now)) (ap (meaning_of (macros_of c.args.bytes.now c.args.macros.now)) (sym c.deref.ensures.value) ∙ (rw w.in-Call.is at (c.in_ok-meaning_of.ensures.means c.args.bytes.now))) c.match-branch-4.out new result
         (subst (λ (o : Out). Writes (called (c.args.left - 1) (macros_of c.args.bytes.now c.args.macros.now) c.args.calling.origin (progress_of c.loop-line.out) w.in-Call.labelled w.in-Call.operand.now
         (map (part_of c.args.bytes.now) w.in-Call.body.now)) c.loop-line.out o) (sym w.out-is) w.in_ok-call-in-Call.ensures) h
   ]);

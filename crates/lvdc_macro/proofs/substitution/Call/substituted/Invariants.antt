@@ -5,7 +5,6 @@ use Rattle.lvdc_macro.proofs.substitution.Call.substituted.Given as goal
 abbrev pub invariant-loop-at : goal.invariant-loop-at
 invariant-loop-at l = record {
   within : l.at ≤ length l.text;
-  short : length l.out.items ≤ 4194304;
   so_far : l.out.items ++ substituted l.self.number (map (λ a. a.now) l.self.arguments.items) (drop l.at l.text) ≡ substituted l.self.number (map (λ a. a.now) l.self.arguments.items) l.text;
 }
 
