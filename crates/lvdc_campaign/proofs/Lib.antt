@@ -6,3 +6,4 @@ mod Verdicts
 mod Words
 mod Through
 mod Again
+mod Unhurt

@@ -1,11 +1,13 @@
-ghost use Rattle.std.specs.Prelude.{◌≡◌, ℕ, ◌*◌, List, true};
+ghost use Rattle.std.specs.Prelude.{◌≡◌, ℕ, ◌*◌, List, [], true};
 ghost use Rattle.lvdc_fault.specs.declared.verdict.Verdict.TheVariants.{Admissible};
 ghost use Rattle.lvdc_laws_voted.specs.Ends.{IsOpening};
 ghost use Rattle.lvdc_port.specs.Device.{Device};
 ghost use Rattle.lvdc_plain.specs.Run.{Opening};
 ghost use Rattle.lvdc_plain.specs.Stands.{Stands};
 ghost use Rattle.lvdc_plain.specs.View as plain_view;
+ghost use Rattle.lvdc_laws_guarded.specs.Guarded.{UnhurtBy};
 ghost use Rattle.lvdc_machine.specs.Shows.{Shows};
+ghost use Rattle.lvdc_machine.specs.Stands as machine;
 ghost use Rattle.lvdc_machine.specs.View.{View};
 ghost use Rattle.lvdc_machine.specs.declared.mode.Mode.TheVariants.{Through};
 ghost use Rattle.lvdc_model.specs.Judging.{first_bad, first_bad_below};
@@ -29,6 +31,18 @@ pub fn through_is_guarded()
     ensures { (o : Trial) (n : ℕ) → IsOpening o.opening → first_bad_below o n ≡ Admissible → through o n ≡ guarded o n }
 {
     lvdc_laws_voted::guarded_run();
+}
+
+/// A law: under a script without events a machine that goes through every fault and stands after whole times shows the plain run, with
+/// its devices, unless a device failed. `unhurt_follows` of `lvdc_laws_guarded` says the same of a machine that judges.
+pub fn unhurt_through()
+    ensures { (o : Trial) (times : ℕ) (m : View) (devices : List Device) → IsOpening o.opening → m.mode ≡ Through → m.script ≡ []
+        → machine.Stands o (3 * times) m devices → UnhurtBy m.end o times (machine.state_by m.end m.mode o (3 * times)) }
+{
+    through_is_guarded();
+    lvdc_laws_voted::no_faults_no_verdict();
+    lvdc_laws_voted::guarded_times();
+    lvdc_laws_voted::guarded_ends();
 }
 
 /// A law: a plain machine that stands after so many times has run plainly, unless a device failed.

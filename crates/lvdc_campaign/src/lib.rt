@@ -9,7 +9,9 @@ mod rows;
 mod runs;
 mod same;
 
-pub use laws::{admissible_is_same, plain_machine_has_run, through_is_guarded, through_is_shown};
+pub use laws::{
+    admissible_is_same, plain_machine_has_run, through_is_guarded, through_is_shown, unhurt_through,
+};
 pub use row::Row;
 pub use rows::campaign;
 pub use runs::{is_admissible, verdict_of};
