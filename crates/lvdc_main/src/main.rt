@@ -2,6 +2,7 @@
 #![tactic(auto)]
 
 use lvdc_console::run;
+use lvdc_streams::Retried;
 use lvdc_text::{StdSink, StdSource};
 use std::process::ExitCode;
 use std::{env, io};
@@ -25,8 +26,8 @@ fn main(rt: HostRuntime) -> ExitCode {
         // Arguments that are no text are no command line either.
         Err(_) => {}
     }
-    let mut source = StdSource::new(rt.reader());
-    let mut sink = StdSink::new(io::writer(&rt));
+    let mut source = StdSource::new(Retried::new(rt.reader()));
+    let mut sink = StdSink::new(Retried::new(io::writer(&rt)));
     match run(rt.alloc(), words.as_slice(), &mut source, &mut sink) {
         Ok(status) => ExitCode::from(status),
         Err(_) => ExitCode::from(NO_MEMORY),

@@ -2,6 +2,7 @@
 #![tactic(auto)]
 
 use lvdc_service::{refuse, serve};
+use lvdc_streams::Retried;
 use lvdc_text::{StdSink, StdSource};
 use std::process::ExitCode;
 use std::{env, io};
@@ -10,7 +11,7 @@ use std::{env, io};
 const NO_MEMORY: u8 = 9;
 
 fn main(rt: HostRuntime) -> ExitCode {
-    let mut sink = StdSink::new(io::writer(&rt));
+    let mut sink = StdSink::new(Retried::new(io::writer(&rt)));
     match env::args(&rt) {
         Ok(args) => {
             if args.skip(1).next().is_some() {
@@ -23,6 +24,6 @@ fn main(rt: HostRuntime) -> ExitCode {
         // Arguments that are no text are arguments too.
         Err(_) => return ExitCode::from(refuse(&mut sink)),
     }
-    let mut source = StdSource::new(rt.reader());
+    let mut source = StdSource::new(Retried::new(rt.reader()));
     ExitCode::from(serve(rt.alloc(), &mut source, &mut sink))
 }
