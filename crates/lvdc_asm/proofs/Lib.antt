@@ -6,3 +6,4 @@ pub mod Imaging
 pub mod Known
 pub mod Counts
 mod Rows
+mod SourceRows

@@ -14,20 +14,6 @@ use Rattle.lvdc_asm.specs.Data.{data_after, SetsData}
 use Rattle.lvdc_asm.specs.Names.{entry_of, names_from, is_among, label_of, repeat_after}
 use Rattle.lvdc_asm.specs.declared.names.Definition.{Definition}
 
--- a look-up among entries whose keys are seen by f
-pub lookup-view : {K X : Type 0} (f : K → List ℕ) (test : List ℕ → Bool) (es : List (K × X)) → lookup test (map (λ e. (f e.0, e.1)) es) ≡ lookup (λ k. test (f k)) es
-lookup-view f test [] = refl
-lookup-view f test (e ∷ es) = ap (λ rest. cond (test (f e.0)) (Some e.1) rest) (lookup-view f test es)
-
--- is a label that is not empty among the names seen?
-pub is_among-view : {K X : Type 0} (f : K → List ℕ) (es : List (K × X)) (label : List ℕ) (c : ℕ) (cs : List ℕ) → label ≡ c ∷ cs
-    → is_among (keys_of (map (λ e. (f e.0, e.1)) es)) label ≡ is_some (lookup (λ k. bytes_eq label (f k)) es)
-is_among-view f es label c cs e =
-    ap (λ (l : List ℕ). is_among (keys_of (map (λ e. (f e.0, e.1)) es)) l) e
-    ∙ sym (is_some-lookup (bytes_eq (c ∷ cs)) (map (λ e. (f e.0, e.1)) es))
-    ∙ ap is_some (lookup-view f (bytes_eq (c ∷ cs)) es)
-    ∙ ap (λ (l : List ℕ). is_some (lookup (λ k. bytes_eq l (f k)) es)) (sym e)
-
 -- what a line defines gives its label as key
 pub keys_of-entry_of : (names : List (List ℕ × Definition)) (label : List ℕ) (d : Definition) → keys_of (names ++ entry_of label d) ≡ keys_of names ++ label_of label
 keys_of-entry_of names [] d = ap keys_of (append-nil names) ∙ sym (append-nil (keys_of names))
@@ -72,24 +58,13 @@ SetsData-item block [] i d h within = absurd (omega arith)
 SetsData-item block (item ∷ items) zero d h within = sets_data block item.label item.body h.0
 SetsData-item block (item ∷ items) (suc i) d h within = SetsData-item (block_after block item.body) items i d h.1 (omega arith)
 
--- a label that isn't empty is added at the end
-pub entry_of-view : {K : Type 0} (f : K → List ℕ) (es after : List (K × Definition)) (key : K) (d : Definition) (label : List ℕ) → after ≡ es ++ (key, d) ∷ [] → f key ≡ label → (length label == 0) ≡ false
-    → map (λ e. (f e.0, e.1)) after ≡ map (λ e. (f e.0, e.1)) es ++ entry_of label d
-entry_of-view f es after key d [] is same some = absurd (true≢false some)
-entry_of-view f es after key d (c ∷ cs) is same some =
-    ap (map (λ e. (f e.0, e.1))) is ∙ map-append (λ e. (f e.0, e.1)) es ((key, d) ∷ [])
-    ∙ ap (λ (k : List ℕ). map (λ e. (f e.0, e.1)) es ++ (k, d) ∷ []) same
+-- a label that isn't empty defines itself
+pub entry_of-some : (label : List ℕ) (d : Definition) → (length label == 0) ≡ false → (label, d) ∷ [] ≡ entry_of label d
+entry_of-some [] d some = absurd (true≢false some)
+entry_of-some (c ∷ cs) d some = refl
 
--- whether a label that isn't empty is among the names, by a look-up of its key
-pub is_among-key : {K : Type 0} (f : K → List ℕ) (es : List (K × Definition)) (key : K) (label : List ℕ) (old : Option Definition) → f key ≡ label → (length label == 0) ≡ false
-    → old ≡ lookup (λ k. bytes_eq (f key) (f k)) es → is_among (keys_of (map (λ e. (f e.0, e.1)) es)) label ≡ is_some old
-is_among-key f es key [] old same some is = absurd (true≢false some)
-is_among-key f es key (c ∷ cs) old same some is =
-    is_among-view f es (c ∷ cs) c cs refl
-    ∙ ap (λ (l : List ℕ). is_some (lookup (λ k. bytes_eq l (f k)) es)) (sym same)
-    ∙ ap is_some (sym is)
-
--- what isn't there is none
-pub none_of : {X : Type 0} (o : Option X) → is_some o ≡ false → o ≡ None
-none_of None h = refl
-none_of (Some x) h = absurd (true≢false h)
+-- whether a label that isn't empty is among the names, by a look-up
+pub is_among-found : (names : List (List ℕ × Definition)) (label : List ℕ) (old : Option Definition) → (length label == 0) ≡ false → old ≡ lookup (bytes_eq label) names
+    → is_among (keys_of names) label ≡ is_some old
+is_among-found names [] old some is = absurd (true≢false some)
+is_among-found names (c ∷ cs) old some is = sym (is_some-lookup (bytes_eq (c ∷ cs)) names) ∙ ap is_some (sym is)

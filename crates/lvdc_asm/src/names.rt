@@ -7,7 +7,7 @@ ghost use Rattle.lvdc_asm.specs.declared.fault.AsmFault.TheVariants.{NoMemory as
 
 use crate::AsmFault;
 use crate::data::DataPlace;
-use indexmap::IndexMap;
+use lvdc_index::Index;
 use lvdc_source::Item;
 use std::alloc::Global;
 use std::marker::Model;
@@ -22,16 +22,16 @@ pub(crate) struct Definition {
 /// The names of a source, in the order of their definition.
 #[derive(Drop)]
 pub(crate) struct Names {
-    table: IndexMap<Vec<u8>, Definition>,
+    table: Index<Definition>,
 }
 
 impl Model for Names {
-    ghost use Rattle.std.specs.Prelude.{ℕ, List, map};
+    ghost use Rattle.std.specs.Prelude.{ℕ, List};
     ghost use Rattle.lvdc_asm.specs.declared.names.Definition.{Definition};
 
     ghost Value = { List (List ℕ × Definition) };
 
-    ghost view = { λ n. map (λ e. (e.0.items, e.1)) n.table.entries };
+    ghost view = { λ n. n.table };
 }
 
 impl Names {
@@ -43,7 +43,7 @@ impl Names {
         ensures own { IfErr result IsOwn }
     {
         let mut names = Names {
-            table: IndexMap::new(alloc),
+            table: Index::new(alloc),
         };
         let mut assumed = DataPlace::first();
         for (number, item) in items.iter().enumerate() {
@@ -74,11 +74,10 @@ impl Names {
         if label.is_empty() {
             return Ok(());
         }
-        let key = Vec::from_slice(alloc, label)?;
-        let old = self.table.insert(key, definition)?;
-        if old.is_some() {
+        if self.table.get(label).is_some() {
             return Err(AsmFault::DuplicateName(line));
         }
+        self.table.add(alloc, label, definition)?;
         Ok(())
     }
 
@@ -86,6 +85,6 @@ impl Names {
     pub(crate) fn definition(&self, name: &[u8]) -> Option<Definition>
         ensures { result ≡ definition_of self.now name.now }
     {
-        self.table.get(name).copied()
+        self.table.get(name)
     }
 }

@@ -2,10 +2,11 @@
 use Rattle.std.proofs.Common.{◌≡◌, ℕ, suc, ◌+◌, ◌<◌, ◌≤◌, Bool, true, false, nat_le, nat_lt, ◌&&◌, ◌||◌, cond, is_some, refl, true≢false, List, [], ◌∷◌, ◌++◌, length, get_or, take, drop, map, codes, Option, None, Some, Result, Ok, Err, sym, ap, ◌∙◌, add-one, arith}
 use Rattle.std.specs.Bool.{if◌then◌else◌}
 use Rattle.std.proofs.lemmas.List.{drop_more, drop_all, map-append}
-use Rattle.std.specs.Map.{lookup}
+use Rattle.std.proofs.lemmas.Map.Made.{is_some-lookup}
+use Rattle.std.specs.Map.{lookup, keys_of}
 use Rattle.lvdc_text.specs.declared.cutting.Line.{Line}
 use Rattle.lvdc_text.specs.Lines.{lines_of, part_of}
-use Rattle.std.specs.List.{list_all}
+use Rattle.std.specs.List.{list_all, list_any}
 use Rattle.std.specs.Str.{bytes_eq}
 use Rattle.std.proofs.lemmas.Bool.{and_parts}
 use Rattle.std.proofs.lemmas.Bool.Decides.{nat_tests}
@@ -120,28 +121,31 @@ module _ (bytes : List ℕ) (s : Scripts) (lines : List Line) (i : ℕ) (total :
 
 -- ---- scripts by their names
 
-found_or : {X : Type 0} (b : Bool) (x : X) (o : Option X) (rest : Bool) → is_some o ≡ rest → is_some (cond b (Some x) o) ≡ (b || rest)
-found_or true x o rest e = refl
-found_or false x o rest e = e
+has-any : (name : List ℕ) (scripts : List Named) → list_any (bytes_eq name) (map (λ (script : Named). script.name) scripts) ≡ is_taken name scripts
+has-any name [] = refl
+has-any name (script ∷ scripts) = ap (λ rest. bytes_eq name script.name || rest) (has-any name scripts)
 
--- a look-up finds a name where it is taken; the names of the keys are seen by f
-pub taken-view : {K : Type 0} (f : K → List ℕ) (name : List ℕ) (es : List (K × List Event))
-    → is_some (lookup (λ k. bytes_eq name (f k)) es) ≡ is_taken name (map (λ e. named (f e.0) e.1) es)
-taken-view f name [] = refl
-taken-view f name (e ∷ es) = found_or (bytes_eq name (f e.0)) e.1 _ _ (taken-view f name es)
+-- a look-up finds a name where it is taken
+pub taken-found : {X : Type 0} (name : List ℕ) (names : List (List ℕ × X)) (scripts : List Named) (found : Option X) → found ≡ lookup (bytes_eq name) names
+    → keys_of names ≡ map (λ (script : Named). script.name) scripts → is_some found ≡ is_taken name scripts
+taken-found name names scripts found is keys =
+    ap is_some is ∙ is_some-lookup (bytes_eq name) names ∙ ap (list_any (bytes_eq name)) keys ∙ has-any name scripts
 
-pub none-found : {X : Type 0} (o : Option X) → is_some o ≡ false → o ≡ None
-none-found None e = refl
-none-found (Some x) e = absurd (true≢false e)
+-- a name that isn't taken isn't found
+pub none-taken : {X : Type 0} (name : List ℕ) (names : List (List ℕ × X)) (scripts : List Named)
+    → keys_of names ≡ map (λ (script : Named). script.name) scripts → is_taken name scripts ≡ false → lookup (bytes_eq name) names ≡ None
+none-taken {X} name names scripts keys new = by (lookup (bytes_eq name) names) refl
+  where
+    by : (found : Option X) → lookup (bytes_eq name) names ≡ found → lookup (bytes_eq name) names ≡ None
+    by None is = is
+    by (Some x) is = absurd (true≢false (taken-found name names scripts (Some x) (sym is) keys ∙ new))
 
--- a script more
-pub script-added : {K : Type 0} (f : K → List ℕ) (es after : List (K × List Event)) (key : K) (script : Named)
-    → after ≡ es ++ (key, script.script) ∷ [] → f key ≡ script.name
-    → map (λ e. named (f e.0) e.1) after ≡ map (λ e. named (f e.0) e.1) es ++ script ∷ []
-script-added {K} f es after key script is same =
-    let seen : K × List Event → Named = λ e. named (f e.0) e.1 in
-    ap (map seen) is ∙ map-append seen es ((key, script.script) ∷ [])
-    ∙ ap (λ (name : List ℕ). map seen es ++ named name script.script ∷ []) same
+-- a script more, and its name
+pub names-more : {X : Type 0} (names after : List (List ℕ × X)) (x : X) (scripts more : List Named) (script : Named) → keys_of names ≡ map (λ (s : Named). s.name) scripts
+    → after ≡ names ++ (script.name, x) ∷ [] → more ≡ scripts ++ script ∷ [] → keys_of after ≡ map (λ (s : Named). s.name) more
+names-more {X} names after x scripts more script keys is made =
+    ap keys_of is ∙ map-append (λ (e : List ℕ × X). e.0) names ((script.name, x) ∷ []) ∙ ap (λ (ks : List (List ℕ)). ks ++ script.name ∷ []) keys
+    ∙ sym (map-append (λ (s : Named). s.name) scripts (script ∷ [])) ∙ ap (map (λ (s : Named). s.name)) (sym made)
 
 -- ---- the deck before CAMPAIGN
 

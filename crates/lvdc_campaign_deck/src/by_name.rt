@@ -1,28 +1,32 @@
 //! Scripts that are found by their names, fast among many.
 
-ghost use Rattle.std.specs.Prelude.{◌≡◌, ◌<◌, ◌^◌, ◌++◌, ◌∷◌, [], false, length, IfOk, OnOk, OnErr};
+ghost use Rattle.std.specs.Prelude.{◌≡◌, ◌<◌, ◌^◌, ◌++◌, ◌∷◌, [], false, length, OnOk, OnErr};
 ghost use Rattle.lvdc_campaign_deck.specs.Scripts.{is_taken};
 
-use indexmap::IndexMap;
-use lvdc_fault::{Named, Script};
-use lvdc_word::{NoMemory, Seq};
+use lvdc_fault::Named;
+use lvdc_index::Index;
+use lvdc_word::NoMemory;
 use std::alloc::Global;
 use std::marker::Model;
 
 /// Scripts in their order, no two of one name.
 #[derive(Drop)]
 pub(crate) struct ByName {
-    table: IndexMap<Vec<u8>, Script>,
+    alloc: Global,
+    scripts: Vec<Named>,
+    names: Index<()>,
 }
 
 impl Model for ByName {
-    ghost use Rattle.std.specs.Prelude.{List, map};
+    ghost use Rattle.std.specs.Prelude.{◌≡◌, List, map};
+    ghost use Rattle.std.specs.Map.{keys_of};
     ghost use Rattle.lvdc_fault.specs.declared.named.Named.{Named};
-    ghost use Rattle.lvdc_campaign_deck.specs.Scripts.{named};
 
     ghost Value = { List Named };
 
-    ghost view = { λ s. map (λ entry. named entry.0.items entry.1) s.table.entries };
+    ghost view = { λ s. s.scripts.items };
+
+    ghost invariant = { λ s. keys_of s.names ≡ map (λ named. named.name) s.scripts.items };
 }
 
 impl ByName {
@@ -31,7 +35,9 @@ impl ByName {
         ensures { result ≡ [] }
     {
         ByName {
-            table: IndexMap::new(alloc),
+            alloc,
+            scripts: Vec::new(alloc),
+            names: Index::new(alloc),
         }
     }
 
@@ -40,14 +46,14 @@ impl ByName {
         ensures count { result ≡ length self.now }
         ensures small { result < 2 ^ 63 }
     {
-        self.table.len()
+        self.scripts.len()
     }
 
     /// Has one of them this name?
     pub(crate) fn is_taken(&self, name: &[u8]) -> bool
         ensures { result ≡ is_taken name.now self.now }
     {
-        self.table.contains_key(name)
+        self.names.get(name).is_some()
     }
 
     /// Adds a script behind the others.
@@ -56,23 +62,21 @@ impl ByName {
         ensures added { OnOk result (self.new ≡ self.old ++ script ∷ []) }
         ensures kept { OnErr result (self.new ≡ self.old) }
     {
-        let Named { name, script } = script;
-        self.table.insert(name.into_vec(), script)?;
+        self.scripts.reserve(1)?;
+        self.names.add(self.alloc, script.name.items(), ())?;
+        self.scripts.push_reserved(script);
         Ok(())
     }
 
-    /// All of them, in their order.
-    pub(crate) fn into_vec(self, alloc: Global) -> Result<Vec<Named>, NoMemory>
-        ensures { IfOk result (λ scripts. scripts.items ≡ self) }
+    /// All of them, in their order. It takes no memory.
+    pub(crate) fn into_vec(self) -> Vec<Named>
+        ensures { result.items ≡ self }
     {
-        let mut scripts = Vec::new(alloc);
-        for (name, script) in self.table {
-            let name = Seq::from_vec(name);
-            match scripts.push(Named { name, script }) {
-                Ok(()) => {}
-                Err(_) => return Err(NoMemory),
-            }
-        }
-        Ok(scripts)
+        let ByName {
+            alloc: _,
+            scripts,
+            names: _,
+        } = self;
+        scripts
     }
 }

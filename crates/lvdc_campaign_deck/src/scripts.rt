@@ -108,14 +108,14 @@ impl Scripts {
     }
 
     /// All scripts, in their order.
-    fn into_all(mut self, alloc: Global) -> Result<Vec<Named>, NoMemory>
+    fn into_all(mut self) -> Result<Vec<Named>, NoMemory>
         ensures all { IfOk result (λ all. all.items ≡ all_scripts self) }
         ensures few { IfOk result (λ all. length all.items ≤ self.most) }
         ensures run { IfOk result (λ all. All (CanRun MOST_EVENTS) all.items) }
     {
         self.close()?;
         let Scripts { before, .. } = self;
-        before.into_vec(alloc)
+        Ok(before.into_vec())
     }
 
     /// Begins a further script.
@@ -239,6 +239,6 @@ pub fn read_scripts(
             Err(fault) => return Err(fault),
         }
     }
-    let all = scripts.into_all(alloc)?;
+    let all = scripts.into_all()?;
     Ok(all)
 }

@@ -1,3 +1,4 @@
+mod Rows
 mod Writing
 mod Naming
 mod Substituting

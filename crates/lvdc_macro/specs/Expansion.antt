@@ -4,9 +4,7 @@ use Rattle.std.specs.declared.option.Option.{Option}
 use Rattle.std.specs.declared.option.Option.TheVariants.{None, Some}
 use Rattle.lvdc_text.specs.Joined.{text_of}
 use Rattle.lvdc_text.specs.Lines.{NumberedLine}
-use Rattle.lvdc_macro.specs.declared.arguments.TheConstants.{MOST_ARGUMENTS}
-use Rattle.lvdc_macro.specs.declared.expansion.TheConstants.{LONGEST_EXPANSION, MOST_CALLS}
-use Rattle.lvdc_macro.specs.declared.source.TheConstants.{MOST_LEVELS}
+use Rattle.lvdc_macro.specs.Limits.{most_levels, most_calls, most_arguments, longest_expansion}
 use Rattle.lvdc_macro.specs.declared.fault.MacroFault.{MacroFault}
 use Rattle.lvdc_macro.specs.declared.fault.MacroFault.TheVariants.{BadMacro, TooDeep, TooManyCalls, ExpansionTooLong}
 use Rattle.lvdc_macro.specs.Macros.{Macro, Meaning, Text, Begin, End, Call, meaning_of, may_be_named}
@@ -36,7 +34,7 @@ piece_of lines after = record { lines = lines; after = after }
 -- a line is written as it is, unless the expansion becomes too long by it
 abbrev pub write : ℕ → Progress → List ℕ → Result Piece MacroFault
 write origin p text =
-    if nat_lt LONGEST_EXPANSION (p.size + length text + 1) then Err (ExpansionTooLong origin)
+    if nat_lt longest_expansion (p.size + length text + 1) then Err (ExpansionTooLong origin)
     else Ok (piece_of (record { text = text; origin = origin } ∷ []) (record p { size = p.size + length text + 1 }))
 
 -- lines before those of a later piece
@@ -58,11 +56,11 @@ pieces piece p (text ∷ texts) = and_then (piece p text) (λ q. pieces piece q 
 
 -- a call has no label and at most nine arguments
 abbrev pub is_wrong_call : Bool → List ℕ → Bool
-is_wrong_call labelled operand = labelled || nat_lt MOST_ARGUMENTS (length (arguments_of operand))
+is_wrong_call labelled operand = labelled || nat_lt most_arguments (length (arguments_of operand))
 
 -- a line of a body, unless it alone is longer than an expansion may be
 abbrev pub unless_longer : ℕ → List ℕ → Result Piece MacroFault → Result Piece MacroFault
-unless_longer origin text piece = if nat_lt LONGEST_EXPANSION (length text + 1) then Err (ExpansionTooLong origin) else piece
+unless_longer origin text piece = if nat_lt longest_expansion (length text + 1) then Err (ExpansionTooLong origin) else piece
 
 -- a line of a body, by what it is; no macro begins or ends there
 abbrev pub inner_by : (Progress → Bool → List ℕ → List (List ℕ) → Result Piece MacroFault) → ℕ → Progress → List ℕ → Meaning → Result Piece MacroFault
@@ -76,7 +74,7 @@ unfoldable pub called : ℕ → List Macro → ℕ → Progress → Bool → Lis
 called zero macros origin p labelled operand body = if is_wrong_call labelled operand then Err (BadMacro origin) else Err (TooDeep origin)
 called (suc left) macros origin p labelled operand body =
     if is_wrong_call labelled operand then Err (BadMacro origin)
-    else (if nat_lt MOST_CALLS (p.calls + 1) then Err (TooManyCalls origin)
+    else (if nat_lt most_calls (p.calls + 1) then Err (TooManyCalls origin)
     else pieces (λ q text. unless_longer origin text (inner_by (called left macros origin) origin q text (meaning_of macros text))) (record p { calls = p.calls + 1 })
     (map (substituted (p.calls + 1) (arguments_of operand)) body))
 
@@ -124,7 +122,7 @@ outside_by s line (Begin name) =
     if may_be_named s.macros name then Ok (step_of [] (record s { pending = Some (record { name = name; body = [] }) }))
     else Err (BadMacro line.number)
 outside_by s line (End labelled) = Err (BadMacro line.number)
-outside_by s line (Call labelled operand body) = with_piece s (called MOST_LEVELS s.macros line.number s.progress labelled operand body)
+outside_by s line (Call labelled operand body) = with_piece s (called most_levels s.macros line.number s.progress labelled operand body)
 
 -- by whether a definition is open
 abbrev pub by_pending : State → NumberedLine → Option Macro → Result Step MacroFault

@@ -1,3 +1,4 @@
+pub mod Limits
 pub mod Macros
 pub mod Substitution
 pub mod Faults

@@ -2,7 +2,7 @@ ghost use Rattle.std.specs.Prelude.{◌≡◌, ℕ, List, ◌++◌, ◌∷◌, [
 ghost use Rattle.lvdc_macro.specs.Macros.{is_reserved, may_be_named};
 ghost use Rattle.lvdc_macro.specs.Making.{lines_named, macros_of};
 
-use indexmap::IndexMap;
+use lvdc_index::Index;
 use lvdc_source::{is_name, is_operation};
 use lvdc_text::Line;
 use lvdc_word::NoMemory;
@@ -12,7 +12,7 @@ use std::marker::Model;
 /// The macros that a source has defined so far: their names and the lines of their bodies.
 #[derive(Drop)]
 pub(crate) struct Macros<'a> {
-    table: IndexMap<Vec<u8>, &'a [Line]>,
+    table: Index<&'a [Line]>,
 }
 
 impl<'a> Model for Macros<'a> {
@@ -21,7 +21,7 @@ impl<'a> Model for Macros<'a> {
 
     ghost Value = { List (List ℕ × List Line) };
 
-    ghost view = { λ m. map (λ e. (e.0.items, e.1.now)) m.table.entries };
+    ghost view = { λ m. map (λ e. (e.0, e.1.now)) m.table };
 }
 
 impl<'a> Macros<'a> {
@@ -30,7 +30,7 @@ impl<'a> Macros<'a> {
         ensures { result ≡ [] }
     {
         Macros {
-            table: IndexMap::new(alloc),
+            table: Index::new(alloc),
         }
     }
 
@@ -38,7 +38,7 @@ impl<'a> Macros<'a> {
     pub(crate) fn body(&self, name: &[u8]) -> Option<&'a [Line]>
         ensures { option_map (λ body. body.now) result ≡ lines_named self.now name.now }
     {
-        self.table.get(name).copied()
+        self.table.get(name)
     }
 
     /// Whether a new macro may have this name.
@@ -58,8 +58,7 @@ impl<'a> Macros<'a> {
         requires new { lines_named self.old name.now ≡ None }
         ensures added { OnOk result (self.new ≡ self.old ++ (name.now, body.now) ∷ []) }
     {
-        self.table.insert(Vec::from_slice(alloc, name)?, body)?;
-        Ok(())
+        self.table.add(alloc, name, body)
     }
 }
 

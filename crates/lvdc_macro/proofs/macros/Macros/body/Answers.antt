@@ -6,6 +6,6 @@ use Rattle.lvdc_macro.proofs.macros.Macros.body.Goals as goal
 
 pub returns : goal.returns
 returns c =
-    ap (option_map (λ body. body.now)) (c.copied.ensures ∙ c.get.ensures.value)
-    ∙ sym (lookup-view (λ k. k.items) (λ v. v.now) (bytes_eq c.args.name.now) c.self.inside.table.entries)
+    ap (option_map (λ body. body.now)) c.get.ensures
+    ∙ sym (lookup-view (λ k. k) (λ v. v.now) (bytes_eq c.args.name.now) c.self.inside.table)
     ∙ ap (λ entries. lines_named entries c.args.name.now) c.self.view_is
