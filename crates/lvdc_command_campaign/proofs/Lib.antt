@@ -1,3 +1,5 @@
 mod Counts
 mod Runnable
 pub mod Admitted
+mod Rows
+mod SameRows

@@ -4,5 +4,5 @@
 mod reply;
 mod text;
 
-pub use reply::study_bytes;
+pub use reply::{refuse, study_bytes};
 pub use text::put_verdict;

@@ -54,8 +54,8 @@ fn run(alloc: Global, deck: CampaignDeck) -> Result<Reply, NoMemory>
     })
 }
 
-/// The reply to a refused campaign.
-fn refuse(alloc: Global, fault: CampaignFault) -> Result<Reply, NoMemory>
+/// The reply to a refused campaign, or to a refused study.
+pub fn refuse(alloc: Global, fault: CampaignFault) -> Result<Reply, NoMemory>
     ensures refused { OnOk result (fault ≢ WantsMemory) }
     ensures status { IfOk result (λ reply. reply.status ≡ fault_status fault) }
     ensures text { IfOk result (λ reply. reply.text ≡ refusal_text (name_of fault) (line_of fault)) }

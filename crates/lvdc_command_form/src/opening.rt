@@ -11,7 +11,7 @@ use lvdc_map::{is_hop_constant, places_words};
 use lvdc_port::{supplies_words, words_stay};
 
 /// Over devices that hold words it opens with words and a HOP constant. The call has no effect.
-pub(crate) fn opens_with_words(deck: &Deck)
+pub fn opens_with_words(deck: &Deck)
     ensures { (devices : List Device) → HoldWords devices → IsOpening (trial_of devices deck.now).opening }
 {
     places_words(deck.image.words());

@@ -1,1 +1,4 @@
 pub mod Texts
+pub mod Answers
+pub mod Replies
+pub mod Studied

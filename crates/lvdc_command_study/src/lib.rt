@@ -2,6 +2,7 @@
 //! total.
 #![tactic(auto)]
 
+mod reply;
 mod text;
 
-pub use text::study_text;
+pub use reply::study_bytes;

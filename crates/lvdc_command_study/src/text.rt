@@ -162,7 +162,7 @@ fn put_total(out: &mut Vec<u8>, rows: &[Row]) -> Result<(), NoMemory>
 }
 
 /// The text of the rows of a study.
-pub fn study_text(alloc: Global, rows: &[Row]) -> Result<Vec<u8>, NoMemory>
+pub(crate) fn study_text(alloc: Global, rows: &[Row]) -> Result<Vec<u8>, NoMemory>
     requires { All (λ row. length row.name ≤ 8) rows.now }
     ensures text { IfOk result (λ text. text.items ≡ study_text rows.now) }
     ensures short { IfOk result (λ text. length text.items ≤ 174 * length rows.now + 111) }

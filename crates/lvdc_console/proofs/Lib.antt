@@ -1,3 +1,4 @@
 mod Over
 mod Rows
 mod Inquiring
+mod Held

@@ -3,6 +3,7 @@ ghost use Rattle.lvdc_inquiries.specs.Words.{most_bytes, IsInquiry};
 ghost use Rattle.lvdc_console.specs.Inquired.{IsInquired};
 ghost use Rattle.lvdc_console.specs.Rack.{rack};
 
+use crate::bench::Rack;
 use crate::devices::{four_tapes, other_devices, plug_in_four, sixteen_devices};
 use crate::rack::is_whole;
 use lvdc_inquiries::{Inquiry, inquire};
@@ -22,5 +23,5 @@ pub fn inquire_over_rack(alloc: Global, inquiry: Inquiry, bytes: &[u8]) -> Resul
     ensures room { IfOk result (λ reply. length reply.text ≤ LONGEST_REPORT) }
 {
     let mut devices = sixteen_devices!(alloc);
-    inquire(alloc, inquiry, bytes, &mut devices)
+    inquire(alloc, inquiry, bytes, &mut devices, &Rack)
 }

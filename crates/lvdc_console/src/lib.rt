@@ -1,6 +1,7 @@
 //! A command over the program's own devices: sixteen of them at the ports, any source and any sink.
 #![tactic(auto)]
 
+mod bench;
 mod command;
 mod devices;
 mod inquiry;
@@ -9,4 +10,5 @@ mod reply;
 
 pub use command::run;
 pub use inquiry::inquire_over_rack;
+pub use rack::rack_holds_words;
 pub use reply::reply_over_rack;

@@ -1,5 +1,5 @@
 ghost use Rattle.std.specs.Prelude.{◌≡◌, ◌+◌, ◌<◌, map, vec_len, vec_capacity, IfOk};
-ghost use Rattle.lvdc_port.specs.Devices.{AreDistinct};
+ghost use Rattle.lvdc_port.specs.Devices.{AreDistinct, HoldWords};
 ghost use Rattle.lvdc_console.specs.Rack.{rack, tape_at, latch_at, ticker_at, recorder_at, device_at, IsFilled};
 
 use lvdc_port::{Latch, PortDevice, Recorder, Tape, Ticker};
@@ -54,4 +54,9 @@ pub(crate) fn is_whole(devices: &Vec<Box<dyn PortDevice>>)
     requires { IsFilled device_of 16 devices.now.items (vec_len devices.now) (vec_capacity devices.now) }
     ensures rack { map device_of devices.now.items ≡ rack }
     ensures distinct { AreDistinct (map device_of devices.now.items) }
+{}
+
+/// A law: the sixteen devices hold words, so what is said of replies over devices that hold words is said of those over the rack.
+pub fn rack_holds_words()
+    ensures { HoldWords rack }
 {}

@@ -7,7 +7,7 @@ use Rattle.lvdc_machine.specs.declared.mode.Mode.{Mode}
 use Rattle.lvdc_machine.specs.declared.mode.Mode.TheVariants.{Guarded, Through}
 use Rattle.lvdc_cli.specs.Words.{is}
 use Rattle.lvdc_inquiries.specs.declared.inquiry.Inquiry.{Inquiry}
-use Rattle.lvdc_inquiries.specs.declared.inquiry.Inquiry.TheVariants.{Trace, Form}
+use Rattle.lvdc_inquiries.specs.declared.inquiry.Inquiry.TheVariants.{Trace, Form, Study}
 
 -- ---- words
 
@@ -41,9 +41,9 @@ of_four name flag first count =
 
 -- what is asked by a name alone
 abbrev pub of_one : List ℕ → Option Inquiry
-of_one name = if is (codes "form") name then Some Form else None
+of_one name = if is (codes "form") name then Some Form else (if is (codes "study") name then Some Study else None)
 
--- `form`, `trace` with two numbers, and `trace --through` with two
+-- `form`, `study`, `trace` with two numbers, and `trace --through` with two
 abbrev pub inquiry_of : List (List ℕ) → Option Inquiry
 inquiry_of (name ∷ []) = of_one name
 inquiry_of (name ∷ first ∷ count ∷ []) = of_three name first count
@@ -56,8 +56,10 @@ inquiry_of words = None
 abbrev pub most_bytes : Inquiry → ℕ
 most_bytes (Trace mode window) = 1048576
 most_bytes Form = 1048576
+most_bytes Study = 1048576
 
 -- the numbers of an inquiry are in their ranges
 abbrev pub IsInquiry : Inquiry → Type 0
 IsInquiry (Trace mode window) = (window.first ≤ 3000000) × (window.count ≤ 100000)
 IsInquiry Form = Unit {0}
+IsInquiry Study = Unit {0}

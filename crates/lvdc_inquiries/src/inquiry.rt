@@ -13,6 +13,8 @@ pub enum Inquiry {
     Trace { mode: Mode, window: Window },
     /// `form`: reads a deck and tells whether its script masks by form.
     Form,
+    /// `study`: reads a study and tells its rows.
+    Study,
 }
 
 impl Inquiry {
@@ -21,7 +23,7 @@ impl Inquiry {
         ensures { result ≡ most_bytes self }
     {
         match self {
-            Inquiry::Trace { .. } | Inquiry::Form => 1_048_576,
+            Inquiry::Trace { .. } | Inquiry::Form | Inquiry::Study => 1_048_576,
         }
     }
 }
@@ -99,6 +101,7 @@ fn of_one(name: &String) -> Option<Inquiry>
 {
     match name.as_str() {
         "form" => Some(Inquiry::Form),
+        "study" => Some(Inquiry::Study),
         _ => None,
     }
 }

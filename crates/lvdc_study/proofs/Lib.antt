@@ -5,3 +5,5 @@ mod Judged
 mod Making
 mod Parts
 mod Rowing
+mod LimitRows
+mod Studying

@@ -17,40 +17,76 @@ use Rattle.lvdc_plain.specs.declared.records.Unplug.{Unplug}
 use Rattle.lvdc_fault.specs.declared.event.Event.{Event}
 use Rattle.lvdc_model.specs.declared.outcome.Outcome.{Outcome}
 use Rattle.lvdc_model.specs.declared.outcome.Outcome.TheVariants.{Done, Stopped, Inadmissible, Device}
+use Rattle.lvdc_model.specs.Trial.{Trial}
 use Rattle.lvdc_laws_voted.specs.Ends.{IsOpening}
 use Rattle.lvdc_machine.specs.Causes.{HasCause}
-use Rattle.lvdc_machine.specs.Stands.{Stands}
+use Rattle.lvdc_machine.specs.Stands.{Stands, EndsAs}
 use Rattle.lvdc_machine.specs.View.{View, answer_of_end}
 use Rattle.lvdc_machine.specs.declared.mode.Mode.{Mode}
 use Rattle.lvdc_campaign.specs.Campaign.{trial_under}
 use Rattle.lvdc_campaign.specs.Ran.{HasRun, HasRunPlainly, NoneFailed, NonePlainlyFailed}
-use Rattle.lvdc_study.specs.Failures.{EndsIn, EndsPlainlyIn}
+use Rattle.lvdc_study.specs.Failures.{EndsIn, EndsPlainlyIn, Exchanges, ExchangesPlainly}
 use Rattle.lvdc_study.specs.Study.{opening_over}
 use Rattle.lvdc_study.specs.declared.program.Program.{Program}
 
--- what a machine was made of is the opening of the program over the devices
+-- ---- a run that a device's failure ended comes to an exchange with that device
+
+plain-exchange : (o : Opening) (times : ℕ) (m : plain_view.View) (now : List device.Device) (port : ℕ) (end : Option PlainEnd) → plain.EndsAs o times m now end
+    → EndsPlainlyIn end port → (step : ℕ) × ExchangesPlainly o times step port
+plain-exchange o times m now port None e is = absurd is
+plain-exchange o times m now port (Some plain_ends.Done) e is = absurd is
+plain-exchange o times m now port (Some (plain_ends.Stopped step stop)) e is = absurd is
+plain-exchange o times m now port (Some (plain_ends.Device step failed)) e is =
+    subst (λ (q : ℕ). (step : ℕ) × ExchangesPlainly o times step q) is (step, record { machine = m; left = now; exchange = e })
+
+voted-exchange : (o : Trial) (times : ℕ) (mode : Mode) (steps port : ℕ) (end : Option Outcome) → EndsAs end o (3 * times) mode steps
+    → EndsIn end port → (step : ℕ) × Exchanges o times step port
+voted-exchange o times mode steps port None e is = absurd is
+voted-exchange o times mode steps port (Some Done) e is = absurd is
+voted-exchange o times mode steps port (Some (Stopped step stop)) e is = absurd is
+voted-exchange o times mode steps port (Some (Inadmissible verdict)) e is = absurd is
+voted-exchange o times mode steps port (Some (Device step failed)) e is =
+    subst (λ (q : ℕ). (step : ℕ) × Exchanges o times step q) is (step, record { mode = mode; exchange = e })
+
+-- ---- what a machine was made of is the opening of the program over the devices
+
 module _ (p : Program) (devices ready : List device.Device) (unplugs : List Unplug) (u : unplugs ≡ p.unplugs.now) (r : ready ≡ supplied p.supplies.now devices) where
   opening-same : record { image = p.image.now; banks = p.banks; start = p.start; unplugs = unplugs; devices = ready } ≡ opening_over p devices
   opening-same = λ i. record { image = p.image.now; banks = p.banks; start = p.start; unplugs = u i; devices = r i }
+
+  plainly-stands : (m : plain_view.View) (now : List device.Device)
+      → plain.Stands (record { image = p.image.now; banks = p.banks; start = p.start; unplugs = unplugs; devices = ready }) (0 + p.count) m now
+      → plain.Stands (opening_over p devices) p.count m now
+  plainly-stands m now stands =
+      let here : plain.Stands (opening_over p devices) (0 + p.count) m now = subst (λ (o : Opening). plain.Stands o (0 + p.count) m now) opening-same stands in
+      subst (λ (n : ℕ). plain.Stands (opening_over p devices) n m now) (zero-add p.count) here
+
+  stands-under : (script : List Event) (m : View) (now : List device.Device)
+      → Stands (trial_under (record { image = p.image.now; banks = p.banks; start = p.start; unplugs = unplugs; devices = ready }) script) (0 + 3 * p.count) m now
+      → Stands (trial_under (opening_over p devices) script) (3 * p.count) m now
+  stands-under script m now stands =
+      let o = trial_under (opening_over p devices) script in
+      let here : Stands o (0 + 3 * p.count) m now = subst (λ (q : Opening). Stands (trial_under q script) (0 + 3 * p.count) m now) opening-same stands in
+      subst (λ (n : ℕ). Stands o n m now) (zero-add (3 * p.count)) here
 
   pub plainly-run : ((program : Opening) (times : ℕ) (m : plain_view.View) (ds : List device.Device) → m.banks ≡ program.banks → plain.Stands program times m ds
       → NonePlainlyFailed m.end → HasRunPlainly program times m)
       → (m : plain_view.View) (now : List device.Device) → m.banks ≡ p.banks
       → plain.Stands (record { image = p.image.now; banks = p.banks; start = p.start; unplugs = unplugs; devices = ready }) (0 + p.count) m now
       → NonePlainlyFailed m.end → HasRunPlainly (opening_over p devices) p.count m
-  plainly-run law m now banks stands unfailed =
-      let here : plain.Stands (opening_over p devices) (0 + p.count) m now = subst (λ (o : Opening). plain.Stands o (0 + p.count) m now) opening-same stands in
-      let later : plain.Stands (opening_over p devices) p.count m now = subst (λ (n : ℕ). plain.Stands (opening_over p devices) n m now) (zero-add p.count) here in
-      law (opening_over p devices) p.count m now banks later unfailed
+  plainly-run law m now banks stands unfailed = law (opening_over p devices) p.count m now banks (plainly-stands m now stands) unfailed
+
+  pub plainly-asked : (m : plain_view.View) (now : List device.Device) (port : ℕ)
+      → plain.Stands (record { image = p.image.now; banks = p.banks; start = p.start; unplugs = unplugs; devices = ready }) (0 + p.count) m now
+      → EndsPlainlyIn m.end port → (step : ℕ) × ExchangesPlainly (opening_over p devices) p.count step port
+  plainly-asked m now port stands = plain-exchange (opening_over p devices) p.count m now port m.end (plainly-stands m now stands).ends
 
   pub has-run : (script : List Event) (mode : Mode) (m : View) (now : List device.Device)
       → IsOpening (record { image = p.image.now; banks = p.banks; start = p.start; unplugs = unplugs; devices = ready }) → m.mode ≡ mode
       → Stands (trial_under (record { image = p.image.now; banks = p.banks; start = p.start; unplugs = unplugs; devices = ready }) script) (0 + 3 * p.count) m now
       → NoneFailed m.end → HasRun mode (trial_under (opening_over p devices) script) p.count m
   has-run script mode m now opens mode_is stands unfailed =
-      let o = trial_under (opening_over p devices) script in
-      let here : Stands o (0 + 3 * p.count) m now = subst (λ (q : Opening). Stands (trial_under q script) (0 + 3 * p.count) m now) opening-same stands in
-      let later : Stands o (3 * p.count) m now = subst (λ (n : ℕ). Stands o n m now) (zero-add (3 * p.count)) here in
+      let later = stands-under script m now stands in
       record {
         opening = subst IsOpening opening-same opens;
         banks = later.shows.banks;
@@ -60,6 +96,12 @@ module _ (p : Program) (devices ready : List device.Device) (unplugs : List Unpl
         stands = later;
         unfailed = unfailed;
       }
+
+  pub asked-under : (script : List Event) (m : View) (now : List device.Device) (port : ℕ)
+      → Stands (trial_under (record { image = p.image.now; banks = p.banks; start = p.start; unplugs = unplugs; devices = ready }) script) (0 + 3 * p.count) m now
+      → EndsIn m.end port → (step : ℕ) × Exchanges (trial_under (opening_over p devices) script) p.count step port
+  asked-under script m now port stands =
+      voted-exchange (trial_under (opening_over p devices) script) p.count m.mode m.steps port m.end (stands-under script m now stands).ends
 
 -- ---- devices that fail
 

@@ -21,7 +21,9 @@ use Rattle.lvdc_machine.specs.View.{View}
 use Rattle.lvdc_machine.specs.declared.mode.Mode.TheVariants.{Guarded, Through}
 use Rattle.lvdc_campaign.specs.Campaign.{trial_under}
 use Rattle.lvdc_campaign.specs.Ran.{HasRun, HasRunPlainly}
+use Rattle.lvdc_study.specs.Failures.{FailsUnder}
 use Rattle.lvdc_study.specs.declared.difference.Difference.{Difference}
+use Rattle.lvdc_study.specs.declared.fault.Unstudied.{Unstudied}
 use Rattle.lvdc_study.specs.declared.program.Program.{Program}
 use Rattle.lvdc_study.specs.Outcomes.{first_difference}
 use Rattle.lvdc_study.specs.Study.{opening_over, row_with, row_of, IsSame}
@@ -72,3 +74,11 @@ module _ (p : Program) (devices : List Device) (named : Named) (judged : View) (
   pub form-admits : ((o : Trial) (count : ℕ) → IsOpening o.opening → masks o.script o.opening.banks count ≡ true → Masked o count)
       → form ≡ true → verdict ≡ Admissible
   form-admits law masking = tells o p.count run ∙ (law o p.count run.opening (sym is_form ∙ masking)).verdict
+
+  -- why a second machine wasn't made is why the script has no row
+  pub fails-again : (second : List Device) (again : List Event) → second ≡ devices → again ≡ judged.script → (e : Unstudied)
+      → FailsUnder (trial_under (opening_over p second) again) p.count e → FailsUnder o p.count e
+  fails-again second again d s e fails =
+      let script : again ≡ named.script = s ∙ run.script in
+      let same : trial_under (opening_over p second) again ≡ o = λ i. trial_under (opening_over p (d i)) (script i) in
+      subst (λ (t : Trial). FailsUnder t p.count e) same fails

@@ -8,6 +8,7 @@ use Rattle.lvdc_port.specs.Supplies.{supplied}
 use Rattle.lvdc_plain.specs.Run.{Opening, run}
 use Rattle.lvdc_fault.specs.declared.named.Named.{Named}
 use Rattle.lvdc_fault.specs.declared.verdict.Verdict.{Verdict}
+use Rattle.lvdc_fault.specs.declared.verdict.Verdict.TheVariants.{Admissible}
 use Rattle.lvdc_masks.specs.Form.{masks}
 use Rattle.lvdc_model.specs.declared.repair.Repair.{Repair}
 use Rattle.lvdc_model.specs.Judging.{first_bad}
@@ -69,3 +70,8 @@ pub record IsSame (o : Trial) (times : ℕ) : Type 0 where
   pub difference : first_difference o times ≡ None
   pub log : (through o (3 * times)).log ≡ (plain_at o times).log
   pub devices : (through o (3 * times)).devices ≡ (run o.opening times).devices
+
+-- what is so of a row: where it is admissible it is the same, and where its script masks by form it is admissible
+pub record KeepsLaws (row : Row) : Type 0 where
+  pub same : row.verdict ≡ Admissible → row.difference ≡ None
+  pub form : row.masks ≡ true → row.verdict ≡ Admissible

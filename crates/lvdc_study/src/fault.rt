@@ -31,3 +31,11 @@ impl From<AllocError> for Unstudied {
         Unstudied::NoMemory
     }
 }
+
+impl<T: Drop> From<AllocFailed<T>> for Unstudied {
+    ghost from_gives = { λ _ e. e ≡ WantsMemory };
+
+    fn from(_: AllocFailed<T>) -> Unstudied {
+        Unstudied::NoMemory
+    }
+}

@@ -1,4 +1,6 @@
-ghost use Rattle.std.specs.Prelude.{◌≡◌, ℕ, ◌*◌, is_none};
+ghost use Rattle.std.specs.Prelude.{◌≡◌, ℕ, ◌*◌, is_none, All, List};
+ghost use Rattle.lvdc_plain.specs.Run.{Opening};
+ghost use Rattle.lvdc_fault.specs.declared.named.Named.{Named};
 ghost use Rattle.lvdc_fault.specs.declared.verdict.Verdict.TheVariants.{Admissible};
 ghost use Rattle.lvdc_laws_voted.specs.Ends.{IsOpening};
 ghost use Rattle.lvdc_machine.specs.View.{View};
@@ -9,7 +11,7 @@ ghost use Rattle.lvdc_model.specs.Trial.{Trial};
 ghost use Rattle.lvdc_campaign.specs.Campaign.{is_same};
 ghost use Rattle.lvdc_campaign.specs.Ran.{HasRun};
 ghost use Rattle.lvdc_study.specs.Outcomes.{first_difference};
-ghost use Rattle.lvdc_study.specs.Study.{IsSame};
+ghost use Rattle.lvdc_study.specs.Study.{rows_of, IsSame, KeepsLaws};
 
 /// A law, which does nothing when it runs: under a script whose steps are all admissible the run through every fault comes to
 /// what the plain run comes to, port log and devices included.
@@ -25,6 +27,14 @@ pub fn admissible_comes_to_the_same()
 pub fn no_difference_is_same()
     ensures { (o : Trial) (times : ℕ) → is_none (first_difference o times) ≡ is_same o times }
 {}
+
+/// A law: of the rows of scripts each admissible one is the same, and each whose script masks by form is admissible.
+pub fn rows_keep_laws()
+    ensures { (opening : Opening) (times : ℕ) (scripts : List Named) → IsOpening opening → All KeepsLaws (rows_of opening times scripts) }
+{
+    admissible_comes_to_the_same();
+    lvdc_laws_masking::form_masks();
+}
 
 /// A law: where all steps are admissible a machine that judges has counted and repaired what the run through every fault has.
 pub(crate) fn judged_goes_through()

@@ -2,6 +2,7 @@
 //! plain run, what the redundancy did, and whether the script masks by form.
 #![tactic(auto)]
 
+mod bench;
 mod compare;
 mod difference;
 mod fault;
@@ -9,14 +10,17 @@ mod laws;
 mod program;
 mod row;
 mod runs;
+mod scripts;
 mod study;
 
+pub use bench::Bench;
 pub use difference::Difference;
 pub use fault::Unstudied;
-pub use laws::{admissible_comes_to_the_same, no_difference_is_same};
+pub use laws::{admissible_comes_to_the_same, no_difference_is_same, rows_keep_laws};
 pub use program::Program;
 pub use row::Row;
 pub use runs::run_plain;
+pub use scripts::study_scripts;
 pub use study::study_script;
 
 /// The most instruction times of a run (this project's profile).

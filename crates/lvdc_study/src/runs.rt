@@ -6,7 +6,7 @@ ghost use Rattle.lvdc_port.specs.Devices.{AreDistinct};
 ghost use Rattle.lvdc_campaign.specs.declared.TheConstants.{MOST_EVENTS};
 ghost use Rattle.lvdc_campaign.specs.Campaign.{trial_under};
 ghost use Rattle.lvdc_campaign.specs.Ran.{HasRun, HasRunPlainly, NoneFailed, NonePlainlyFailed};
-ghost use Rattle.lvdc_study.specs.Failures.{HasFailed, EndsIn, EndsPlainlyIn};
+ghost use Rattle.lvdc_study.specs.Failures.{HasFailed, FailsUnder, FailsPlainly, EndsIn, EndsPlainlyIn};
 ghost use Rattle.lvdc_study.specs.Study.{opening_over, IsProgram};
 
 use crate::{Program, Unstudied};
@@ -47,6 +47,7 @@ pub fn run_plain(
     requires distinct { AreDistinct (map device_of devices.old.items) }
     ensures run { IfOk result (λ plain. HasRunPlainly (opening_over program.now (map device_of devices.old.items)) program.now.count plain) }
     ensures failed { IfErr result (λ e. HasFailed device_of faults e devices.old.items devices.new.items) }
+    ensures fails { IfErr result (λ e. FailsPlainly (opening_over program.now (map device_of devices.old.items)) program.now.count e) }
 {
     plain_machine_has_run();
     supply_all(devices, program.supplies)?;
@@ -81,6 +82,7 @@ pub(crate) fn run_script(
     requires distinct { AreDistinct (map device_of devices.old.items) }
     ensures run { IfOk result (λ machine. HasRun mode (trial_under (opening_over program.now (map device_of devices.old.items)) script) program.now.count machine) }
     ensures failed { IfErr result (λ e. HasFailed device_of faults e devices.old.items devices.new.items) }
+    ensures fails { IfErr result (λ e. FailsUnder (trial_under (opening_over program.now (map device_of devices.old.items)) script) program.now.count e) }
 {
     supply_all(devices, program.supplies)?;
     let unplugs = Vec::from_slice(alloc, program.unplugs)?;

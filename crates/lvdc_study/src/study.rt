@@ -7,7 +7,7 @@ ghost use Rattle.lvdc_port.specs.Devices.{AreDistinct};
 ghost use Rattle.std.specs.declared.option.Option.TheVariants.{None};
 ghost use Rattle.lvdc_campaign.specs.Campaign.{trial_under, IsScript};
 ghost use Rattle.lvdc_campaign.specs.Ran.{HasRunPlainly};
-ghost use Rattle.lvdc_study.specs.Failures.{HasFailed};
+ghost use Rattle.lvdc_study.specs.Failures.{HasFailed, FailsUnder};
 ghost use Rattle.lvdc_study.specs.Study.{opening_over, IsProgram, first_step, row_with, row_of};
 
 use crate::compare::first_difference;
@@ -88,6 +88,7 @@ pub fn study_script(
     ensures form { IfOk result (λ row. row.masks ≡ true → row.verdict ≡ verdicts.Admissible) }
     ensures failed { IfErr result (λ e. HasFailed device_of faults e first.old.items first.new.items
         ⊎ HasFailed device_of faults e second.old.items second.new.items) }
+    ensures fails { IfErr result (λ e. FailsUnder (trial_under (opening_over program.now (map device_of first.old.items)) named.script) program.now.count e) }
 {
     admissible_comes_to_the_same();
     form_masks();
@@ -101,7 +102,10 @@ pub fn study_script(
         return Ok(row_with(name, verdict, None, &machine, masks));
     }
     let again = machine.script(alloc)?;
-    let machine = run_script(alloc, program, Mode::Through, again, second)?;
+    let machine = match run_script(alloc, program, Mode::Through, again, second) {
+        Ok(machine) => machine,
+        Err(e) => return Err(e),
+    };
     let difference = first_difference(&machine, plain);
     Ok(row_with(name, verdict, difference, &machine, masks))
 }

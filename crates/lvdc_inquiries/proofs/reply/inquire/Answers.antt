@@ -1,3 +1,4 @@
+use Rattle.std.proofs.Common.{refl}
 use Rattle.std.proofs.lemmas.Result.{IfOk-weaker}
 use Rattle.lvdc_reply.proofs.Statuses.{if_ok_both}
 use Rattle.lvdc_inquiries.proofs.Forms.{form_reply, form_holds}
@@ -20,3 +21,9 @@ pub returns-in-Form-clause-holds : goal.returns-in-Form-clause-holds
 returns-in-Form-clause-holds g c =
     rw c.in-Form.is
     (if_ok_both c.form_bytes.result _ _ _ (λ reply is plain. form_holds c.args.bytes.now _ _ is plain) c.form_bytes.ensures.answer c.form_bytes.ensures.plain)
+
+pub returns-in-Study-clause-reply : goal.returns-in-Study-clause-reply
+returns-in-Study-clause-reply g c = rw c.in-Study.is (IfOk-weaker c.study_bytes.result _ _ (λ reply is. (refl, is)) c.study_bytes.ensures.reply)
+
+pub returns-in-Study-clause-holds : goal.returns-in-Study-clause-holds
+returns-in-Study-clause-holds g c = rw c.in-Study.is c.study_bytes.ensures.laws

@@ -1,6 +1,6 @@
 use Rattle.std.proofs.Common.{refl, sym, ap, ◌∙◌}
 use Rattle.lvdc_port.specs.Supplies.{ports_of}
-use Rattle.lvdc_study.proofs.Making.{plainly-run, has-plainly-failed}
+use Rattle.lvdc_study.proofs.Making.{plainly-run, plainly-asked, has-plainly-failed}
 use Rattle.lvdc_study.proofs.runs.run_plain.Goals as goal
 
 pub returns-in-Some-clause-failed : goal.returns-in-Some-clause-failed
@@ -15,3 +15,8 @@ returns-in-None-clause-run g c =
     let begins = c.in_ok-plain.ensures.begins in
     plainly-run c.args.program.now _ _ _ c.in_ok-unplugs.ensures.items c.in_ok-supply_all.ensures.ok c.plain_machine_has_run.ensures
     c.run.new.self _ (c.run.ensures.leaves.keeps.banks ∙ begins.banks) (c.run.ensures.stands _ 0 begins.stands) c.in-None.ensures
+
+pub returns-in-Some-clause-fails : goal.returns-in-Some-clause-fails
+returns-in-Some-clause-fails g c =
+    plainly-asked c.args.program.now _ _ _ c.in_ok-unplugs.ensures.items c.in_ok-supply_all.ensures.ok
+    c.run.new.self _ c.in-Some.port (c.run.ensures.stands _ 0 c.in_ok-plain.ensures.begins.stands) c.in-Some.ensures

@@ -1,6 +1,6 @@
 use Rattle.std.proofs.Common.{refl, sym, ap, ◌∙◌}
 use Rattle.lvdc_port.specs.Supplies.{ports_of}
-use Rattle.lvdc_study.proofs.Making.{has-run, has-failed}
+use Rattle.lvdc_study.proofs.Making.{has-run, asked-under, has-failed}
 use Rattle.lvdc_study.proofs.runs.run_script.Goals as goal
 
 pub returns-in-Some-clause-failed : goal.returns-in-Some-clause-failed
@@ -15,3 +15,8 @@ returns-in-None-clause-run g c =
     let begins = c.in_ok-machine.ensures.begins in
     has-run c.args.program.now _ _ _ c.in_ok-unplugs.ensures.items c.in_ok-supply_all.ensures.ok c.args.script c.args.mode
     c.run.new.self _ begins.opening (c.run.ensures.leaves.keeps.mode ∙ begins.fresh.mode_is) (c.run.ensures.stands _ _ 0 begins.stands) c.in-None.ensures
+
+pub returns-in-Some-clause-fails : goal.returns-in-Some-clause-fails
+returns-in-Some-clause-fails g c =
+    asked-under c.args.program.now _ _ _ c.in_ok-unplugs.ensures.items c.in_ok-supply_all.ensures.ok c.args.script
+    c.run.new.self _ c.in-Some.port (c.run.ensures.stands _ _ 0 c.in_ok-machine.ensures.begins.stands) c.in-Some.ensures

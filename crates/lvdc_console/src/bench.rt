@@ -1,0 +1,32 @@
+ghost use Rattle.lvdc_console.specs.Rack.{rack};
+
+use crate::devices::{four_tapes, other_devices, plug_in_four, sixteen_devices};
+use crate::rack::is_whole;
+use lvdc_fault::Named;
+use lvdc_plain::Plain;
+use lvdc_study::{Bench, Program, Row, Unstudied, run_plain, study_script};
+use std::alloc::Global;
+
+/// The bench of the program: each run of a study has sixteen devices of its own, which are made for it and dropped with it.
+pub(crate) struct Rack;
+
+impl Bench for Rack {
+    ghost devices = { λ _. rack };
+
+    fn run_plain(&self, alloc: Global, program: &Program<'_>) -> Result<Plain, Unstudied> {
+        let mut devices = sixteen_devices!(alloc);
+        run_plain(alloc, program, &mut devices)
+    }
+
+    fn study_script(
+        &self,
+        alloc: Global,
+        program: &Program<'_>,
+        plain: &Plain,
+        named: Named,
+    ) -> Result<Row, Unstudied> {
+        let mut first = sixteen_devices!(alloc);
+        let mut second = sixteen_devices!(alloc);
+        study_script(alloc, program, plain, named, &mut first, &mut second)
+    }
+}

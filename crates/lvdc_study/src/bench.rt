@@ -1,0 +1,39 @@
+//! Who runs a program over devices of its own.
+
+ghost use Rattle.std.specs.Prelude.{◌≡◌, List, IfOk, IfErr};
+ghost use Rattle.lvdc_port.specs.Device.{Device};
+ghost use Rattle.lvdc_campaign.specs.Campaign.{trial_under, IsScript};
+ghost use Rattle.lvdc_campaign.specs.Ran.{HasRunPlainly};
+ghost use Rattle.lvdc_study.specs.Failures.{FailsUnder, FailsPlainly};
+ghost use Rattle.lvdc_study.specs.Study.{opening_over, IsProgram, row_of};
+
+use crate::{Program, Row, Unstudied};
+use lvdc_fault::Named;
+use lvdc_plain::Plain;
+use std::alloc::Global;
+
+/// A bench on which programs are run: each run has devices of its own there, in their first states.
+pub trait Bench {
+    // The devices in their first states.
+    ghost devices: { Self → List Device };
+
+    /// The plain machine after the times of a program.
+    fn run_plain(&self, alloc: Global, program: &Program<'_>) -> Result<Plain, Unstudied>
+        requires { IsProgram program.now }
+        ensures run { IfOk result (λ plain. HasRunPlainly (opening_over program.now (devices self.now)) program.now.count plain) }
+        ensures failed { IfErr result (λ e. FailsPlainly (opening_over program.now (devices self.now)) program.now.count e) };
+
+    /// The row of a script, beside the plain run of the same program.
+    fn study_script(
+        &self,
+        alloc: Global,
+        program: &Program<'_>,
+        plain: &Plain,
+        named: Named,
+    ) -> Result<Row, Unstudied>
+        requires program { IsProgram program.now }
+        requires plain { HasRunPlainly (opening_over program.now (devices self.now)) program.now.count plain.now }
+        requires script { IsScript named }
+        ensures row { IfOk result (λ row. row ≡ row_of (opening_over program.now (devices self.now)) program.now.count named) }
+        ensures failed { IfErr result (λ e. FailsUnder (trial_under (opening_over program.now (devices self.now)) named.script) program.now.count e) };
+}

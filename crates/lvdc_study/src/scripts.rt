@@ -1,0 +1,38 @@
+//! The rows of a study.
+
+ghost use Rattle.std.specs.Prelude.{◌≡◌, All, IfOk, IfErr};
+ghost use Rattle.lvdc_campaign.specs.Campaign.{IsScript};
+ghost use Rattle.lvdc_study.specs.Failures.{FailsInRuns};
+ghost use Rattle.lvdc_study.specs.Study.{opening_over, rows_of, IsProgram};
+
+use crate::{Bench, Program, Row, Unstudied};
+use lvdc_fault::Named;
+use std::alloc::Global;
+
+/// Runs a program under each of these scripts, over the devices of a bench. The plain run is made once for all of them.
+pub fn study_scripts<B: Bench>(
+    alloc: Global,
+    program: &Program<'_>,
+    scripts: Vec<Named>,
+    bench: &B,
+) -> Result<Vec<Row>, Unstudied>
+    requires program { IsProgram program.now }
+    requires scripts { All IsScript scripts.items }
+
+    // The rows of the scripts, in their order. The orders of latching don't matter.
+    ensures rows { IfOk result (λ rows. rows.items ≡ rows_of (opening_over program.now (B.devices bench.now)) program.now.count scripts.items) }
+    ensures failed { IfErr result (λ e. FailsInRuns (opening_over program.now (B.devices bench.now)) program.now.count scripts.items e) }
+{
+    let plain = match bench.run_plain(alloc, program) {
+        Ok(plain) => plain,
+        Err(e) => return Err(e),
+    };
+    let mut rows = Vec::with_capacity(alloc, scripts.len())?;
+    for named in scripts {
+        match bench.study_script(alloc, program, &plain, named) {
+            Ok(row) => rows.push(row)?,
+            Err(e) => return Err(e),
+        }
+    }
+    Ok(rows)
+}
