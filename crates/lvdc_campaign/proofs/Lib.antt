@@ -7,3 +7,4 @@ mod Words
 mod Through
 mod Again
 mod Unhurt
+mod LimitRows

@@ -1,5 +1,5 @@
 -- Worked command lines.
-use Rattle.std.proofs.Common.{◌≡◌, false, [], ◌∷◌, refl}
+use Rattle.std.proofs.Common.{◌≡◌, true, false, [], ◌∷◌, map, refl}
 use Rattle.std.specs.Prelude.{codes}
 use Rattle.std.specs.declared.option.Option.TheVariants.{None, Some}
 use Rattle.lvdc_command_run.specs.declared.job.Engine.TheVariants.{Guarded, Through, Plain}
@@ -98,3 +98,19 @@ limits = (refl, refl, refl, refl)
 -- and how long a text is at most
 rooms : (room_for None ≡ 134217728) × (room_for (Some Debug) ≡ 536870912) × (room_for (Some Resume) ≡ 268435456)
 rooms = (refl, refl, refl)
+
+-- each command but `soak` reads its input, and `resume` alone reads a saved text
+inputs_read : (map (λ words. reads (command_of words)) ((codes "run" ∷ []) ∷ (codes "run" ∷ codes "--plain" ∷ []) ∷ (codes "run" ∷ codes "--through" ∷ []) ∷ (codes "asm" ∷ [])
+    ∷ (codes "asm" ∷ codes "--image" ∷ []) ∷ (codes "debug" ∷ []) ∷ (codes "save" ∷ codes "3" ∷ []) ∷ (codes "resume" ∷ []) ∷ (codes "campaign" ∷ []) ∷ (codes "uplink" ∷ [])
+    ∷ (codes "macro" ∷ []) ∷ (codes "macro" ∷ codes "--image" ∷ []) ∷ [])
+    ≡ true ∷ true ∷ true ∷ true ∷ true ∷ true ∷ true ∷ true ∷ true ∷ true ∷ true ∷ true ∷ [])
+    × (reads (command_of (codes "soak" ∷ codes "3" ∷ [])) ≡ false)
+unfolding soak_number times_of
+inputs_read = (refl, refl)
+
+inputs_bounded : map (λ words. limit_for (command_of words))
+    ((codes "run" ∷ []) ∷ (codes "asm" ∷ []) ∷ (codes "debug" ∷ []) ∷ (codes "save" ∷ codes "3" ∷ []) ∷ (codes "campaign" ∷ []) ∷ (codes "uplink" ∷ []) ∷ (codes "macro" ∷ [])
+    ∷ (codes "resume" ∷ []) ∷ [])
+    ≡ 1048576 ∷ 1048576 ∷ 1048576 ∷ 1048576 ∷ 1048576 ∷ 1048576 ∷ 1048576 ∷ 134217728 ∷ []
+unfolding soak_number times_of
+inputs_bounded = refl

@@ -6,3 +6,4 @@ pub mod Consumed
 pub mod Went
 pub mod Onward
 pub mod Statuses
+mod RestoreRows

@@ -6,3 +6,4 @@ pub mod Resting
 pub mod Entries
 pub mod Spent
 pub mod Spread
+mod SessionRows

@@ -6,3 +6,4 @@ pub mod KindsLeft
 pub mod HeldWords
 pub mod Telling
 pub mod Wholes
+mod DeviceRows

@@ -352,3 +352,28 @@ long_after_end : meaning
     ≡ Err (LineTooLong 2)
 unfolding meaning from is_name signed_of octals_of parts_of operation_of address_in literal_in body_in meaning_of after_end items_from
 long_after_end = refl
+
+-- no label may stand on END, nor on what begins a block
+label_on_end : meaning
+    (codes "        CODE" ∷ codes "X       END" ∷ [])
+    ≡ Err (BadLabel 2)
+unfolding meaning from is_name signed_of octals_of parts_of operation_of address_in literal_in body_in meaning_of after_end items_from
+label_on_end = refl
+
+label_on_code : meaning
+    (codes "X       CODE" ∷ [])
+    ≡ Err (BadLabel 1)
+unfolding meaning from is_name signed_of octals_of parts_of operation_of address_in literal_in body_in meaning_of after_end items_from
+label_on_code = refl
+
+label_on_org : meaning
+    (codes "X       ORG   0,00,0,000" ∷ [])
+    ≡ Err (BadLabel 1)
+unfolding meaning from is_name signed_of octals_of parts_of operation_of address_in literal_in body_in meaning_of after_end items_from
+label_on_org = refl
+
+label_on_words : meaning
+    (codes "X       WORDS 0,01" ∷ [])
+    ≡ Err (BadLabel 1)
+unfolding meaning from is_name signed_of octals_of parts_of operation_of address_in literal_in body_in meaning_of after_end items_from
+label_on_words = refl

@@ -1,0 +1,36 @@
+-- Worked devices of a run that goes on: which are left, and the words that they are given.
+use Rattle.std.proofs.Common.{◌≡◌, List, [], ◌∷◌, refl}
+use Rattle.lvdc_port.specs.Device.{Device}
+use Rattle.lvdc_port.specs.declared.device.Kind.TheVariants.{Tape, Latch, Recorder}
+use Rattle.lvdc_plain.specs.declared.records.Unplug.{Unplug}
+use Rattle.lvdc_command_resume.specs.Restore.{left_before, after_state, with_states}
+
+abbrev tape : Device
+tape = record { port = 0; kind = Tape; state = [] }
+
+abbrev latch : Device
+latch = record { port = 0o14; kind = Latch; state = 0 ∷ [] }
+
+abbrev recorder : Device
+recorder = record { port = 0o17; kind = Recorder; state = [] }
+
+-- the tape is taken away at time 2, the recorder at time 5
+abbrev unplugs : List Unplug
+unplugs = record { port = 0; time = 2 } ∷ record { port = 0o17; time = 5 } ∷ []
+
+-- a device is there up to its time, and gone once that time was made
+devices_left : (left_before unplugs 2 (tape ∷ latch ∷ recorder ∷ []) ≡ tape ∷ latch ∷ recorder ∷ []) × (left_before unplugs 3 (tape ∷ latch ∷ recorder ∷ []) ≡ latch ∷ recorder ∷ [])
+    × (left_before unplugs 6 (tape ∷ latch ∷ recorder ∷ []) ≡ latch ∷ [])
+devices_left = (refl, refl, refl)
+
+-- a tape is supplied, a latch and a recorder are written
+one_word : (after_state (record { port = 0; word = 5 }) (tape ∷ latch ∷ []) ≡ record tape { state = 5 ∷ [] } ∷ latch ∷ [])
+    × (after_state (record { port = 0o14; word = 5 }) (tape ∷ latch ∷ []) ≡ tape ∷ record latch { state = 5 ∷ [] } ∷ [])
+    × (after_state (record { port = 0o17; word = 5 }) (tape ∷ recorder ∷ []) ≡ tape ∷ record recorder { state = 5 ∷ [] } ∷ [])
+one_word = (refl, refl, refl)
+
+-- words in their order, to their ports
+words_in_order : with_states (record { port = 0; word = 5 } ∷ record { port = 0; word = 6 } ∷ record { port = 0o14; word = 7 } ∷ record { port = 0o17; word = 8 } ∷ record { port = 0o17; word = 9 } ∷ [])
+    (tape ∷ latch ∷ recorder ∷ [])
+    ≡ record tape { state = 5 ∷ 6 ∷ [] } ∷ record latch { state = 7 ∷ [] } ∷ record recorder { state = 8 ∷ 9 ∷ [] } ∷ []
+words_in_order = refl

@@ -1,0 +1,9 @@
+mod CampaignRows
+mod DeckRows
+mod LoadRows
+mod MacroRows
+mod ResumeRows
+mod SaveRows
+mod SessionRows
+mod SourceRows
+mod UplinkRows
