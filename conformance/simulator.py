@@ -1,5 +1,6 @@
 #!/usr/bin/env python3
-"""A simulator of the same machine, with the same command lines and texts, and the requests `trace` and `form` of the worker. It is
+"""A simulator of the same machine, with the same command lines and texts, and the requests `trace`, `form` and
+`study` of the worker. It is
 written from docs/MACHINE.md and docs/FORMATS.md and apart from the programs.
 
 It is slow and proves nothing. The wanted texts of the cases come from it where they don't come from worked examples, so that no
@@ -14,13 +15,14 @@ from simulation.account import Account
 from simulation.assembler import assemble, listing
 from simulation.campaign import campaign
 from simulation.decks import Deck, read_deck, soak_deck
-from simulation.devices import Device, at_port, of_the_program
+from simulation.devices import Device, of_the_program, supplied
 from simulation.form import first_unmet
 from simulation.lines import Refused, lines_of, print_image
 from simulation.macros import expansion, image_of_expansion
 from simulation.plain import Plain
 from simulation.report import Session, front, report, soak_text, status_of, text_of
 from simulation.saved import print_saved, read_saved
+from simulation.study import study
 from simulation.trace import trace
 from simulation.uplink import uplink
 from simulation.voted import Voted
@@ -52,11 +54,7 @@ def opened(lines: list[str], debugging: bool = False) -> tuple[Deck, list[Device
     """A deck, and the program's devices with the words of its TAPE lines."""
     devices = of_the_program()
     deck = read_deck(lines, devices, debugging)
-    for port, word in deck.supplies:
-        device = at_port(devices, port)
-        assert device is not None, "a TAPE line names a port without a device"
-        device.supply(word)
-    return deck, devices
+    return deck, supplied(devices, deck.supplies)
 
 
 def run_plain(lines: list[str]) -> Answer:
@@ -158,6 +156,7 @@ def reader_of(words: list[str]) -> Callable[[list[str]], Answer] | None:
         ("macro",): lambda lines: (0, text_of(expansion(lines).out)),
         ("macro", "--image"): lambda lines: (0, image_of_expansion(lines)),
         ("form",): formed,
+        ("study",): lambda lines: (0, study(lines)),
     }
     if len(words) == 2 and words[0] == "save" and re.fullmatch("[0-9]{1,7}", words[1]):
         return lambda lines: saved(lines, int(words[1]))

@@ -36,34 +36,38 @@ def read_campaign(lines: list[str]) -> tuple[Deck, list[Script]]:
         raise Refused("CountTooLarge", deck.headings["RUN"])
     if at == len(lines):
         raise Refused("BadSection", len(lines) + 1)
-    scripts: list[Script] = []
+    return deck, read_scripts(lines, at + 1, MOST_SCRIPTS)
+
+
+def read_scripts(lines: list[str], first: int, most: int) -> list[Script]:
+    """(name, script) of each script in the lines from an index on, at most so many."""
+    scripts: dict[str, list[Event]] = {}
     events = 0
-    for k in range(at + 1, len(lines)):
+    for k in range(first, len(lines)):
         if len(lines[k]) > LIMIT:
             raise Refused("BadLine", k + 1)
         if is_comment(lines[k]):
             continue
-        events += read_line(scripts, lines[k], k + 1, events)
-    return deck, scripts
+        events += read_line(scripts, lines[k], k + 1, events, most)
+    return list(scripts.items())
 
 
-def read_line(scripts: list[Script], line: str, number: int, events: int) -> int:
+def read_line(scripts: dict[str, list[Event]], line: str, number: int, events: int, most: int) -> int:
     """Reads a line after CAMPAIGN. Answers how many events it is."""
     tokens = tokens_of(line)
     if tokens[0] == "SCRIPT":
-        known = [name for name, _ in scripts]
-        if len(tokens) != 2 or not re.fullmatch(NAME, tokens[1]) or tokens[1] in known:
+        if len(tokens) != 2 or not re.fullmatch(NAME, tokens[1]) or tokens[1] in scripts:
             raise Refused("BadLine", number)
-        if len(scripts) == MOST_SCRIPTS:
+        if len(scripts) == most:
             raise Refused("TooManyScripts", number)
-        scripts.append((tokens[1], []))
+        scripts[tokens[1]] = []
         return 0
     event = read_fault(line)
     if event is None or not scripts:
         raise Refused("BadLine", number)
     if events == MOST_EVENTS:
         raise Refused("TooManyEvents", number)
-    scripts[-1][1].append(event)
+    scripts[next(reversed(scripts))].append(event)
     return 1
 
 

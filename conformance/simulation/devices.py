@@ -69,6 +69,15 @@ def at_port(devices: Sequence[Device], port: int | None) -> Device | None:
     return next((device for device in devices if device.port == port), None)
 
 
+def supplied(devices: list[Device], supplies: Sequence[tuple[int, int]]) -> list[Device]:
+    """The same devices, with the (port, word) of TAPE lines."""
+    for port, word in supplies:
+        device = at_port(devices, port)
+        assert device is not None, "a TAPE line names a port without a device"
+        device.supply(word)
+    return devices
+
+
 def read_port(devices: Sequence[Device], port: int, time: int) -> int:
     """The word that a port answers; 0 where no device is."""
     device = at_port(devices, port)
