@@ -45,3 +45,8 @@ def worker() -> Iterator[Worker]:
         pytest.skip(str(error))
     with Worker(program, limit=60) as found:
         yield found
+
+
+def pytest_addoption(parser: pytest.Parser) -> None:
+    """How many random sequences of commands lvdb is given."""
+    parser.addoption("--sequences", default="60", help="how many sequences of commands lvdb is given")

@@ -13,10 +13,11 @@ from hypothesis import given
 from hypothesis import strategies as st
 from simulated import Simulated
 
-from lvdc import Admissible, CampaignRow, Deck, Findings, Reply, Script, StudyRows, campaign, is_different, is_inadmissible, study, wilson
+from lvdc import Address, Admissible, CampaignRow, Deck, Findings, Reply, Script, StudyRows, campaign, is_different, is_inadmissible, study, wilson
 from lvdc.intervals import Share
-from lvdc.scripts import flips, pairs
-from lvdc.studies import name_of, record
+from lvdc.scripts import Damages, flips, pairs
+from lvdc.studies import name_of
+from lvdc.tables import record
 
 SUM = Deck.read((TOP / "examples" / "sum-that-wraps.deck").read_text())
 SIMULATED = Simulated()
@@ -63,7 +64,33 @@ def test_a_table_has_a_row_for_each(found: Findings[CampaignRow], tmp_path: Path
     assert rows[0]["faults"] == "FLIP 5 1 3 3 0 000000001"
     assert (rows[-1]["verdict"], rows[-1]["verdict_step"], rows[-1]["verdict_module"]) == ("LOGIC", "4", "5")
     found.to_csv(tmp_path / "rows.csv")
-    assert (tmp_path / "rows.csv").read_text() == found.csv()
+    assert (tmp_path / "rows.csv").read_bytes() == found.csv().encode()
+    assert found.csv().count("\r\n") == found.csv().count("\n") == 25
+
+
+def test_kinds_of_many_columns_have_one_table() -> None:
+    scripts = [*flips([3], modules=[5], bits=[0]), *Damages([3], [Address(0, 1, 0)], bits=[0])]
+    rows = campaign(SUM, scripts, worker=SIMULATED)
+    columns = rows.columns()
+    assert columns[:8] == ["name", "faults", "kind", "module", "latch", "copy", "step", "bit"]
+    assert columns[8:] == ["twin", "place", "verdict", "verdict_step", "verdict_module", "verdict_address", "is_same"]
+    assert rows.csv().split("\r\n")[0] == ",".join(columns)
+
+
+def test_proportions_come_with_counts(found: Findings[CampaignRow]) -> None:
+    assert [(it["step"], it["scripts"], it["inadmissible"]) for it in found.counts("step")] == [(3, 12, 6), (4, 12, 6)]
+    assert [(it["kind"], it["inadmissible_share"]) for it in found.counts("kind")] == [("flip", 0), ("pair of flips", 1)]
+    assert found.counts()[0]["scripts"] == 24
+    assert found.counts("kind")[0]["inadmissible_high"] == wilson(0, 12)[1]
+
+
+def test_a_study_of_devices_by_the_simulator() -> None:
+    deck = Deck.read("IMAGE\nLVDC 1\n0 00 000 000012400\n0 00 001 000012017\n0 00 002 000010002\nEND\nPORTS\nTAPE 000 5\nRUN 3\n")
+    rows = study(deck, [Script(()), *pairs([2], modules=[5], latches=[0], bits=[0])], worker=SIMULATED, at_once=2)
+    assert [str(it.outcome) for it in rows] == ["SAME"] + 3 * ["DIFFERS PORT 1"]
+    assert [it.form for it in rows] == [True, False, False, False]
+    assert rows.columns()[-1] == "masks_by_form"
+    assert rows.counts()[0] | {"scripts": 4, "inadmissible": 3, "different": 3, "masks_by_form": 1} == rows.counts()[0]
 
 
 @pytest.mark.skipif(importlib.util.find_spec("pandas") is None, reason="pandas isn't there")
@@ -71,6 +98,7 @@ def test_a_dataframe(found: Findings[CampaignRow]) -> None:
     frame = found.to_dataframe()
     assert list(frame.groupby("step").size()) == [12, 12]
     assert frame["is_same"].dtype == bool
+    assert list(frame.columns) == found.columns() == found.csv().split("\r\n")[0].split(",")
 
 
 @pytest.mark.skipif(importlib.util.find_spec("matplotlib") is None, reason="matplotlib isn't there")

@@ -25,7 +25,8 @@ from lvdc.rows import CampaignRow, CampaignRows, Differs, Outcome, Same, StudyRo
 from lvdc.saved import Saved
 from lvdc.scripts import Script
 from lvdc.sessions import Session
-from lvdc.studies import Findings, campaign, is_admissible, is_different, is_inadmissible, study
+from lvdc.studies import Findings, campaign, study
+from lvdc.tables import is_admissible, is_different, is_inadmissible
 from lvdc.traces import Form, Step, Trace
 from lvdc.uplinks import Uplink
 from lvdc.values import Address, Cell, Hop, Place, Word

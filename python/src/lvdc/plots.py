@@ -7,7 +7,8 @@ from typing import Any
 
 from lvdc.ends import Admissible, Logic
 from lvdc.rows import CampaignRow, Row, StudyRow
-from lvdc.studies import Findings, column, is_different, is_inadmissible
+from lvdc.studies import Findings
+from lvdc.tables import column, is_different, is_inadmissible
 from lvdc.values import MODULES, NAMES
 
 AnyFindings = Findings[StudyRow] | Findings[CampaignRow]

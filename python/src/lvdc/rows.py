@@ -1,7 +1,7 @@
 """The rows of campaigns and studies: what became of a program under each fault script."""
 import re
-from collections.abc import Sequence
-from dataclasses import dataclass, field
+from collections.abc import Iterator, Sequence
+from dataclasses import dataclass, field, replace
 from typing import Self, TypeAlias
 
 from lvdc.ends import GROUPS_OF_VERDICT, VERDICT, Verdict, verdict_of
@@ -55,6 +55,10 @@ class CampaignRow:
     def __str__(self) -> str:
         return f"SCRIPT {self.name} {self.verdict} {self.outcome}"
 
+    def with_script(self, script: Script | None) -> Self:
+        """The same row with its script."""
+        return replace(self, script=script)
+
 
 @dataclass(frozen=True, slots=True)
 class StudyRow:
@@ -74,6 +78,10 @@ class StudyRow:
         first = "-" if self.first_repair is None else self.first_repair
         return (f"SCRIPT {self.name} {self.verdict} {self.outcome} COPIES {self.copies} REPAIRS {self.repairs} {first} "
                 f"FORM {'YES' if self.form else 'NO'}")
+
+    def with_script(self, script: Script | None) -> Self:
+        """The same row with its script."""
+        return replace(self, script=script)
 
 
 Row: TypeAlias = CampaignRow | StudyRow
@@ -126,6 +134,18 @@ class StudyRows:
     def __str__(self) -> str:
         return ("".join(f"{it}\n" for it in self.rows)
                 + f"STUDY {self.scripts} ADMISSIBLE {self.admissible} SAME {self.same} FORM {self.form}\n")
+
+
+def each_row(text: str) -> Iterator[Row]:
+    """The rows of a campaign or of a study, one after another, for texts of any length; the last line is their total."""
+    lines = Lines(text)
+    while (found := lines.may(_STUDY_ROW)) is not None:
+        yield _study_row(found, None)
+    while (found := lines.may(_CAMPAIGN_ROW)) is not None:
+        yield _campaign_row(found, None)
+    if lines.may(_STUDY_TOTAL) is None:
+        lines.need(_CAMPAIGN_TOTAL, "a row or the total")
+    lines.end()
 
 
 def _rows(lines: Lines, form: re.Pattern[str], scripts: Sequence[Script]) -> list[tuple[re.Match[str], Script | None]]:

@@ -1,6 +1,5 @@
 """Campaigns and studies of any number of scripts: asked in pieces that one request takes, side by side over a pool, with rows that know
 their scripts."""
-import csv
 import importlib
 import io
 import os
@@ -11,13 +10,13 @@ from typing import Any, Generic, TypeVar
 
 from lvdc.commands import answer, shared_worker
 from lvdc.decks import Deck, campaign_text
-from lvdc.ends import Admissible, Logic, Memory
 from lvdc.intervals import Share
 from lvdc.lines import encode
 from lvdc.pools import Pool, Request
 from lvdc.progress import shown
-from lvdc.rows import CampaignRow, CampaignRows, Differs, Row, StudyRow, StudyRows
+from lvdc.rows import CampaignRow, CampaignRows, StudyRow, StudyRows
 from lvdc.scripts import Script
+from lvdc.tables import Counts, column, columns, parameters, record, write_csv
 from lvdc.workers import Asker, Reply
 
 AnyRow = TypeVar("AnyRow", CampaignRow, StudyRow)
@@ -54,23 +53,32 @@ class Findings(Generic[AnyRow]):
             count[1] += 1
         return {value: Share(*counts[value]) for value in sorted(counts, key=lambda it: (isinstance(it, str), it))}
 
+    def counts(self, *by: str) -> list[dict[str, Any]]:
+        """A dict for each choice of the values of these columns: how many rows there are, how many are inadmissible, different and, of a study,
+        masking by form, and the shares of these with their intervals."""
+        counts = Counts(by)
+        for row in self.rows:
+            counts.add(row)
+        return list(counts.records())
+
+    def columns(self) -> list[str]:
+        """The columns of the table of all rows, in their order."""
+        scripts = [row.script for row in self.rows if row.script is not None]
+        return columns(parameters(it.about for it in scripts), bool(scripts), any(isinstance(row, StudyRow) for row in self.rows))
+
     def records(self) -> list[dict[str, Any]]:
         """A dict for each row: its name and faults, what its script was made from, and what became of it."""
         return [record(row) for row in self.rows]
 
     def csv(self) -> str:
-        """The records as a table with a line of headings. What a row hasn't is empty."""
-        records = self.records()
-        columns = list(dict.fromkeys(name for it in records for name in it))
-        text = io.StringIO()
-        writer = csv.DictWriter(text, columns, lineterminator="\n")
-        writer.writeheader()
-        writer.writerows(records)
+        """The records as a table with a line of headings, as RFC 4180 has it. What a row hasn't is empty."""
+        text = io.StringIO(newline="")
+        write_csv(text, self.columns(), self.records())
         return text.getvalue()
 
     def to_csv(self, path: str | os.PathLike[str]) -> None:
         """Writes the same to a file."""
-        Path(path).write_text(self.csv(), encoding="utf-8")
+        Path(path).write_text(self.csv(), encoding="utf-8", newline="")
 
     def to_dataframe(self) -> Any:
         """The records as a pandas.DataFrame."""
@@ -78,44 +86,7 @@ class Findings(Generic[AnyRow]):
             pandas: Any = importlib.import_module("pandas")
         except ImportError as error:
             raise ImportError("a table wants pandas: install python3-pandas, or lvdc[table]") from error
-        return pandas.DataFrame(self.records())
-
-
-def is_admissible(row: Row) -> bool:
-    """Whether no step of a row's run is inadmissible."""
-    return isinstance(row.verdict, Admissible)
-
-
-def is_inadmissible(row: Row) -> bool:
-    """Whether a step is."""
-    return not is_admissible(row)
-
-
-def is_different(row: Row) -> bool:
-    """Whether the faults changed what the program comes to."""
-    return isinstance(row.outcome, Differs)
-
-
-def record(row: Row) -> dict[str, Any]:
-    """A row as the columns of a table."""
-    verdict, outcome, script = row.verdict, row.outcome, row.script
-    found: dict[str, Any] = {"name": row.name}
-    if script is not None:
-        found["faults"] = "; ".join(map(str, script.faults))
-        found.update(script.about)
-    found |= {
-        "verdict": str(verdict).split(" ")[0],
-        "verdict_step": None if isinstance(verdict, Admissible) else verdict.step,
-        "verdict_module": verdict.module if isinstance(verdict, Logic) else None,
-        "verdict_address": str(verdict.address) if isinstance(verdict, Memory) else None,
-        "is_same": not is_different(row)}
-    if isinstance(row, StudyRow):
-        found |= {
-            "differs": outcome.what if isinstance(outcome, Differs) else None,
-            "differs_time": outcome.time if isinstance(outcome, Differs) else None,
-            "differs_address": str(outcome.address) if isinstance(outcome, Differs) and outcome.address else None,
-            "copies": row.copies, "repairs": row.repairs, "first_repair": row.first_repair, "masks_by_form": row.form}
-    return found
+        return pandas.DataFrame(self.records(), columns=self.columns())
 
 
 def study(deck: Deck, scripts: Iterable[Script], *, worker: Asker | None = None, at_once: int = AT_ONCE,
@@ -190,13 +161,3 @@ def pieces(deck: Deck, scripts: Iterable[Script], most: int) -> Iterator[tuple[s
         size += len(part)
     if piece:
         yield head + "".join(parts), piece
-
-
-def column(row: Row, name: str) -> int | str:
-    """The value of a column of a row."""
-    if row.script is not None and name in row.script.about:
-        return row.script.about[name]
-    value = record(row).get(name)
-    if isinstance(value, (int, str)):
-        return value
-    raise KeyError(f"{row.name} has no {name}")
