@@ -35,9 +35,10 @@ class Failure(Exception):
 
 
 class Browser:
-    """One page in one browser. Used by `with`, which ends the browser and takes its folder away."""
+    """One page in one browser, which may be started with further flags. Used by `with`, which ends the browser and takes its folder away."""
 
-    def __init__(self) -> None:
+    def __init__(self, *flags: str) -> None:
+        self.flags = flags
         self.folder = tempfile.mkdtemp()
         to_browser, self.write_end = os.pipe()
         self.read_end, from_browser = os.pipe()
@@ -53,7 +54,8 @@ class Browser:
     def start(self, reads: int, writes: int) -> "subprocess.Popen[bytes]":
         """Starts the browser, which reads messages at descriptor 3 and writes them at 4."""
         command = f'exec 3<&{reads} 4>&{writes}; exec "$@"'
-        words = ["bash", "-c", command, "browser", "nice", program() or NAMES[0], *FLAGS, f"--user-data-dir={self.folder}", "about:blank"]
+        words = ["bash", "-c", command, "browser", "nice", program() or NAMES[0], *FLAGS, *self.flags]
+        words += [f"--user-data-dir={self.folder}", "about:blank"]
         return subprocess.Popen(words, pass_fds=(reads, writes), stdout=subprocess.DEVNULL, stderr=subprocess.DEVNULL)
 
     def attach(self) -> None:
@@ -106,17 +108,17 @@ class Browser:
                 return result
             self.events.append(message)
 
-    def size(self, width: int, height: int, dark: bool = False, ratio: int = 1) -> None:
-        """Makes the window so large."""
+    def size(self, width: int, height: int, dark: bool = False, ratio: int = 1, still: bool = False) -> None:
+        """Makes the window so large, in light or dark colours; `still` asks for less motion."""
         self.call("Emulation.setDeviceMetricsOverride", width=width, height=height, deviceScaleFactor=ratio, mobile=False)
-        scheme = {"name": "prefers-color-scheme", "value": "dark" if dark else "light"}
-        self.call("Emulation.setEmulatedMedia", features=[scheme])
+        features = {"prefers-color-scheme": "dark" if dark else "light", "prefers-reduced-motion": "reduce" if still else "no-preference"}
+        self.call("Emulation.setEmulatedMedia", features=[{"name": name, "value": value} for name, value in features.items()])
 
-    def open(self, path: pathlib.Path, fragment: str = "") -> None:
+    def open(self, path: pathlib.Path, fragment: str = "", query: str = "") -> None:
         """Opens a file and waits until it is loaded; another fragment of the same file is a new load too."""
         self.events.clear()
         self.call("Page.navigate", url="about:blank")
-        self.call("Page.navigate", url=f"file://{path}{'#' + fragment if fragment else ''}")
+        self.call("Page.navigate", url=f"file://{path}{'?' + query if query else ''}{'#' + fragment if fragment else ''}")
         until = time.monotonic() + PATIENCE
         while self.run("document.readyState + location.protocol") != "completefile:":
             if time.monotonic() > until:
@@ -129,6 +131,13 @@ class Browser:
         if "exceptionDetails" in answer:
             raise Failure(described(answer["exceptionDetails"]))
         return answer["result"].get("value")
+
+    def until(self, script: str, seconds: float = 10) -> bool:
+        """Waits until an expression in the page holds, and tells whether it did in time."""
+        end = time.monotonic() + seconds
+        while not (holds := bool(self.run(script))) and time.monotonic() < end:
+            time.sleep(0.02)
+        return holds
 
     def key(self, name: str, code: int = 0) -> None:
         """Presses a key."""

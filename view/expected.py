@@ -1,4 +1,6 @@
 """What texts of lvdc say, read anew for the tests of the page, in the words and forms that the page has to show."""
+import itertools
+from dataclasses import dataclass, field
 from typing import Any
 
 MANY = {1: "timers", 2: "locators", 3: "decoders", 4: "selectors", 5: "accumulators", 6: "multipliers", 7: "copies of the exchange"}
@@ -10,16 +12,11 @@ WORDS = ["A", "PQ", "SAVER"]
 VERDICTS = ["ADMISSIBLE", "LOGIC", "MEMORY"]
 
 
-def counted(count: str, one: str) -> str:
-    """A number with the name of what is counted."""
-    return f"{count} {one}" if count == "1" else f"{count} {one}s"
-
-
 def end_sentence(line: str, times: str) -> str:
     """The sentence for an END line."""
     match line.split():
         case ["END", "DONE"]:
-            return f"The run made all {counted(times, 'instruction time')} that it was asked for."
+            return f"The run came to its end, after {3 * int(times)} steps."
         case ["END", "DEVICE", step, port]:
             return f"At step {step} the device at port {port} failed. The run ends there."
         case ["END", "STOPPED", step, "SHIFT"]:
@@ -33,7 +30,7 @@ def end_sentence(line: str, times: str) -> str:
                     "The run ends there: from then on the vote can't be relied on.")
         case ["END", "INADMISSIBLE", step, "MEMORY", *place]:
             return (f"At step {step} the word at {' '.join(place)} was to be read, and it can't be recovered any more. "
-                    "The run ends there: what the memories still show of it can't be relied on.")
+                    "The run ends there: what the twins still show of it can't be relied on.")
     raise ValueError(line)
 
 
@@ -133,3 +130,82 @@ def cells(rows: list[str]) -> list[list[str]]:
     """The marks of a campaign by verdict: the verdict, whether the program comes to the same, and the name."""
     words = [it.split() for it in rows]
     return sorted(([it[2], str(it[-1] == "SAME").lower(), it[1]] for it in words), key=lambda it: VERDICTS.index(it[0]))
+
+
+# ---- traces
+
+@dataclass
+class Step:
+    """What a trace says of a step: the latch PLACE as voted, the words of its exchange and its repair, the copies that the script makes
+    wrong, and those that differ."""
+
+    number: int
+    place: str
+    exchange: list[str] = field(default_factory=list)
+    repair: list[str] = field(default_factory=list)
+    wrong: set[str] = field(default_factory=set)
+    differing: set[str] = field(default_factory=set)
+
+
+def steps(trace: str) -> list[Step]:
+    """The steps of a trace."""
+    found: list[Step] = []
+    for words in map(str.split, trace.split("\n")[1:-2]):
+        match words:
+            case ["STEP", number]:
+                found.append(Step(int(number), found[-1].place if found else ""))
+            case ["VOTE", "2", latch, _]:
+                found[-1].place = latch
+            case ["FAULT", module, copy]:
+                found[-1].wrong.add(f"{module}-{copy}")
+            case ["COPY", module, copy, *_]:
+                found[-1].differing.add(f"{module}-{copy}")
+            case ["REPAIR", *_]:
+                found[-1].repair = words
+            case ["FETCH" | "OPERAND" | "STORE" | "IN" | "OUT", *_]:
+                found[-1].exchange = words
+    return found
+
+
+def lamps(told: list[Step], at: int) -> dict[str, str]:
+    """What the lamps show that aren't well."""
+    before = told[at - 1].differing if at else set()
+    back = {key: "healed" for key in before - told[at].differing - told[at].wrong}
+    return back | {key: "hurt" for key in told[at].wrong} | {key: "differed" for key in told[at].differing}
+
+
+def place(words: list[str]) -> str:
+    """The place of an address in a pair."""
+    return f"{int(words[0]) % 4} {words[1]} {words[2]}"
+
+
+def said(step: Step) -> list[str]:
+    """What the words of a step's exchange have to name: a number and a port, or of a fetch nothing but that it is told."""
+    match step.exchange:
+        case [("OPERAND" | "STORE"), *_, word]:
+            return [decimal(word)]
+        case [("IN" | "OUT"), port, word]:
+            return [decimal(word), port]
+    return []
+
+
+# Where the first and the last step stand in a fault line.
+STEPS_OF_FAULT = {"DAMAGE": (5, 5), "STICK": (5, 6)}
+
+
+def acts(words: list[str], step: int) -> bool:
+    """Whether a fault line acts in a step."""
+    first, last = STEPS_OF_FAULT.get(words[0], (3, 4))
+    return int(words[first]) <= step <= int(words[last])
+
+
+def results(trace: str) -> list[str]:
+    """The words that were stored, sent and taken, each with its step."""
+    return [" ".join([str(it.number), *it.exchange]) for it in steps(trace) if it.exchange and it.exchange[0] in ("STORE", "IN", "OUT")]
+
+
+def first_wrong(healthy: str, through: str) -> int | None:
+    """The step of the first result that isn't that of a healthy machine."""
+    pairs = itertools.zip_longest(results(healthy), results(through), fillvalue="")
+    steps_of_pair = [min(int(it.split()[0]) for it in pair if it) for pair in pairs if pair[0] != pair[1]]
+    return steps_of_pair[0] if steps_of_pair else None

@@ -95,7 +95,7 @@ const Marks = (() => {
         const others = [['ports', 'ports'], ['end', 'end']];
         if (plain) return others;
         const ofModule = ({ number, name }) => Parts.COPIES.map((copy) => [`copy-${number}-${copy}`, `${name} ${copy}`]);
-        return [...Parts.MODULES.flatMap(ofModule), ...Parts.TWINS.map((twin) => [`memory-${twin}`, `memory ${twin}`]), ...others];
+        return [...Parts.MODULES.flatMap(ofModule), ...Parts.TWINS.map((twin) => [`memory-${twin}`, `twin ${twin}`]), ...others];
     }
 
     /** The lanes of a run, and how many steps they have. */

@@ -20,9 +20,9 @@ const Page = (() => {
         return found;
     }
 
-    function sessionSection(found, deck, byTimes) {
+    function sessionSection(found, deck) {
         if (!found.has('session')) return [];
-        return [SessionView.of(SessionText.read(found.get('session')), deck, byTimes, (step) => timeline?.goTo(step, null))];
+        return [SessionView.of(SessionText.read(found.get('session')), deck, (step) => timeline?.goTo(step, null))];
     }
 
     /** The picture of a run: of the plain machine only time and tables, since it has no copies and no faults. */
@@ -52,16 +52,24 @@ const Page = (() => {
         return found.has('deck') && !found.has('refusal') && !found.has('rows') && deck.scripts.length === 0;
     }
 
-    function sections(found, byTimes) {
+    /** The drawing of a trace, step by step. */
+    function traceSections(found, report, deck) {
+        if (!found.has('trace')) return [];
+        const trace = Trace.read(found.get('trace'));
+        return [ExhibitView.ofTrace(trace, report, deck), ...EndView.unread(trace.unread, 'the trace')];
+    }
+
+    function sections(found) {
         const deck = found.has('deck') ? Deck.read(found.get('deck')) : Deck.empty();
         const report = found.has('report') ? Report.read(found.get('report')) : Report.empty();
         timeline = null;
-        const run = hasRun(found, deck) ? runSections(report, deck) : [];
-        const session = sessionSection(found, deck, byTimes);
+        const doubts = Belongs.doubts(deck, report);
+        const apart = doubts.length > 0 ? [EndView.doubted(doubts)] : [];
+        const run = hasRun(found, deck) ? runSections(report, apart.length > 0 ? Deck.empty() : deck) : [];
+        const session = sessionSection(found, deck);
         const ofDeck = found.has('deck') ? [DeckView.of(deck)] : [];
         const unknown = found.has('unknown') ? [EndView.asItIs(found.get('unknown'))] : [];
-        const middle = byTimes ? [...session, ...ofDeck] : [...ofDeck, ...session];
-        return [...firstSections(found, report, deck), ...middle, ...run, ...unknown];
+        return [...apart, ...firstSections(found, report, deck), ...traceSections(found, report, deck), ...ofDeck, ...session, ...run, ...unknown];
     }
 
     function notice(found, given) {
@@ -73,9 +81,9 @@ const Page = (() => {
     }
 
     /** Draws what these texts say, whichever they are. */
-    function show(texts, byTimes = false) {
+    function show(texts) {
         const found = sorted(texts);
-        place('picture').replaceChildren(...sections(found, byTimes));
+        place('picture').replaceChildren(...sections(found));
         place('notice').textContent = notice(found, texts.filter((it) => Kinds.of(it) !== 'empty').length);
         timeline?.draw();
     }
@@ -137,12 +145,39 @@ const Page = (() => {
         window.matchMedia('(prefers-color-scheme: dark)').addEventListener('change', () => timeline?.draw());
     }
 
+    /** The tables of an exhibit, folded away: one touch away for those who want them. */
+    function exhibitTables(found, exhibit) {
+        const tables = runSections(found.report, found.deck);
+        const folded = Element.folded('Tables and octal', false, DeckView.of(found.deck), ...tables);
+        folded.id = 'tables';
+        folded.addEventListener('toggle', () => {
+            exhibit.stage.useOctal(folded.open);
+            timeline?.draw();
+        });
+        return folded;
+    }
+
+    function showExhibit(given) {
+        const found = ExhibitView.read(given);
+        const parameters = new URLSearchParams(window.location.search);
+        if (parameters.has('kiosk') && given.story) {
+            Kiosk.begin(found, given.story, parameters);
+            return;
+        }
+        document.documentElement.classList.add('in-exhibit');
+        const { made, exhibit } = ExhibitView.of(found, Words.of('en'));
+        const always = found.isForm && found.deck.faults.length > 0;
+        const end = EndView.run(found.report, always);
+        place('picture').replaceChildren(made, ...DeckView.told(found.deck), end, exhibitTables(found, exhibit));
+    }
+
     function begin() {
+        place('history').textContent = Words.of('en')('history');
         followColours();
         if (window.EXHIBIT) {
             place('inputs').hidden = true;
             document.title = `${window.EXHIBIT.name.replaceAll('-', ' ')}: a run of the LVDC`;
-            show(window.EXHIBIT.texts, true);
+            showExhibit(window.EXHIBIT);
             return;
         }
         offerExamples();

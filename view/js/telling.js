@@ -18,8 +18,8 @@ const Telling = (() => {
 
     const ENDS = {
         done(_, times) {
-            const all = times === null ? 'all instruction times' : `all ${counted(times, 'instruction time', 'instruction times')}`;
-            return `The run made ${all} that it was asked for.`;
+            const steps = times === null ? '' : `, after ${Parts.firstStepOf(times)} steps`;
+            return `The run came to its end${steps}.`;
         },
         stopped(end) {
             if (end.by !== 'MEMORY') return `At step ${end.step} ${STOPS[end.by]}`;
@@ -28,7 +28,7 @@ const Telling = (() => {
         logic: (end) => `At step ${end.step} two of the three ${many(end.module)} were wrong. `
             + 'The run ends there: from then on the vote can\'t be relied on.',
         memory: (end) => `At step ${end.step} the word at ${end.address} was to be read, and it can't be recovered any more. `
-            + 'The run ends there: what the memories still show of it can\'t be relied on.',
+            + 'The run ends there: what the twins still show of it can\'t be relied on.',
         device: (end) => `At step ${end.step} the device at port ${end.port} failed. The run ends there.`,
     };
 
@@ -92,17 +92,17 @@ const Telling = (() => {
         FORCE: (it) => `${copyOf(it)}: bits of ${latchOf(it)} are held fast ${span(it)}`,
         LAG: (it) => `${copyOf(it)}: keeps its old state ${span(it)}`,
         DEAF: (it) => `${copyOf(it)}: hears no votes, only the copies ${it.copy}, ${span(it)}`,
-        DAMAGE: (it) => `memory ${it.twin}: bits of the cell ${it.place} are turned over before step ${it.first}`,
-        STICK: (it) => `memory ${it.twin}: bits of the cell ${it.place} are stuck ${span(it)}`,
-        DEAD: (it) => `memory ${it.twin}: all of pair ${it.pair} is dead ${span(it)}`,
+        DAMAGE: (it) => `twin ${it.twin}: bits of the cell ${it.place} are turned over before step ${it.first}`,
+        STICK: (it) => `twin ${it.twin}: bits of the cell ${it.place} are stuck ${span(it)}`,
+        DEAD: (it) => `twin ${it.twin}: all of pair ${it.pair} is dead ${span(it)}`,
     };
 
     /** What a fault does. */
     const fault = (it) => FAULTS[it.kind](it);
 
     function repair(it) {
-        const selected = it.switched ? '; the other memory is asked first from then on' : '';
-        return `memory ${it.twin}: the cell ${it.address} was found bad at step ${it.step} and mended${selected}`;
+        const selected = it.switched ? '; the other twin is asked first from then on' : '';
+        return `twin ${it.twin}: the cell ${it.address} was found bad at step ${it.step} and mended${selected}`;
     }
 
     const exchange = (it) => `port ${it.port}: the word ${it.word} was ${it.reading ? 'read' : 'written'} in instruction time ${it.time}`;
@@ -115,7 +115,7 @@ const Telling = (() => {
         const repairs = report.repairs.length;
         if (copies === 0 && repairs === 0) return 'No copy differed from the vote, and no cell had to be mended.';
         const differed = `${copies === 1 ? 'One' : copies} of the 21 copies differed from the vote at least once.`;
-        const mended = `${repairs === 1 ? 'Once' : `${repairs} times`} a read found a bad cell, took the word from the other memory and mended the cell.`;
+        const mended = `${repairs === 1 ? 'Once' : `${repairs} times`} a read found a bad cell, took the word from the other twin and mended the cell.`;
         return [...(copies > 0 ? [differed] : []), ...(repairs > 0 ? [mended] : [])].join(' ');
     }
 

@@ -35,28 +35,6 @@ const CampaignView = (() => {
             html('h3', {}, sign(mark), `${name}: ${rows.length}`), plain(meaning), html('ul', { class: 'grid' }, ...cells));
     }
 
-    const TO = {
-        ArrowRight: (at) => at + 1,
-        ArrowDown: (at) => at + 1,
-        ArrowLeft: (at) => at - 1,
-        ArrowUp: (at) => at - 1,
-        Home: () => 0,
-        End: (at, last) => last,
-    };
-
-    /** Lets arrow keys go over all marks, so that Tab need not pass each: it reaches the one that was chosen last. */
-    function followKeys(grids) {
-        const cells = [...grids.querySelectorAll('.cell')];
-        if (cells.length > 0) cells[0].tabIndex = 0;
-        grids.addEventListener('focusin', (event) => cells.forEach((it) => { it.tabIndex = it === event.target ? 0 : -1; }));
-        grids.addEventListener('keydown', (event) => {
-            if (!Object.hasOwn(TO, event.key) || !cells.includes(event.target)) return;
-            event.preventDefault();
-            cells[TO[event.key](cells.indexOf(event.target), cells.length - 1)]?.focus();
-        });
-        return grids;
-    }
-
     /** What the row says, and the faults of its script where the deck is there. */
     function teller(place, deck) {
         const scripts = new Map(deck.scripts.map((it) => [it.name, it]));
@@ -88,7 +66,8 @@ const CampaignView = (() => {
         const told = html('div', { class: 'told', role: 'status' }, plain('Choose a script to see what it did.'));
         const tell = teller(told, deck);
         const groups = Object.keys(VERDICTS).map((verdict) => group(verdict, found.rows.filter((it) => it.verdict === verdict), tell));
-        const grids = followKeys(html('div', { class: 'verdicts' }, ...groups));
+        const verdicts = html('div', { class: 'verdicts' }, ...groups);
+        const grids = Roving.over(verdicts, [...verdicts.querySelectorAll('.cell')]);
         return section('campaign', 'A campaign', SENTENCE, totals(found.total), grids, told, asTable(found.rows), ...EndView.unread(found.unread, 'the rows'));
     }
 

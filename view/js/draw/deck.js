@@ -54,5 +54,11 @@ const DeckView = (() => {
     const of = (deck) => section('deck', 'The deck', '', ...comments(deck), html('p', { class: 'plain', id: 'deck-says' }, sentences(deck)),
         ...ports(deck), wholeText(deck), ...EndView.unread(deck.unread, 'the deck'));
 
-    return { of };
+    /** What the deck's comments say of its program; nothing where it has none. */
+    function told(deck) {
+        const said = comments(deck);
+        return said.length > 0 ? [section('program', 'What runs here', '', ...said)] : [];
+    }
+
+    return { of, told };
 })();

@@ -21,10 +21,23 @@ const EndView = (() => {
 
     const sentence = (kind, words) => html('p', { class: 'sentence', 'data-kind': kind }, words);
 
+    /** A judged run that wasn't ended by its faults has a healthy machine's results. */
+    function isProved(report) {
+        const { end, title } = report;
+        return title === 'RUN' && (end?.kind === 'done' || (end?.kind === 'stopped' && end.by !== 'MEMORY'));
+    }
+
+    /** What the end is worth; `always` is whether the script masks by form. */
+    function worth(report, always) {
+        if (!isProved(report)) return [];
+        const words = Words.of('en');
+        return [html('p', { class: 'sentence proved' }, words('end.proved')), ...(always ? [plain(words('end.always'))] : [])];
+    }
+
     /** The end of a run. */
-    function run(report) {
+    function run(report, always = false) {
         const words = [Telling.end(report.end, Report.times(report)), Telling.title(report.title)].filter((it) => it !== '').join(' ');
-        const made = section('end', 'How it ended', '', sentence(report.end?.kind ?? 'none', words));
+        const made = section('end', 'How it ended', '', sentence(report.end?.kind ?? 'none', words), ...worth(report, always));
         if (report.title !== 'PLAIN') made.append(html('p', { class: 'plain', id: 'outvoted' }, Telling.outvoted(report)));
         if (report.end) made.append(html('p', {}, code(report.end.line)));
         made.append(...unread(report.unread, 'the report'));
@@ -44,10 +57,15 @@ const EndView = (() => {
     const soak = (found) => section('end', 'A soak run', 'A long run under faults drawn from a number; the text sums it up.',
         sentence(found.end?.kind ?? 'none', Telling.end(found.end, null)), lines(found.lines));
 
+    /** What speaks against a deck and a report being of one run. */
+    const doubted = (doubts) => section('doubts', 'These two don\'t belong together',
+        'The deck and the report that were given are not of one run, so the faults of the deck aren\'t drawn over the report.',
+        html('ul', { class: 'acting' }, ...doubts.map((it) => html('li', {}, it))));
+
     /** A text that is none of those that this page draws. */
     function asItIs(text) {
         return section('text', 'A text', 'This is no text that this page draws. It stands here as it is.', lines(Lines.numbered(text)));
     }
 
-    return { run, refused, soak, asItIs, unread };
+    return { run, isProved, refused, soak, doubted, asItIs, unread };
 })();

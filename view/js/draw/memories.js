@@ -1,6 +1,6 @@
 'use strict';
 
-/** The two memories side by side: what the script did to their places, and what the report says of them. */
+/** The two twins of the memory side by side: what the script did to their places, and what the report says of them. */
 const MemoriesView = (() => {
     const { html, code, plain, sign, section, table } = Element;
     const PLACES_SHOWN = 40;
@@ -8,19 +8,19 @@ const MemoriesView = (() => {
     const KINDS = {
         damaged: ['✕', 'damaged: bits turned over'],
         stuck: ['▬', 'stuck: bits held fast'],
-        dead: ['▒', 'dead: the memory shows nothing there'],
-        mended: ['●', 'mended: found bad by a read, and rewritten, but a dead memory stores nothing'],
+        dead: ['▒', 'dead: the twin shows nothing there'],
+        mended: ['●', 'mended: found bad by a read, and rewritten, but a dead twin stores nothing'],
         lost: ['?', 'lost: the word can\'t be recovered'],
     };
     const BY_FAULTS = { DAMAGE: 'damaged', STICK: 'stuck', DEAD: 'dead' };
 
-    /** The memory that alone holds an address, where its pair is simplex, or none: banks 4 to 7 are memory 1 of pairs 0 to 3. */
+    /** The twin that alone holds an address, where its pair is simplex, or none: banks 4 to 7 are twin 1 of pairs 0 to 3. */
     function holderOf(bank, simplex) {
         if (bank >= 4) return 1;
         return simplex.has(String(bank)) ? 0 : null;
     }
 
-    /** Marks a word that can't be recovered, in the one memory that holds it or for both. */
+    /** Marks a word that can't be recovered, in the one twin that holds it or for both. */
     function addLost(at, address, simplex) {
         const bank = Number(address[0]);
         const holder = holderOf(bank, simplex);
@@ -29,7 +29,7 @@ const MemoriesView = (() => {
         else place[holder].push('lost');
     }
 
-    /** What happened at each place, by kind and memory, in the order of places; a pair as a whole comes before its places. */
+    /** What happened at each place, by kind and twin, in the order of places; a pair as a whole comes before its places. */
     function places(report, { faults, simplex }) {
         const found = new Map();
         const at = (place) => {
@@ -56,10 +56,10 @@ const MemoriesView = (() => {
 
     const nameOf = (place) => (place.length === 1 ? html('span', {}, 'all of pair ', code(place)) : code(place));
 
-    /** Place by place what happened in each memory, and where a word is lost what became of it. */
+    /** Place by place what happened in each twin, and where a word is lost what became of it. */
     function placesTable(found) {
         const anyLost = found.some(([, it]) => it.lost);
-        const headings = ['place', 'memory 0', 'memory 1', ...(anyLost ? ['the word'] : [])];
+        const headings = ['place', 'twin 0', 'twin 1', ...(anyLost ? ['the word'] : [])];
         const rows = found.slice(0, PLACES_SHOWN).map(([place, it]) => {
             const word = it.lost ? marked('lost', 1) : '';
             return [nameOf(place), allMarked(it[0]), allMarked(it[1]), ...(anyLost ? [word] : [])];
@@ -74,13 +74,13 @@ const MemoriesView = (() => {
         return html('ul', { class: 'key' }, ...items.map(([kind, [mark, words]]) => html('li', { class: `sign ${kind}` }, sign(mark), words)));
     }
 
-    const SENTENCE = 'Every word is kept twice, in memory 0 and in memory 1. '
+    const SENTENCE = 'Every word is kept twice: the two memories are twin 0 and twin 1. '
         + 'Where one shows a cell with bad parity, the word is taken from the other and the cell is mended.';
 
     function sentenceOf(simplex) {
         if (simplex.size === 0) return SENTENCE;
         const pairs = `${simplex.size === 1 ? 'pair' : 'pairs'} ${[...simplex].sort().join(', ')}`;
-        return `${SENTENCE} Not so in ${pairs}: there each memory holds words of its own, and nothing is mended.`;
+        return `${SENTENCE} Not so in ${pairs}: there each twin holds words of its own, and nothing is mended.`;
     }
 
     /** The section of the memories. */

@@ -1,6 +1,6 @@
 'use strict';
 
-/** A debug session: a slider over its commands, or over the times that it stops at. */
+/** A debug session: a slider over its commands. */
 const SessionView = (() => {
     const { html, code, plain, unseen, item, section, button } = Element;
     const { counted } = Telling;
@@ -31,7 +31,7 @@ const SessionView = (() => {
         return deck.faults.filter((it) => Faults.actsIn(it, first, last));
     }
 
-    /** These faults; by times there is room for two also where there are none, so that the lamps below stay where they are. */
+    /** These faults. */
     function faultList(faults) {
         const items = faults.slice(0, FAULTS_SHOWN).map((it) => item(`${Telling.fault(it)} `, code(it.line.text.trim())));
         if (faults.length > FAULTS_SHOWN) items.push(item(`and ${faults.length - FAULTS_SHOWN} more`));
@@ -59,12 +59,13 @@ const SessionView = (() => {
         return html('li', { class: `copy ${kind}${own ? '' : ' unasked'}`, title: words, 'data-copy': copy }, Lamp.shape(kind), unseen(words));
     }
 
-    /** The lamps of a module, under a button that shows what its copies say. */
-    function moduleItem(module, found, faults, chosen, choose) {
+    /** The lamps of a module, under a button that pins what its copies say; a second touch lets go of it. */
+    function moduleItem(module, found, faults, { chosen, pinned }, choose) {
         const copies = found.copies.get(module.number) ?? [];
         const attributes = {
             type: 'button',
-            'aria-pressed': String(chosen === module.number),
+            'aria-pressed': String(pinned === module.number),
+            class: chosen === module.number ? 'shown' : '',
             disabled: copies.length === 0,
             click: () => choose(module.number),
         };
@@ -87,22 +88,22 @@ const SessionView = (() => {
 
     const registerParts = (found) => (found.registers.size === 0 ? [] : [html('div', { class: 'wide' }, Tables.registers(found.registers))]);
 
-    /** A visitor's walk through a session: at which of its stops, and which module is looked at. */
+    /** A visitor's walk through a session: at which of its commands, and which module is looked at. */
     class Walk {
-        constructor(session, deck, stops, byTimes, onMove) {
-            Object.assign(this, { commands: session.commands, deck, stops, byTimes, onMove, at: 0, module: null, player: null });
-            this.place = html('div', { class: byTimes ? 'standing steady' : 'standing' });
+        constructor(session, deck, onMove) {
+            Object.assign(this, { commands: session.commands, deck, onMove, at: 0, module: null, player: null });
+            this.place = html('div', { class: 'standing' });
             this.slider = html('input', {
-                type: 'range', id: 'slider', min: 0, max: stops.length - 1, value: 0, 'aria-label': byTimes ? 'Time' : 'Command',
+                type: 'range', id: 'slider', min: 0, max: session.commands.length - 1, value: 0, 'aria-label': 'Command',
                 input: () => this.go(Number(this.slider.value)),
             });
         }
 
         go(at) {
-            this.at = Math.max(0, Math.min(this.stops.length - 1, at));
+            this.at = Math.max(0, Math.min(this.commands.length - 1, at));
             this.slider.value = String(this.at);
             this.draw();
-            const { move } = this.commands[this.stops[this.at]];
+            const { move } = this.commands[this.at];
             if (move.went) this.onMove(stepsOf(move).last);
         }
 
@@ -115,13 +116,12 @@ const SessionView = (() => {
         }
 
         draw() {
-            const index = this.stops[this.at];
-            const command = this.commands[index];
-            const found = SessionText.standing(this.commands, index);
+            const command = this.commands[this.at];
+            const found = SessionText.standing(this.commands, this.at);
             const faults = faultsIn(this.deck, command.move);
             const where = whereTold(command.move);
-            this.slider.setAttribute('aria-valuetext', this.byTimes ? where : `${command.command}. ${where}`);
-            this.place.replaceChildren(...(this.byTimes ? [] : commandParts(command, index, this.commands, this.deck)),
+            this.slider.setAttribute('aria-valuetext', `${command.command}. ${where}`);
+            this.place.replaceChildren(...commandParts(command, this.at, this.commands, this.deck),
                 html('p', { class: 'where' }, where), ...(this.deck.faults.length > 0 ? [faultList(faults)] : []),
                 ...this.copyParts(found, faults), ...registerParts(found));
         }
@@ -130,13 +130,13 @@ const SessionView = (() => {
         copyParts(found, faults) {
             if (found.copies.size === 0) return [];
             const chosen = this.moduleShown(found);
-            const modules = Parts.MODULES.map((it) => moduleItem(it, found, faults, chosen, (module) => this.choose(module)));
+            const modules = Parts.MODULES.map((it) => moduleItem(it, found, faults, { chosen, pinned: this.module }, (module) => this.choose(module)));
             return [html('ol', { class: 'modules lamps' }, ...modules), Lamp.key(this.deck.faults.length > 0 ? KEY_WITH_FAULTS : KEY),
                 CopiesView.of(Parts.module(chosen), found.copies.get(chosen))];
         }
 
         choose(module) {
-            this.module = module;
+            this.module = this.module === module ? null : module;
             this.draw();
             this.place.querySelector(`.module[data-module="${module}"] button`).focus();
         }
@@ -147,10 +147,10 @@ const SessionView = (() => {
                 this.rest(control);
                 return;
             }
-            if (this.at === this.stops.length - 1) this.go(0);
+            if (this.at === this.commands.length - 1) this.go(0);
             control.textContent = 'pause';
             this.player = window.setInterval(() => {
-                if (this.at === this.stops.length - 1 || !this.place.isConnected) this.rest(control);
+                if (this.at === this.commands.length - 1 || !this.place.isConnected) this.rest(control);
                 else this.go(this.at + 1);
             }, PLAY_EVERY);
         }
@@ -169,18 +169,15 @@ const SessionView = (() => {
         return html('p', { class: 'buttons slide' }, back, walk.slider, on, play);
     }
 
-    const BY_TIMES = ['Moment by moment', 'Move through time. Each lamp is a copy of a part; choose a part to see what its three copies say.'];
-    const BY_COMMANDS = ['The session', 'Move through the commands: what was asked and answered, the registers, and what each copy says.'];
+    const SENTENCE = 'Move through the commands: what was asked and answered, the registers, and what each copy says.';
 
-    /** The section of a session; by times the slider passes over all commands between two moves of the machine. */
-    function of(session, deck, byTimes, onMove) {
+    /** The section of a session. */
+    function of(session, deck, onMove) {
         const unread = EndView.unread(session.unread, 'the session');
-        const [heading, sentence] = byTimes ? BY_TIMES : BY_COMMANDS;
-        if (session.commands.length === 0) return section('session', heading, 'The session has no command.', ...unread);
-        const stops = byTimes ? SessionText.stops(session.commands) : session.commands.map((_, index) => index);
-        const walk = new Walk(session, deck, stops, byTimes, onMove);
+        if (session.commands.length === 0) return section('session', 'The session', 'The session has no command.', ...unread);
+        const walk = new Walk(session, deck, onMove);
         walk.draw();
-        return section('session', heading, sentence, controls(walk), walk.place, ...unread);
+        return section('session', 'The session', SENTENCE, controls(walk), walk.place, ...unread);
     }
 
     return { of };

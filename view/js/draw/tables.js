@@ -76,7 +76,7 @@ const Tables = (() => {
         html('div', { class: 'lists' },
             ...list('log', 'Words through the ports', ['time', 'what', 'port', 'word', 'decimal'], report.log, exchange),
             ...list('memory', 'Words in memory', ['address', 'word', 'decimal'], report.memory.filter((it) => !it.lost), word),
-            ...list('repairs', 'Cells mended', ['step', 'address', 'memory', 'asked first'], report.repairs, repair)));
+            ...list('repairs', 'Cells mended', ['step', 'address', 'twin', 'asked first'], report.repairs, repair)));
 
     return { of, registers };
 })();

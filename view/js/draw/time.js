@@ -75,7 +75,7 @@ const TimeView = (() => {
         fault: ['▮', 'a fault acts on a copy'],
         damage: ['✕', 'bits of a cell turned over'],
         stick: ['▬', 'bits of a cell stuck'],
-        dead: ['▒', 'a memory dead in a pair'],
+        dead: ['▒', 'a twin dead in a pair'],
         repair: ['●', 'a cell mended'],
         in: ['▼', 'a word read from a port'],
         out: ['▲', 'a word written to a port'],
@@ -95,7 +95,7 @@ const TimeView = (() => {
         }));
     }
 
-    const SENTENCE = 'From left to right the steps of the run, three to each instruction. Each line is a copy, a memory or the ports.';
+    const SENTENCE = 'From left to right the steps of the run, three to each instruction. Each line is a copy, a twin or the ports.';
     const HELP = 'Time, step by step. Arrow keys move over steps and lanes, Page Up and Page Down from mark to mark, plus and minus zoom.';
 
     /** The section of time, and the view in it. */

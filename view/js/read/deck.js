@@ -14,6 +14,7 @@ const Deck = (() => {
         unplugs: [],
         faults: [],
         orders: [],
+        words: new Map(),
         count: null,
         commands: [],
         scripts: [],
@@ -39,6 +40,15 @@ const Deck = (() => {
         DEBUG: [/^DEBUG$/, () => {}],
         CAMPAIGN: [/^CAMPAIGN$/, () => {}],
     };
+
+    const IMAGE_WORD = /^([0-7]) ([0-7]{1,2}) ([0-7]{1,3}) ([0-7]{1,9})$/;
+
+    /** A line of an image: a pair of simplex ones, or a word with its address in the digits that reports use. */
+    function takeImage(deck, line) {
+        if (SIMPLEX.test(line)) addSimplex(deck, line);
+        const word = IMAGE_WORD.exec(tokens(line).join(' '));
+        if (word) deck.words.set(`${word[1]} ${word[2].padStart(2, '0')} ${word[3].padStart(3, '0')}`, word[4].padStart(9, '0'));
+    }
 
     const TAPE = new RegExp(`^TAPE ${PORT}(( [0-7]{1,9})+)$`);
     const UNPLUG = new RegExp(`^UNPLUG ${PORT} (0|[1-9]\\d{0,6})$`);
@@ -92,10 +102,10 @@ const Deck = (() => {
             return fault !== null;
         }
 
-        /** Of the program only its end is looked for, and which pairs an image says are simplex. */
+        /** Of a source only its end is looked for. */
         takeProgram(line) {
             if (bare(line.text) === 'END') this.where = 'after';
-            else if (this.deck.program === 'IMAGE' && SIMPLEX.test(line.text)) addSimplex(this.deck, line.text);
+            else if (this.deck.program === 'IMAGE') takeImage(this.deck, line.text);
         }
 
         /** Comments before the program are the deck's own; one in DEBUG is about the command after it. */

@@ -5,9 +5,10 @@ const Kinds = (() => {
     const FIRST_LINES = [
         ['report', /^LVDC (RUN|THROUGH|PLAIN)$/],
         ['session', /^LVDC DEBUG$/],
+        ['trace', /^LVDC TRACE( THROUGH)?$/],
         ['soak', /^LVDC SOAK \d+$/],
         ['refusal', /^REFUSED \S+( \d+)?$/],
-        ['rows', /^(SCRIPT \S+ (ADMISSIBLE|LOGIC|MEMORY) |CAMPAIGN \d+ ADMISSIBLE )/],
+        ['rows', /^(SCRIPT \S+ (ADMISSIBLE|LOGIC|MEMORY) |(CAMPAIGN|STUDY) \d+ ADMISSIBLE )/],
     ];
     const DECK = /^[ \t]*(IMAGE|SOURCE)[ \t]*$/;
 
@@ -21,7 +22,7 @@ const Kinds = (() => {
         }
     }
 
-    /** The kind of a text: deck, report, session, soak, refusal, rows; empty where nothing stands there; unknown. */
+    /** The kind of a text: deck, report, session, trace, soak, refusal, rows; empty where nothing stands there; unknown. */
     function of(text) {
         if (text.trim() === '') return 'empty';
         for (const line of linesOf(text)) {

@@ -1,10 +1,10 @@
 'use strict';
 
-/** Reads the rows of a campaign, and its total. */
+/** Reads the rows of a campaign or a study, and the total. */
 const Rows = (() => {
     const { numbered, whole } = Lines;
-    const ROW = /^SCRIPT (\S+) (ADMISSIBLE|LOGIC (0|[1-9]\d*) ([1-7])|MEMORY (0|[1-9]\d*) ([0-7] [0-7]{2} [0-7]{3})) (SAME|DIFFERS)$/;
-    const TOTAL = /^CAMPAIGN (\d+) ADMISSIBLE (\d+) SAME (\d+)$/;
+    const ROW = /^SCRIPT (\S+) (ADMISSIBLE|LOGIC (0|[1-9]\d*) ([1-7])|MEMORY (0|[1-9]\d*) ([0-7] [0-7]{2} [0-7]{3})) (SAME|DIFFERS)( .*)?$/;
+    const TOTAL = /^(?:CAMPAIGN|STUDY) (\d+) ADMISSIBLE (\d+) SAME (\d+)( FORM \d+)?$/;
 
     const rowOf = (m) => ({
         name: m[1],

@@ -74,11 +74,5 @@ const SessionText = (() => {
         if (copy) found.copies.set(copy.module, [...(found.copies.get(copy.module) ?? []).filter((it) => it.copy !== copy.copy), copy]);
     }
 
-    /** The last command before each move, and the last of all: where a visitor stops who moves through time. */
-    function stops(commands) {
-        const last = commands.length - 1;
-        return commands.map((_, index) => index).filter((index) => index === last || commands[index + 1].move.index === index + 1);
-    }
-
-    return { read, standing, stops };
+    return { read, standing };
 })();

@@ -1,0 +1,467 @@
+"""Tries exhibits and the kiosk in a browser: what they show at each step is what the texts in them say."""
+import concurrent.futures
+import html.parser
+import itertools
+import json
+import os
+import pathlib
+import random
+import re
+import subprocess
+from typing import Any, TypeAlias
+
+import expected
+from browser import Browser
+from tally import expect
+
+HERE = pathlib.Path(__file__).resolve().parent
+EXAMPLES = HERE.parent / "examples"
+TOOL = HERE / "exhibit"
+WITH_ANSWERS = [HERE / "kiosk.deck", EXAMPLES / "two-wrong-copies.deck"]
+WIDTHS = [320, 390, 768, 1366, 1920]
+LEAST_TARGET = 44
+SCREENS = 5
+COPIES = [f"{module}-{copy}" for module in range(1, 8) for copy in range(1, 4)]
+
+# an exhibit's texts, as they stand in its file
+Texts: TypeAlias = dict[str, Any]
+
+DRAWN = "document.querySelectorAll('.light').length === 21"
+
+# What an exhibit shows at each step of the slider.
+MOMENTS = """(() => {
+    const all = (query) => [...document.querySelectorAll(query)];
+    const slider = document.querySelector('#moments .steps');
+    const found = [];
+    for (let step = Number(slider.min); step <= Number(slider.max); step += 1) {
+        slider.value = step;
+        slider.dispatchEvent(new Event('input'));
+        const lights = all('.light').filter((it) => it.dataset.kind !== 'well');
+        found.push({
+            step,
+            lamps: Object.fromEntries(lights.map((it) => [`${it.dataset.module}-${it.dataset.copy}`, it.dataset.kind])),
+            cells: Object.fromEntries(all('.slot').filter((it) => it.dataset.states)
+                .map((it) => [`${it.dataset.twin} ${it.dataset.place}`, it.dataset.states])),
+            name: document.querySelector('.instruction-name')?.textContent ?? '',
+            line: document.querySelector('.source-line')?.textContent ?? '',
+            where: document.querySelector('.moment-where').textContent,
+            happens: all('.happens li').map((it) => it.textContent).join(' '),
+        });
+    }
+    return found;
+})()"""
+
+
+def press(module: int | str, copy: int | str) -> str:
+    """Presses a lamp."""
+    return (f"document.querySelector('.light[data-module=\"{module}\"][data-copy=\"{copy}\"]')"
+            ".dispatchEvent(new MouseEvent('click', { bubbles: true }))")
+
+
+def click(query: str) -> str:
+    """Presses a button."""
+    return f"document.querySelector({json.dumps(query)}).click()"
+
+
+def words(page: Browser, query: str) -> str:
+    """The text of an element, empty where there is none."""
+    return str(page.run(f"document.querySelector({json.dumps(query)})?.textContent ?? ''"))
+
+
+# ---- making
+
+def made(deck: pathlib.Path, worker: str, folder: pathlib.Path) -> pathlib.Path:
+    """The exhibit of a deck, with answers for some."""
+    path = folder / f"{deck.stem}.html"
+    flags = [] if deck in WITH_ANSWERS else ["--no-answers"]
+    with path.open("wb") as file:
+        subprocess.run([TOOL, deck, *flags], env={**os.environ, "LVDC_WORKER": worker}, stdout=file, check=True)
+    return path
+
+
+def can_run(deck: pathlib.Path) -> bool:
+    """Whether an example is none that shows a refusal."""
+    return not deck.with_suffix(".report").read_text().startswith("REFUSED")
+
+
+class Outside(html.parser.HTMLParser):
+    """Collects what a page takes from elsewhere."""
+
+    def __init__(self) -> None:
+        super().__init__()
+        self.found: list[str | None] = []
+
+    def handle_starttag(self, tag: str, attrs: list[tuple[str, str | None]]) -> None:
+        self.found += [value for name, value in attrs if name in ("src", "href")]
+
+
+def outside(path: pathlib.Path) -> list[str | None]:
+    """What a page takes from elsewhere."""
+    reader = Outside()
+    reader.feed(path.read_text())
+    return reader.found
+
+
+def opened(page: Browser, path: pathlib.Path, query: str = "") -> None:
+    """Opens an exhibit, and waits until it is drawn."""
+    page.open(path, query=query)
+    expect(f"{path.stem}: it is drawn", page.until(DRAWN), True)
+
+
+# ---- each step
+
+def try_step(name: str, shown: Texts, told: list[expected.Step], at: int) -> None:
+    """What is shown at a step is what the trace says of it."""
+    step, place = told[at], f"exhibit {name}: step {told[at].number}"
+    expect(f"{place}: lamps", shown["lamps"], expected.lamps(told, at))
+    expect(f"{place}: its number", shown["where"].split(":")[0], f"Step {step.number} of {shown['last']}")
+    expect(f"{place}: words of {step.exchange}", [it for it in expected.said(step) if it not in shown["happens"]], [])
+    if step.exchange and step.exchange[0] not in ("IN", "OUT"):
+        kind = "stored" if step.exchange[0] == "STORE" else "read"
+        cells = [key[2:] for key, states in shown["cells"].items() if kind in states.split()]
+        expect(f"{place}: the cell that is {kind}", set(cells), {expected.place(step.exchange[1:4])})
+    if step.repair:
+        mended = f"{step.repair[4]} {expected.place(step.repair[1:4])}"
+        expect(f"{place}: the cell that is mended", "mended" in shown["cells"].get(mended, ""), True)
+
+
+SHOWN_AS = {"DAMAGE": ["damaged"], "STICK": ["stuck"], "DEAD": ["dead"]}
+
+
+def is_shown(words: list[str], shown: Texts) -> bool:
+    """Whether a fault line that acts in a step is seen there."""
+    if words[0] in expected.COPY_FAULTS:
+        return shown["lamps"].get(f"{words[1]}-{words[2]}") in ("hurt", "differed")
+    if words[0] == "DEAD":
+        cells = [states for key, states in shown["cells"].items() if key.startswith(f"{words[1]} {words[2]} ")]
+        return bool(cells) and all("dead" in it.split() for it in cells)
+    key = f"{words[1]} {expected.place_of(words)}"
+    return any(it in shown["cells"].get(key, "").split() for it in SHOWN_AS[words[0]])
+
+
+def try_steps(page: Browser, name: str, texts: Texts) -> None:
+    """Goes through all steps: each is as the trace says, and every fault is seen where it acts."""
+    told = expected.steps(texts["trace"])
+    moments = page.run(MOMENTS)
+    for at, shown in enumerate(moments):
+        shown["last"] = moments[-1]["step"]
+        if at < len(told):
+            try_step(name, shown, told, at)
+        unseen = [it for it in expected.faults(texts["deck"]) if expected.acts(it, shown["step"]) and not is_shown(it, shown)]
+        expect(f"exhibit {name}: step {shown['step']}: faults that aren't seen", unseen, [])
+    unmade = texts["report"].split("\n")[1].split()[1] in ("INADMISSIBLE", "DEVICE")
+    expect(f"exhibit {name}: steps", [it["step"] for it in moments], list(range(len(told) + unmade)))
+    if texts["listing"]:
+        try_names(name, moments, told, texts["listing"])
+
+
+ROW = re.compile(r" *[0-9]+ ([0-3] [0-7]{2}) ([01]) ([0-7]{3}) ([0-7]{5}) +(.*)")
+
+
+def try_names(name: str, moments: list[Texts], told: list[expected.Step], listing: str) -> None:
+    """The line of the source is that of the listing at the place of the fetch, where that is still the instruction there."""
+    rows = {f"{it[1]} {it[3]} {it[2]}": [it[4], it[5].strip()] for row in listing.split("\n") if (it := ROW.fullmatch(row))}
+    for shown, step in zip(moments, told):
+        if step.exchange[:1] == ["FETCH"]:
+            syllable = int(step.place, 8) >> 18 & 1
+            word = int(step.exchange[4], 8) >> 13 * syllable & 0o17777
+            code, line = rows.get(" ".join([*step.exchange[1:4], str(syllable)]), ["", ""])
+            expect(f"exhibit {name}: step {step.number}: the line of the source", shown["line"], line if code == f"{word:05o}" else "")
+
+
+# ---- what it came to
+
+PROVED = "Every result is exactly that of a healthy machine. That is proved, not tested."
+
+
+def try_end(page: Browser, name: str, texts: Texts) -> None:
+    """The words of the end; and where it is inadmissible, the panel of the module, and what would have happened."""
+    end = texts["report"].split("\n")[1].split()
+    proved = end[1] == "DONE" or (end[1] == "STOPPED" and end[3] != "MEMORY")
+    expect(f"exhibit {name}: what the end is worth", [PROVED in words(page, it) for it in ("#end", ".notice")], [proved, proved])
+    expect(f"exhibit {name}: the history", "what the modules are called and do" in words(page, "#history"), True)
+    if end[1] != "INADMISSIBLE":
+        return
+    expect(f"exhibit {name}: the notice at the end", f"step {end[2]}" in words(page, ".notice .sentence"), True)
+    panel = page.run("document.querySelector('.panel .side-by-side')?.dataset.module ?? ''")
+    expect(f"exhibit {name}: the panel that is open", panel, end[4] if end[3] == "LOGIC" else "")
+    page.run(click(".notice button"))
+    first = expected.first_wrong(texts["healthy"]["trace"], texts["through"]["trace"])
+    row = words(page, ".first-wrong-row td:first-child")
+    expect(f"exhibit {name}: the first wrong result", row, "" if first is None else str(first))
+    told = expected.steps(texts["through"]["trace"])
+    lamps = page.run("Object.fromEntries([...document.querySelectorAll('.light')].filter((it) => it.dataset.kind !== 'well')"
+                     ".map((it) => [`${it.dataset.module}-${it.dataset.copy}`, it.dataset.kind]))")
+    wanted = expected.lamps(told, int(end[2])) if int(end[2]) < len(told) else lamps
+    expect(f"exhibit {name}: the lamps through every fault", lamps, wanted)
+
+
+def try_exhibit(page: Browser, path: pathlib.Path) -> Texts:
+    """An exhibit stands alone, and shows what its texts say."""
+    expect(f"exhibit {path.stem}: stands alone", outside(path), [])
+    opened(page, path)
+    texts: Texts = page.run("window.EXHIBIT")
+    try_steps(page, path.stem, texts)
+    try_end(page, path.stem, texts)
+    expect(f"exhibit {path.stem}: faults of the page, and what it asks for elsewhere", page.faults() + page.strangers(), [])
+    return texts
+
+
+# ---- touching
+
+# What a key can press and has no name; and how many parts Tab reaches in the drawing: one in each module, and one in each twin.
+UNNAMED = """[...document.querySelectorAll('button, input, summary, [role=button]')]
+    .filter((it) => !it.textContent.trim() && !it.ariaLabel && !it.labels?.length).length"""
+STOPS = "document.querySelectorAll('.board [tabindex=\"0\"]').length"
+
+
+def try_panel(page: Browser, path: pathlib.Path) -> None:
+    """A lamp opens what its copies say; a second touch, by Enter, lets go of it."""
+    opened(page, path)
+    count = "document.querySelectorAll('.panel .side-by-side').length"
+    page.run(press(5, 2))
+    first = page.run(count)
+    page.run("document.querySelector('.light[data-module=\"5\"][data-copy=\"1\"]').focus()")
+    page.key("Enter", 13)
+    expect(f"exhibit {path.stem}: a panel opens and closes", [first, page.run(count)], [1, 0])
+    expect(f"exhibit {path.stem}: all has a name, and Tab reaches it", [page.run(UNNAMED), page.run(STOPS)], [0, 9])
+    page.run("document.querySelector('#moments .steps').focus()")
+    page.key("ArrowRight", 39)
+    expect(f"exhibit {path.stem}: a key goes on", words(page, ".moment-where")[:6], "Step 1")
+
+
+def asked(worker: str, deck: str, request: str) -> list[str]:
+    """The lines of what a worker answers."""
+    frame = f"REQUEST {len(deck.encode())} {request}\n".encode() + deck.encode()
+    text = subprocess.run([worker], input=frame, stdout=subprocess.PIPE, check=True).stdout.decode()
+    return text.split("\n")[1:]
+
+
+HURTS = {"1": "0 1", "2": "0 2000", "3": "0 1", "4": "0 10", "5": "0 20", "6": "0 1", "7": "1 1"}
+
+
+def hurt_deck(deck: str, step: int, keys: tuple[str, ...]) -> str:
+    """A deck without faults, with those of a visitor."""
+    lines = [f"FLIP {key[0]} {key[2]} {step} {step} {HURTS[key[0]]}" for key in keys]
+    head, run = deck.split("\nRUN ")
+    return f"{head}\n" + "\n".join(["FAULTS", *lines]) + f"\nRUN {run}"
+
+
+def try_answers(page: Browser, worker: str, path: pathlib.Path, texts: Texts) -> None:
+    """One lamp and then another: the end that the worker tells of the same faults is what is said."""
+    opened(page, path)
+    page.run(click("[data-mode=break]"))
+    draw = random.Random(1)
+    healthy = (HERE / "kiosk.deck").read_text()
+    sets = [(key,) for key in draw.sample(COPIES, 3)] + draw.sample(list(itertools.combinations(COPIES, 2)), 5) + [("3-1", "3-2")]
+    for keys, step in zip(sets, itertools.cycle(texts["answers"]["steps"])):
+        page.run(click("[data-mode=break]"))
+        page.run(f"(() => {{ const it = document.querySelector('#moments .steps'); it.value = {step}; it.dispatchEvent(new Event('input')); }})()")
+        for key in keys:
+            page.run(press(key[0], key[2]))
+        end = asked(worker, hurt_deck(healthy, step, keys), "run")[1].split()
+        verdict = page.run("document.querySelector('.notice .sentence')?.dataset.verdict")
+        expect(f"{keys} at step {step}", verdict, end[3] if end[1] == "INADMISSIBLE" else "ADMISSIBLE")
+
+
+# ---- spelling
+
+def try_spelling(page: Browser, worker: str) -> None:
+    """All 8,192 instructions are named as the debugger names them, and numbers are as they are wanted."""
+    image = [f"0 {at >> 8:02o} {at & 255:03o} {2 * at + ((2 * at + 1) << 13):09o}" for at in range(4096)]
+    commands = [f"DIS 0 {sector:02o} {syllable} 000 256" for sector in range(16) for syllable in (0, 1)]
+    deck = "\n".join(["IMAGE", "LVDC 1", *image, "END", "RUN 1", "DEBUG", *commands, ""])
+    rows = [it.split() for it in asked(worker, deck, "debug") if re.fullmatch("0 .. . ... [0-7]{5} [A-Z]{3} ...", it)]
+    wanted = {row[4]: " ".join(row[5:]) for row in rows}
+    got = page.run(f"Object.fromEntries({json.dumps(list(wanted))}.map((it) => [it, Latches.instruction(it.padStart(9, '0'))]))")
+    expect("names of all instructions", [len(wanted), {key: name for key, name in got.items() if wanted[key] != name}], [8192, {}])
+    numbers = [f"{random.Random(at).randrange(1 << 26):09o}" for at in range(200)]
+    expect("numbers", page.run(f"{json.dumps(numbers)}.map(Latches.decimal)"), [expected.decimal(it) for it in numbers])
+
+
+def try_languages(page: Browser) -> None:
+    """All languages have the same words, with the same names in braces."""
+    told = page.run("Words.LANGUAGES")
+    english = {key: sorted(re.findall(r"\{\w+\}", text)) for key, text in told["en"].items()}
+    for name, texts in told.items():
+        expect(f"words of {name}", {key: sorted(re.findall(r"\{\w+\}", text)) for key, text in texts.items()}, english)
+        expect(f"words of {name}: empty ones", [key for key, text in texts.items() if not text.strip()], [])
+
+
+# ---- sizes, colours, motion
+
+# How far text stands out from what it stands on, for each pair of colours.
+CONTRASTS = """(() => {
+    const luminance = (colour) => {
+        const place = document.createElement('span');
+        place.style.color = `var(${colour})`;
+        document.body.append(place);
+        const parts = getComputedStyle(place).color.match(/[\\d.]+/g).slice(0, 3).map((it) => it / 255);
+        place.remove();
+        const [r, g, b] = parts.map((it) => (it <= 0.04045 ? it / 12.92 : ((it + 0.055) / 1.055) ** 2.4));
+        return 0.2126 * r + 0.7152 * g + 0.0722 * b;
+    };
+    return PAIRS.map(([text, paper]) => {
+        const [one, other] = [luminance(text), luminance(paper)].sort((a, b) => b - a);
+        return [text, paper, (one + 0.05) / (other + 0.05)];
+    }).filter(([, , contrast]) => contrast < 4.5);
+})()"""
+PAIRS = [["--text", "--board"], ["--text", "--card"], ["--muted", "--board"], ["--muted", "--card"], ["--muted", "--paper"], ["--text", "--lit"],
+         ["--text", "--wary"], ["--apart-text", "--apart"], ["--chip-text", "--chip"], ["--card", "--back"], ["--fault", "--panel"],
+         ["--fault", "--board"], ["--repair", "--board"], ["--repair", "--panel"], ["--text", "--cellbox"]]
+
+
+def try_sizes(page: Browser, path: pathlib.Path, query: str = "") -> None:
+    """It fits pages of all widths, in light and dark."""
+    for width in WIDTHS:
+        page.size(width, 900 if width > 1000 else 700)
+        opened(page, path, query)
+        expect(f"{path.stem}?{query}: fits {width} pixels", page.run("document.documentElement.scrollWidth <= innerWidth"), True)
+    papers = []
+    for dark in (False, True):
+        page.size(1366, 768, dark)
+        papers.append(page.run("getComputedStyle(document.body).backgroundColor"))
+        expect(f"{path.stem}?{query}: contrasts, dark {dark}", page.run(CONTRASTS.replace("PAIRS", json.dumps(PAIRS))), [])
+    expect(f"{path.stem}?{query}: dark is another colour", papers[0] != papers[1], True)
+    page.size(1366, 768)
+
+
+def try_motion(page: Browser, path: pathlib.Path) -> None:
+    """What moves in a step is seen moving, and stands still for whoever asked for that."""
+    for still in (False, True):
+        page.size(1366, 768, still=still)
+        opened(page, path)
+        page.run(click(".slide button:nth-of-type(2)"))
+        expect(f"{path.stem}: something moves, asked for less {still}", page.run("document.getAnimations().length > 0"), not still)
+        expect(f"{path.stem}: the word is seen, asked for less {still}", page.run("document.querySelectorAll('.moving .chip').length > 0"), True)
+    page.size(1366, 768)
+
+
+LETTERS = "['.instruction', '.board .name'].map((it) => parseFloat(getComputedStyle(document.querySelector(it)).fontSize))"
+
+
+def try_letters(path: pathlib.Path) -> None:
+    """The browser's own font size counts: where its letters are twice as large, they grow here too."""
+    sizes = []
+    for size in (16, 32):
+        with Browser(f"--blink-settings=defaultFontSize={size}") as page:
+            page.size(1900, 900)
+            opened(page, path)
+            sizes.append(page.run(LETTERS))
+            fits = page.run("document.documentElement.scrollWidth <= innerWidth")
+            expect(f"{path.stem}: fits with letters of {size} pixels", fits, True)
+    expect(f"{path.stem}: letters grow", [larger >= 1.4 * small for small, larger in zip(*sizes)], [True, True])
+
+
+# ---- the kiosk
+
+OVERFLOWS = "document.documentElement.scrollHeight > innerHeight || document.documentElement.scrollWidth > innerWidth"
+SMALL = f"""[...document.querySelectorAll('button')]
+    .filter((it) => getComputedStyle(it).display !== 'none' && getComputedStyle(it).visibility !== 'hidden')
+    .map((it) => [it.textContent, Math.min(it.offsetWidth, it.offsetHeight)]).filter(([, size]) => size < {LEAST_TARGET})"""
+WAYS_OUT = "document.querySelectorAll('a, iframe, form, select, textarea, input:not([type=range])').length"
+
+
+def try_screens(page: Browser, path: pathlib.Path, language: str, width: int, height: int) -> None:
+    """All five screens fit, have large targets and no way out, and say what stands in the words."""
+    page.size(width, height)
+    opened(page, path, f"kiosk={language}")
+    told = page.run(f"Words.LANGUAGES.{language}")
+    for screen in range(1, SCREENS + 1):
+        name = f"kiosk, {language}, {width} pixels, screen {screen}"
+        page.until("new Promise((done) => requestAnimationFrame(() => requestAnimationFrame(() => done(true))))")
+        expect(f"{name}: the heading and the history", [words(page, ".kiosk-text h2"), words(page, ".history")],
+               [told[f"kiosk.{screen}.title"], told["history"]])
+        expect(f"{name}: fits", page.run(OVERFLOWS), False)
+        expect(f"{name}: small targets, ways out, parts without a name", [page.run(SMALL), page.run(WAYS_OUT), page.run(UNNAMED)], [[], 0, 0])
+        if screen < SCREENS:
+            page.run(click(".next"))
+
+
+def try_story(page: Browser, path: pathlib.Path, texts: Texts) -> None:
+    """What happens on the screens is what the traces of the story say."""
+    opened(page, path, "kiosk")
+    numbers = [expected.decimal(it.exchange[2]) for it in expected.steps(texts["healthy"]["trace"]) if it.exchange[:1] == ["OUT"]][:3]
+    expect("kiosk: the numbers of the first screen", ", ".join(numbers) in words(page, ".kiosk-text"), True)
+    expect("kiosk: it begins by itself", page.until("!document.querySelector('.moment-where').textContent.startsWith('Step 0 ')"), True)
+    for screen, chapter in [(2, "one"), (3, "two"), (4, "cell")]:
+        page.run(click(".next"))
+        moments = page.run(MOMENTS.replace("#moments ", ".kiosk "))
+        told = {it.number: it for it in expected.steps(texts["story"][chapter]["trace"])}
+        steps = list(told.values())
+        wanted = [expected.lamps(steps, told[it["step"]].number) for it in moments if it["step"] in told]
+        expect(f"kiosk: lamps of screen {screen}", [it["lamps"] for it in moments if it["step"] in told], wanted)
+        faults = expected.faults(texts["story"][chapter]["deck"])
+        shown = next(it for it in moments if it["step"] == texts["story"][chapter]["step"])
+        expect(f"kiosk: faults that screen {screen} doesn't show", [it for it in faults if not is_shown(it, shown)], [])
+        if chapter == "two":
+            page.run(click(".kiosk-text .large"))
+            first = expected.first_wrong(texts["healthy"]["trace"], texts["story"]["two"]["through"])
+            expect("kiosk: the first wrong result", words(page, ".first-wrong-row td:first-child"), str(first))
+
+
+def try_visitor(page: Browser, path: pathlib.Path) -> None:
+    """A visitor's own turn, the languages, and what happens when the visitor has gone."""
+    opened(page, path, "kiosk")
+    for _ in range(SCREENS - 1):
+        page.run(click(".next"))
+    page.run(press(3, 1))
+    one = page.run("document.querySelector('.kiosk-text .sentence').dataset.verdict")
+    page.run(press(3, 2))
+    two = page.run("document.querySelector('.kiosk-text .sentence').dataset.verdict")
+    expect("kiosk: one copy and then two of a module", [one, two], ["ADMISSIBLE", "LOGIC"])
+    page.run(click(".kiosk-head button:nth-of-type(2)"))
+    expect("kiosk: the other language", page.run("document.documentElement.lang"), "de")
+    menu = "document.body.dispatchEvent(new MouseEvent('contextmenu', { bubbles: true, cancelable: true }))"
+    keys = "document.body.dispatchEvent(new KeyboardEvent('keydown', { key: 'p', ctrlKey: true, bubbles: true, cancelable: true }))"
+    expect("kiosk: a menu and a key that lead away", [page.run(menu), page.run(keys)], [False, False])
+    expect("kiosk: faults of the page", page.faults() + page.strangers(), [])
+
+
+def try_idle(page: Browser, path: pathlib.Path) -> None:
+    """Where nobody touches anything for a while it begins anew, in its first language."""
+    opened(page, path, "kiosk&idle=1")
+    page.run(click(".kiosk-head button:nth-of-type(2)"))
+    page.run(click(".next"))
+    changed = page.run("document.querySelector('.kiosk').dataset.screen + document.documentElement.lang")
+    begun = "document.querySelector('.kiosk').dataset.screen === '1' && document.documentElement.lang === 'en'"
+    expect("kiosk: it begins anew", [changed, page.until(begun, 5)], ["2de", True])
+
+
+def try_kiosk(page: Browser, path: pathlib.Path, texts: Texts) -> None:
+    """The kiosk."""
+    for language, width, height in [("en", 1920, 1080), ("de", 1920, 1080), ("en", 1366, 768), ("de", 1366, 768)]:
+        try_screens(page, path, language, width, height)
+    try_story(page, path, texts)
+    try_visitor(page, path)
+    try_idle(page, path)
+    try_sizes(page, path, "kiosk")
+
+
+# ---- wrong words
+
+def try_refusals(worker: str) -> None:
+    """Wrong input is told on standard error, with status 1 and nothing on standard output."""
+    for deck, message in [("refused-deck.deck", "BadLine at line 6"), ("nothing.deck", "No such file"), (".", "directory"), ("scripts.rows", "")]:
+        done = subprocess.run([TOOL, EXAMPLES / deck], env={**os.environ, "LVDC_WORKER": worker}, capture_output=True, text=True, check=False)
+        told = [done.returncode, done.stdout, message in done.stderr and "Traceback" not in done.stderr and done.stderr.startswith("view/exhibit: ")]
+        expect(f"view/exhibit {deck}", told, [1, "", True])
+
+
+def try_all(page: Browser, worker: str, folder: pathlib.Path) -> None:
+    """All exhibits of the examples, and what a visitor does with two of them."""
+    decks = [*WITH_ANSWERS, *(it for it in sorted(EXAMPLES.glob("*.deck")) if can_run(it) and it not in WITH_ANSWERS)]
+    with concurrent.futures.ThreadPoolExecutor(max_workers=4) as pool:
+        paths = list(pool.map(lambda deck: made(deck, worker, folder), decks))
+    page.size(1366, 768)
+    texts = [try_exhibit(page, it) for it in paths]
+    kiosk = paths[0]
+    try_panel(page, paths[1])
+    try_answers(page, worker, kiosk, texts[0])
+    try_spelling(page, worker)
+    try_languages(page)
+    try_sizes(page, paths[1])
+    try_motion(page, kiosk)
+    try_letters(kiosk)
+    try_kiosk(page, kiosk, texts[0])
+    try_refusals(worker)

@@ -1,0 +1,135 @@
+'use strict';
+
+/** Where everything stands in the drawing of the machine, in pixels. Wide drawings have all seven modules above the bus; narrow ones have four
+ * above it, three and the ports below. All sizes go by the size of the letters. */
+const Geometry = (() => {
+    const LEAST_EMS_OF_WIDE = 54;
+    const WIDE = { rows: [[1, 2, 3, 4, 5, 6, 7]], gap: 0.7, card: 10.4, edge: 0.5, least: 22 };
+    const NARROW = { rows: [[1, 2, 3, 4], [5, 6, 7, 'ports']], gap: 0.35, card: 9.6, edge: 0.8, least: 35 };
+    const TITLE = 1.9;
+    const MOST_CELL = 5;
+    const LEAST_CELL = 0.7;
+
+    const box = (x, y, width, height) => ({ x, y, width, height, middle: x + width / 2, bottom: y + height });
+
+    /** Boxes side by side that fill a width. */
+    function columns(count, x, y, width, height, gap) {
+        const each = (width - gap * (count - 1)) / count;
+        return Array.from({ length: count }, (_, at) => box(x + at * (each + gap), y, each, height));
+    }
+
+    /** What stands in the box of a module: three lamps in a row, the voter under them, and what it holds. `down` is whether the bus is below. */
+    function moduleIn(place, em, down) {
+        const radius = Math.min(1.55 * em, place.width / 7.6);
+        const lampY = place.y + 2.4 * em + radius + 0.15 * em;
+        const lamps = Parts.COPIES.map((copy) => ({ x: place.middle + (copy - 2) * 2.45 * radius, y: lampY, radius }));
+        const valueY = place.bottom - 0.9 * em;
+        const voter = { x: place.middle, y: (lampY + radius + valueY - 0.9 * em) / 2 + 0.1 * em };
+        return { ...place, name: place.y + 1.5 * em, lamps, voter, value: valueY, gate: { x: place.middle, y: down ? place.bottom : place.y } };
+    }
+
+    /** The size of cells with which so many fill a box best, and how many stand in a row. */
+    function gridIn(count, width, height, em) {
+        for (let size = MOST_CELL * em; size > LEAST_CELL * em; size -= 1) {
+            const across = Math.floor(width / size);
+            if (across > 0 && across * Math.floor(height / size) >= count) return { size, across };
+        }
+        const size = LEAST_CELL * em;
+        return { size, across: Math.max(1, Math.floor(width / size)) };
+    }
+
+    /** How many cells a box has room for. */
+    const roomIn = (width, height, em) => Math.floor(width / (LEAST_CELL * em)) * Math.floor(height / (LEAST_CELL * em));
+
+    /** A memory: its title, and a cell for each place as far as there is room. */
+    function memoryIn(place, em, count, gate) {
+        const [width, height] = [place.width - em, place.height - (TITLE + 1.4) * em];
+        const shown = Math.min(count, roomIn(width, height, em));
+        const { size, across } = gridIn(shown, width, height, em);
+        const left = place.middle - Math.min(across, Math.max(1, shown)) * size / 2;
+        const high = Math.ceil(shown / across) * size;
+        const top = place.y + TITLE * em + (height - high) / 2;
+        const cells = Array.from({ length: shown }, (_, at) => ({
+            x: left + (at % across + 0.5) * size, y: top + (Math.floor(at / across) + 0.5) * size, size,
+        }));
+        return { ...place, name: place.y + 1.3 * em, cells, gate, under: Math.min(top + high + 0.8 * em, place.bottom - 0.9 * em) };
+    }
+
+    const portsIn = (place, em, down) => ({ ...place, name: place.y + 1.5 * em, gate: { x: place.middle, y: down ? place.bottom : place.y } });
+
+    /** The rows of modules, and the bus after the first. */
+    function rowsOf(form, width, card, em) {
+        const inner = width - 2 * form.edge * em;
+        const bus = card + 1.5 * em;
+        const tops = [0.15 * em, bus + 1.3 * em];
+        const boxes = form.rows.flatMap((row, at) => columns(row.length, form.edge * em, tops[at], inner, card, form.gap * em)
+            .map((place, column) => [row[column], place, at === 0]));
+        return { boxes, bus: { y: bus, first: 0.3 * em, last: width - 0.3 * em }, bottom: form.rows.length === 1 ? bus : tops[1] + card };
+    }
+
+    /** The memories under the bus, in wide drawings with the ports beside them. */
+    function lowerOf(form, width, height, bottom, em) {
+        const wide = form === WIDE;
+        const [top, inner] = [bottom + (wide ? 1.4 : 1) * em, width - 2 * form.edge * em];
+        if (!wide) return columns(2, form.edge * em, top, inner, height - top - 0.2 * em, 0.7 * em);
+        const ports = Math.max(13 * em, 0.18 * inner);
+        const memories = columns(2, form.edge * em, top, inner - ports - form.gap * em, height - top - 0.2 * em, form.gap * em);
+        return [...memories, box(width - form.edge * em - ports, top, ports, height - top - 0.2 * em)];
+    }
+
+    /** Where a memory is joined to the bus: from above, or in narrow drawings along the edge. */
+    function gateOf(form, place, twin, width, em) {
+        if (form === WIDE) return { x: place.middle, y: place.y };
+        return { x: twin === 0 ? 0.3 * em : width - 0.3 * em, y: place.y + 1.2 * em };
+    }
+
+    /** All places of a drawing of this width and height, for letters of this size and so many cells. It may come out higher. */
+    function of(width, height, em, count) {
+        const form = width >= LEAST_EMS_OF_WIDE * em ? WIDE : NARROW;
+        const high = Math.max(height, form.least * em);
+        const card = form === WIDE ? Math.max(form.card * em, 0.4 * high) : Math.max(form.card * em, 0.26 * high);
+        const { boxes, bus, bottom } = rowsOf(form, width, card, em);
+        const modules = new Map(boxes.filter(([name]) => name !== 'ports').map(([name, place, down]) => [name, moduleIn(place, em, down)]));
+        const lower = lowerOf(form, width, high, bottom, em);
+        const ports = form === WIDE ? portsIn(lower[2], em, false) : portsIn(boxes.find(([name]) => name === 'ports')[1], em, false);
+        const memories = Parts.TWINS.map((twin) => memoryIn(lower[twin], em, count, gateOf(form, lower[twin], twin, width, em)));
+        return { width, height: high, least: form.least * em, em, wide: form === WIDE, modules, bus, memories, ports };
+    }
+
+    // ---- ways of words
+
+    const onBus = (places, gate) => ({ x: gate.x, y: places.bus.y });
+
+    /** The points from a cell to its memory's way out, straight up, or first to the edge. */
+    function fromCell(places, twin, index) {
+        const memory = places.memories[twin];
+        const cell = memory.cells[index];
+        if (!cell) return [memory.gate];
+        const edge = { x: cell.x, y: cell.y - 0.43 * cell.size };
+        return places.wide ? [edge, { x: cell.x, y: memory.y }] : [edge, { x: cell.x, y: memory.gate.y }, memory.gate];
+    }
+
+    const ENDS = {
+        cell: (places, it) => fromCell(places, it.twin, it.index),
+        module: (places, it) => [places.modules.get(it.module).gate],
+        ports: (places) => [places.ports.gate],
+    };
+
+    /** The way of a word over the bus, from one end to another: a cell, a module or the ports. */
+    function way(places, from, to) {
+        const out = ENDS[from.at](places, from);
+        const back = ENDS[to.at](places, to);
+        return [...out, onBus(places, out.at(-1)), onBus(places, back.at(-1)), ...back.reverse()];
+    }
+
+    /** The way of a word from a cell to that of the other twin, below the other cells. */
+    function across(places, index, twin) {
+        const [from, to] = [places.memories[1 - twin].cells[index], places.memories[twin].cells[index]];
+        if (!from || !to) return [];
+        const y = places.memories[twin].under;
+        const edge = (cell) => ({ x: cell.x, y: cell.y + 0.43 * cell.size });
+        return [edge(from), { x: from.x, y }, { x: to.x, y }, edge(to)];
+    }
+
+    return { of, way, across };
+})();

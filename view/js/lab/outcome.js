@@ -1,0 +1,55 @@
+'use strict';
+
+/** What a run came to, from two texts: its report, and whether its script masks by form. Nothing is judged here. */
+const LabOutcome = (() => {
+    const FORM = /^FORM (?:YES|NO ([1-4]))\s*$/;
+    const BY_END = { done: 'withstood', stopped: 'withstood', logic: 'logic', memory: 'memory', device: 'device' };
+
+    /** The condition of the form that isn't met, 0 where all are, or none where the text isn't of the form. */
+    function unmetOf(text) {
+        const match = FORM.exec(text);
+        return match ? Number(match[1] ?? 0) : null;
+    }
+
+    /** Of a run that was withstood: for good by its form, this time, or so far, since a word is lost that nobody has read. */
+    function degree(report, unmet) {
+        if (report.memory.some((it) => it.lost)) return 'so-far';
+        return unmet === 0 ? 'always' : 'this-time';
+    }
+
+    /** The report that an answer is, read once. */
+    function reportOf(answer) {
+        answer.report ??= Report.read(answer.text);
+        return answer.report;
+    }
+
+    /** The kind of an outcome, with the texts' objects that say more. */
+    function of(run, form, hurts) {
+        if (run.text.startsWith('REFUSED ')) return { kind: 'refused', refusal: Report.refusal(run.text) };
+        const report = reportOf(run);
+        const unmet = unmetOf(form.text);
+        const kind = BY_END[report.end?.kind] ?? 'unknown';
+        if (kind !== 'withstood') return { kind, report, unmet };
+        return { kind: hurts === 0 ? 'healthy' : degree(report, unmet), report, unmet };
+    }
+
+    /** Where two runs part, by their reports: how each ended, the first port line that differs or -1, the registers and the words that differ. */
+    function parting(healthy, other) {
+        const at = healthy.log.findIndex((it, index) => !isSame(it, other.log[index]));
+        return {
+            ends: [healthy.end?.line, other.end?.line],
+            first: at < 0 && other.log.length > healthy.log.length ? healthy.log.length : at,
+            registers: differing(healthy.registers, other.registers),
+            words: differing(wordsOf(healthy), wordsOf(other)),
+        };
+    }
+
+    const isSame = (one, two) => two !== undefined && ['reading', 'time', 'port', 'word'].every((it) => one[it] === two[it]);
+
+    const wordsOf = (report) => new Map(report.memory.map((it) => [it.address, it.word]));
+
+    /** The keys under which two lists have other values. */
+    const differing = (one, two) => [...new Set([...one.keys(), ...two.keys()])].filter((it) => one.get(it) !== two.get(it));
+
+    return { of, reportOf, parting };
+})();

@@ -1,0 +1,36 @@
+'use strict';
+
+/** What a visitor has done so far. It is a deck: a program, its count, and the fault lines of each act. All of it is kept here, nothing in the server. */
+class LabSession {
+    constructor(deck) {
+        Object.assign(this, { deck, count: deck.count, acts: deck.faults.map((it) => [it]) });
+    }
+
+    /** A session that begins with the text of a deck; none where it is no deck. Each fault line that it has is an act. */
+    static of(text) {
+        const deck = LabDeck.read(text);
+        return deck ? new LabSession(deck) : null;
+    }
+
+    /** The fault lines of all acts. */
+    get faults() { return this.acts.flat(); }
+
+    /** The deck as a text. */
+    get text() { return LabDeck.text(this.deck, this.faults, this.count); }
+
+    /** The same deck before anything was hurt. */
+    get healthyText() { return LabDeck.text(this.deck, [], this.count); }
+
+    /** One more than the last step that is asked for. */
+    get steps() { return Parts.firstStepOf(this.count); }
+
+    hurt(lines) { this.acts = [...this.acts, lines]; }
+
+    undo() { this.acts = this.acts.slice(0, -1); }
+
+    mend(index) { this.acts = this.acts.filter((_, at) => at !== index); }
+
+    startAgain() { this.acts = []; }
+
+    take(count) { this.count = count; }
+}

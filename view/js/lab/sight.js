@@ -1,0 +1,114 @@
+'use strict';
+
+/** What the lab's page shows: the drawing of the machine, its time, what it came to and what was broken. It is told what to show, and asks nothing. */
+class LabSight {
+    constructor(language) {
+        Object.assign(this, { words: Words.of(language), octal: false, drawing: null });
+        const { html } = Element;
+        const button = ([key, it]) => html('button', { type: 'button', lang: key }, it.language);
+        LabSight.place('languages').replaceChildren(...Object.entries(Words.LANGUAGES).map(button));
+    }
+
+    /** The element with this name. */
+    static place(id) { return document.getElementById(id); }
+
+    /** A new drawing, for the places of a program; `hurt` is told which lamp or cell was pressed. */
+    build(places, simplex, hurt) {
+        this.drawing = new Board.Drawing({ words: this.words, places, simplex, octal: this.octal });
+        for (const kind of ['lamp', 'cell']) this.drawing.element.addEventListener(kind, ({ detail }) => hurt(kind, detail));
+        LabSight.place('board').replaceChildren(this.drawing.element);
+    }
+
+    /** The word that was read or stored last at a place, if that is known. */
+    wordAt(place) { return this.drawing.moment.known?.get(place)?.word; }
+
+    programs(names) {
+        LabSight.place('program').replaceChildren(...names.map((it, at) => Element.html('option', { value: at }, it.replaceAll('-', ' '))));
+    }
+
+    busy(asks) { document.body.setAttribute('aria-busy', String(asks)); }
+
+    // ---- the machine
+
+    /** Shows a moment, with the faults that a visitor made and that act in it. */
+    moment(moment, faults, last, moving) {
+        const { place } = LabSight;
+        const acting = faults.filter((it) => Faults.actsIn(it, moment.step, moment.step));
+        const copies = acting.filter((it) => it.module).map((it) => Trace.keyOf(it.module, it.copy));
+        const cells = acting.filter((it) => it.place).map((it) => `${it.twin} ${it.place}`);
+        this.drawing.show(moment, moving, { copies, cells, module: moment.end?.module ?? null });
+        place('instruction').replaceChildren(...LabView.instruction(moment.instruction, this.words));
+        place('where').textContent = [Saying.where(moment, last, this.words), ...(moment.made ? [] : [this.words('lab.not-made')])].join('. ');
+        place('happens').replaceChildren(...Saying.of(moment, this.words).map((it) => Element.html('li', {}, it)));
+    }
+
+    /** Where the slider stands, with a mark at each fault and at the end of the run. */
+    time(step, last, faults, end) {
+        const slider = LabSight.place('slider');
+        slider.max = String(last);
+        slider.value = String(step);
+        slider.setAttribute('aria-valuetext', `${this.words('control.time')} ${step}`);
+        LabSight.place('marks').replaceChildren(...LabView.marks(faults, end?.step ?? null, last));
+    }
+
+    playing(plays) { LabSight.place('play').textContent = this.words(plays ? 'control.pause' : 'control.play'); }
+
+    // ---- what was broken, and what it came to
+
+    session(session, mend) {
+        const { place } = LabSight;
+        place('acts').replaceChildren(...LabView.acts(session.acts, this.words, mend));
+        place('undo').disabled = session.acts.length === 0;
+        place('deck').value = session.text;
+        place('count').value = String(session.count);
+    }
+
+    /** What the run came to, with a button where one may see what would have happened. */
+    outcome(outcome, lines, seeWhatIf) {
+        const acts = seeWhatIf ? [Element.button(this.words('mode.through'), '', seeWhatIf)] : [];
+        this.box(outcome.kind, false).replaceChildren(...LabView.outcome(outcome.kind, LabTelling.outcome(outcome, lines, this.words), ...acts));
+        LabSight.place('report').textContent = (outcome.texts ?? []).join('\n');
+    }
+
+    /** What would have happened, beside a healthy machine. */
+    whatIf(kind, healthy, other, goBack) {
+        const { words, octal } = this;
+        const beside = LabView.beside(healthy, other, LabOutcome.parting(healthy, other), octal, words);
+        const back = Element.html('p', { class: 'buttons' }, Element.button(words('lab.judge'), '', goBack));
+        const told = [Element.html('p', { class: 'sentence' }, words('lab.through.title')), Element.html('p', {}, words('lab.through.text'))];
+        this.box(kind, true).replaceChildren(...told, ...beside, back);
+    }
+
+    box(kind, through) {
+        const box = LabSight.place('outcome');
+        box.dataset.kind = kind;
+        box.classList.toggle('through', through);
+        return box;
+    }
+
+    // ---- words
+
+    speak(language) {
+        this.words = Words.of(language);
+        this.translate();
+        this.drawing?.speak(this.words);
+    }
+
+    translate() {
+        const { words } = this;
+        document.documentElement.lang = words.language;
+        document.title = words('mode.break');
+        for (const it of document.querySelectorAll('[data-say]')) it.textContent = words(it.dataset.say, it.dataset);
+        for (const it of document.querySelectorAll('[data-name]')) {
+            it.setAttribute('aria-label', words(it.dataset.name));
+            it.title = words(it.dataset.name);
+        }
+        for (const it of LabSight.place('languages').children) it.setAttribute('aria-pressed', String(it.lang === words.language));
+    }
+
+    useOctal(octal) {
+        this.octal = octal;
+        LabSight.place('octal').setAttribute('aria-pressed', String(octal));
+        this.drawing?.useOctal(octal);
+    }
+}

@@ -1,0 +1,65 @@
+'use strict';
+
+/** Says in a visitor's words what happens in a moment. All numbers are those of the trace. */
+const Saying = (() => {
+    /** What is moved in the step, or by its phase that nothing is. */
+    function exchange(moment, words) {
+        const { exchange: it } = moment;
+        if (!it) return words(`happens.${Parts.phaseOf(moment.step)}`);
+        const single = it.kind === 'STORE' && moment.stored === 1;
+        const values = { text: moment.instruction?.text, number: Latches.decimal(it.word), port: it.port };
+        return words(`happens.${it.kind}${single ? '.one' : ''}`, values);
+    }
+
+    /** Whether two copies of a module are wrong at once, so that the good one may be outvoted. */
+    const isTwice = (moment, module) => [...moment.wrong].filter((it) => it.startsWith(`${module}-`)).length > 1;
+
+    /** Which sentence tells of a copy. */
+    function sentenceOf(moment, key, kind) {
+        if (!moment.made) return 'unmade';
+        const isGood = kind === 'differed' && !moment.wrong.has(key) && isTwice(moment, key[0]);
+        return isGood ? 'good' : kind;
+    }
+
+    /** What became of the copies that are not well. */
+    function copies(moment, words) {
+        const found = [...moment.lamps].filter(([, kind]) => kind !== 'well');
+        return found.map(([key, kind]) => {
+            const [module, copy] = key.split('-');
+            return words(`happens.${sentenceOf(moment, key, kind)}`, { copy, module: words(`module.${module}`) });
+        });
+    }
+
+    /** The faults on memory that begin in the step. */
+    function harms(moment, words) {
+        return moment.faults.filter((it) => it.twin !== null && it.first === moment.step)
+            .map((it) => words(`happens.${it.kind}`, { twin: it.twin, place: it.place, pair: it.pair }));
+    }
+
+    function repairs({ repair }, words) {
+        return repair ? [words('happens.repair', { twin: repair.twin, other: 1 - repair.twin, place: repair.address })] : [];
+    }
+
+    /** The sentences of a moment: the harm before it, its exchange, its repair, its copies. */
+    function of(moment, words) {
+        const moved = moment.made ? [exchange(moment, words), ...repairs(moment, words)] : [];
+        return [...harms(moment, words), ...moved, ...copies(moment, words)];
+    }
+
+    /** Where the moment stands. */
+    function where(moment, last, words) {
+        const step = words('moment.step', { step: moment.step, last });
+        const phase = words('moment.phase', { phase: Parts.phaseOf(moment.step), time: Parts.timeOf(moment.step) });
+        return `${step}: ${phase}`;
+    }
+
+    /** How a run ended that can't be relied on, with the copies that are wrong. */
+    function inadmissible(moment, words) {
+        const { end } = moment;
+        if (end.kind === 'memory') return words('end.word', { step: end.step, place: end.address });
+        const copies = [...moment.wrong].filter((it) => it.startsWith(`${end.module}-`)).map((it) => it.slice(2)).sort();
+        return words('end.two', { modules: words(`two.${end.module}`), step: end.step, copies: copies.join(' & ') });
+    }
+
+    return { of, where, inadmissible };
+})();

@@ -1,0 +1,43 @@
+"""What the lab's server sends besides answers: its page and the examples. All of it is read when it starts, and nothing afterwards, so a
+path is only ever looked up in a table."""
+import json
+import pathlib
+from collections.abc import Iterable
+from dataclasses import dataclass
+
+HERE = pathlib.Path(__file__).resolve().parent
+EXAMPLES = HERE.parent / "examples"
+TYPES = {".html": "text/html", ".css": "text/css", ".js": "text/javascript", ".json": "application/json", ".svg": "image/svg+xml"}
+PAGE, PROGRAMS = "lab.html", "programs.json"
+
+
+@dataclass(frozen=True, slots=True)
+class File:
+    """A file as it is sent."""
+
+    type: str
+    content: bytes
+
+
+def file_of(path: str, content: bytes) -> File:
+    """A file of the type that its name says."""
+    return File(f"{TYPES[pathlib.PurePath(path).suffix]}; charset=utf-8", content)
+
+
+def page_files() -> dict[str, File]:
+    """The page, its style and its scripts, each by its path."""
+    found = [HERE / PAGE, *HERE.glob("*.css"), *HERE.glob("js/**/*.js")]
+    files = {it.relative_to(HERE).as_posix(): file_of(it.name, it.read_bytes()) for it in found}
+    files[""] = files[PAGE]
+    return files
+
+
+def example_decks() -> list[pathlib.Path]:
+    """The decks of the examples, those first that have no faults of their own, since their names tell of the program."""
+    found = sorted([*EXAMPLES.glob("programs/*.deck"), *EXAMPLES.glob("*.deck")], key=lambda it: it.name)
+    return sorted(found, key=lambda it: b"\nFAULTS" in it.read_bytes())
+
+
+def programs_file(decks: Iterable[tuple[str, str]]) -> File:
+    """The list of programs, each with its name and its deck."""
+    return file_of(PROGRAMS, json.dumps([{"name": name, "deck": deck} for name, deck in decks]).encode())

@@ -1,0 +1,35 @@
+"""What the lab's page may ask: a few requests of lvdc-worker, each over the deck that comes with it. Nothing is kept between them."""
+import re
+
+from lab_gate import Refusal
+from lvdc.pools import Pool
+from lvdc.workers import Reply, TimeLimit, WorkerFailed
+
+MOST_SECONDS = 2.0
+MOST_STEPS = 6000
+MOST_ANSWER = 8_388_608
+WHOLE = [["run"], ["run", "--through"], ["form"], ["asm"]]
+STATE = re.compile("save/(?:0|[1-9][0-9]{0,6})")
+WINDOW = re.compile("trace/(?:--through/)?(?:0|[1-9][0-9]{0,6})/([1-9][0-9]{0,3})")
+
+
+def words_of(path: str) -> list[str]:
+    """The words of a request, which stand in its path parted by slashes. Raises Refusal."""
+    words = path.split("/")
+    window = WINDOW.fullmatch(path)
+    if words in WHOLE or STATE.fullmatch(path) or (window is not None and int(window[1]) <= MOST_STEPS):
+        return words
+    raise Refusal(404, f"This can't be asked. A window of a trace has at most {MOST_STEPS} steps.")
+
+
+def asked(pool: Pool, words: list[str], deck: bytes) -> Reply:
+    """What the worker answers, within the limits of time and length. Raises Refusal."""
+    try:
+        reply = pool.ask(words, deck)
+    except TimeLimit as late:
+        raise Refusal(504, f"The answer took more than {MOST_SECONDS:.0f} seconds. Take fewer instruction times.") from late
+    except WorkerFailed as failed:
+        raise Refusal(502, "The worker has ended while it was asked.") from failed
+    if len(reply.text) > MOST_ANSWER:
+        raise Refusal(507, f"The answer has more than {MOST_ANSWER} bytes. Take fewer instruction times.")
+    return reply
