@@ -88,6 +88,8 @@ def test_quit_leaves(start: Start) -> None:
 def test_an_interrupt_ends_a_long_continue(start: Start, tmp_path: Path) -> None:
     session = start(str(long_deck(tmp_path)))
     typed(session, "step 3")
+    # a word that never changes is looked for in all pieces of the trace, which takes many seconds
+    typed(session, "watch 0 17 100")
     session.sendline("continue")
     with pytest.raises(Exception, match="Timeout|TIMEOUT"):
         session.expect_exact(PROMPT, timeout=0.5)
