@@ -2,6 +2,7 @@
 import io
 import os
 import re
+import signal
 import sys
 from collections.abc import Sequence
 from pathlib import Path
@@ -126,6 +127,8 @@ def debug_file(path: Path, options: Options, asker: Asker) -> int:
 def main() -> None:
     """The command."""
     words = sys.argv[1:]
+    # a shell that starts it in the background has it ignore interrupts
+    signal.signal(signal.SIGINT, signal.default_int_handler)
     for stream in (sys.stdin, sys.stdout, sys.stderr):
         if isinstance(stream, io.TextIOWrapper):
             stream.reconfigure(errors=ERRORS)
