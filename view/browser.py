@@ -139,10 +139,10 @@ class Browser:
             time.sleep(0.02)
         return holds
 
-    def key(self, name: str, code: int = 0) -> None:
-        """Presses a key."""
-        for kind in ("rawKeyDown", "keyUp"):
-            self.call("Input.dispatchKeyEvent", type=kind, key=name, code=name, windowsVirtualKeyCode=code)
+    def key(self, name: str, code: int = 0, text: str = "") -> None:
+        """Presses a key; one that writes a character does so by its text, as Enter presses a button."""
+        for kind in ("keyDown" if text else "rawKeyDown", "keyUp"):
+            self.call("Input.dispatchKeyEvent", type=kind, key=name, code=name, windowsVirtualKeyCode=code, text=text if kind == "keyDown" else "")
 
     def faults(self) -> list[str]:
         """What the page has thrown since it was opened."""

@@ -428,12 +428,44 @@ def try_idle(page: Browser, path: pathlib.Path) -> None:
     expect("kiosk: it begins anew", [changed, page.until(begun, 5)], ["2de", True])
 
 
+MOST_TABS = 60
+
+
+def tab_to(page: Browser, query: str) -> bool:
+    """Goes on by Tab until an element has the focus, and tells whether it came to have it."""
+    here = f"document.activeElement?.matches({json.dumps(query)}) ?? false"
+    for _ in range(MOST_TABS):
+        page.key("Tab", 9)
+        if page.run(here):
+            return True
+    return False
+
+
+def try_walk(page: Browser, path: pathlib.Path) -> None:
+    """All five screens by Tab and Enter alone, down to two faults of a visitor's own."""
+    opened(page, path, "kiosk")
+    for screen in range(1, SCREENS):
+        reached = tab_to(page, ".next")
+        page.key("Enter", 13, "\r")
+        there = page.until(f"document.querySelector('.kiosk').dataset.screen === '{screen + 1}'", 2)
+        expect(f"kiosk by keys: on from screen {screen}", [reached, there], [True, True])
+    verdict = "document.querySelector('.kiosk-text .sentence')?.dataset.verdict"
+    verdicts = []
+    reached = tab_to(page, ".light[data-module='3']")
+    for key in ("Enter", "ArrowRight", "Enter"):
+        page.key(key, 13 if key == "Enter" else 39, "\r" if key == "Enter" else "")
+        verdicts.append(page.run(verdict))
+    expect("kiosk by keys: one copy and then two of a module", [reached, verdicts[0], verdicts[2]], [True, "ADMISSIBLE", "LOGIC"])
+    expect("kiosk by keys: faults of the page", page.faults() + page.strangers(), [])
+
+
 def try_kiosk(page: Browser, path: pathlib.Path, texts: Texts) -> None:
     """The kiosk."""
     for language, width, height in [("en", 1920, 1080), ("de", 1920, 1080), ("en", 1366, 768), ("de", 1366, 768)]:
         try_screens(page, path, language, width, height)
     try_story(page, path, texts)
     try_visitor(page, path)
+    try_walk(page, path)
     try_idle(page, path)
     try_sizes(page, path, "kiosk")
 

@@ -315,8 +315,7 @@ def try_keys(page: Visitor, tally: Tally) -> None:
     page.wait()
     tally.expect("keys: a step on", page.says()["step"], STEP + 1)
     page.run("document.getElementById('undo').focus()")
-    page.call("Input.dispatchKeyEvent", type="keyDown", key="Enter", code="Enter", windowsVirtualKeyCode=13, text="\r")
-    page.call("Input.dispatchKeyEvent", type="keyUp", key="Enter", code="Enter", windowsVirtualKeyCode=13)
+    page.key("Enter", 13, "\r")
     page.wait()
     tally.expect("keys: undo", len(page.says()["acts"]), 1)
     controls = "[...document.querySelectorAll('button, select, input, textarea')]"
