@@ -10,7 +10,8 @@ use Rattle.lvdc_fault.specs.Events.{IsEvent}
 use Rattle.lvdc_model.specs.Judging.{first_bad}
 use Rattle.lvdc_model.specs.Runs.{through}
 use Rattle.lvdc_model.specs.Trial.{Trial, plain_at}
-use Rattle.lvdc_campaign.specs.declared.TheConstants.{MOST_TIMES, MOST_EVENTS}
+use Rattle.lvdc_fault.specs.declared.TheConstants.{MOST_EVENTS}
+use Rattle.lvdc_campaign.specs.declared.TheConstants.{MOST_TIMES}
 use Rattle.lvdc_campaign.specs.declared.program.Program.{Program}
 use Rattle.lvdc_campaign.specs.declared.row.Row.{Row}
 use Rattle.lvdc_campaign.specs.Same.{is_same_state}

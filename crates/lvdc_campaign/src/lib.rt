@@ -22,6 +22,3 @@ pub const MOST_TIMES: u64 = 10_000;
 
 /// The most scripts of a campaign (this project's profile).
 pub const MOST_SCRIPTS: usize = 256;
-
-/// The most events of a script (this project's profile).
-pub const MOST_EVENTS: usize = 65_536;

@@ -4,7 +4,8 @@ ghost use Rattle.std.specs.Prelude.{◌≡◌, ◌≤◌, length, true, IfOk, Al
 ghost use Rattle.lvdc_map.specs.Memory.{are_rising, AllThere};
 ghost use Rattle.lvdc_fault.specs.declared.verdict.Verdict.TheVariants as verdicts;
 ghost use Rattle.lvdc_fault.specs.Events.{IsEvent};
-ghost use Rattle.lvdc_campaign.specs.declared.TheConstants.{MOST_TIMES, MOST_SCRIPTS, MOST_EVENTS};
+ghost use Rattle.lvdc_fault.specs.declared.TheConstants.{MOST_EVENTS};
+ghost use Rattle.lvdc_campaign.specs.declared.TheConstants.{MOST_TIMES, MOST_SCRIPTS};
 ghost use Rattle.lvdc_campaign.specs.Campaign.{program_of, opening_of, trial_under, is_same, row_of, rows_of, IsProgram, IsScript};
 ghost use Rattle.lvdc_campaign.specs.Ran.{HasRunPlainly};
 

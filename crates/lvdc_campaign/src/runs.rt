@@ -6,7 +6,7 @@ ghost use Rattle.lvdc_model.specs.Judging.{first_bad};
 ghost use Rattle.lvdc_model.specs.Trial.{Trial};
 ghost use Rattle.lvdc_fault.specs.Events.{IsEvent};
 ghost use Rattle.lvdc_machine.specs.declared.mode.Mode.TheVariants.{Guarded};
-ghost use Rattle.lvdc_campaign.specs.declared.TheConstants.{MOST_EVENTS};
+ghost use Rattle.lvdc_fault.specs.declared.TheConstants.{MOST_EVENTS};
 ghost use Rattle.lvdc_campaign.specs.Campaign.{opening_of, trial_under, IsProgram};
 ghost use Rattle.lvdc_campaign.specs.Ran.{HasRun, HasRunPlainly, verdict_in};
 

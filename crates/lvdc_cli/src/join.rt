@@ -68,10 +68,10 @@ pub fn reply(
     // inadmissible step is named after that same run so far. The status says which it was.
     ensures headline { IfOk result (IsHeadlineOf device_of command bytes.now devices.old.items devices.new.items) }
 
-    // 5: exactly where the command judges the script, and finds a step that isn't admissible.
+    // 5: where no device fails exactly where the command judges the script, and finds a step that isn't admissible.
     ensures inadmissible { IfOk result (ReplyHasCause Judges IsInadmissible 5 command bytes.now (map device_of devices.old.items)) }
 
-    // 6: exactly where the command's run stops, which for a command that judges is one without such a step.
+    // 6: where no device fails exactly where the command's run stops, which for a command that judges is one without such a step.
     ensures stopped { IfOk result (ReplyHasCause Stops IsStop 6 command bytes.now (map device_of devices.old.items)) }
 
     // A refusal leaves the devices: they are the same objects as before. No count grows but where a device fails.

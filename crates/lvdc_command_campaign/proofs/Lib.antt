@@ -1,4 +1,3 @@
-mod Counts
 mod Runnable
 pub mod Admitted
 mod Rows

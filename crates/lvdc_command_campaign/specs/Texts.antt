@@ -1,5 +1,5 @@
 -- The text of a campaign: a line for each row, and a line of their total.
-use Rattle.std.specs.Prelude.{ℕ, ◌+◌, Bool, true, false, List, [], ◌∷◌, ◌++◌, codes, decimal, length}
+use Rattle.std.specs.Prelude.{ℕ, Bool, true, false, List, ◌++◌, codes, decimal, length, filter}
 use Rattle.lvdc_fault.specs.declared.verdict.Verdict.{Verdict}
 use Rattle.lvdc_fault.specs.declared.verdict.Verdict.TheVariants.{Admissible, Logic, Memory}
 use Rattle.lvdc_image.specs.Image.{spot_text}
@@ -21,32 +21,20 @@ outcome_text false = codes " DIFFERS\n"
 abbrev pub row_line : Row → List ℕ
 row_line row = codes "SCRIPT " ++ row.name ++ codes " " ++ verdict_text row.verdict ++ outcome_text row.same
 
--- 1 where the verdict is Admissible
-abbrev pub one_admissible : Verdict → ℕ
-one_admissible Admissible = 1
-one_admissible (Logic step number) = 0
-one_admissible (Memory step at) = 0
+-- a verdict is Admissible
+abbrev pub admits : Verdict → Bool
+admits Admissible = true
+admits _ = false
 
--- 1 where the outcome is the same
-abbrev pub one_same : Bool → ℕ
-one_same true = 1
-one_same false = 0
-
--- how many scripts are admissible
-unfoldable pub admissible_in : List Row → ℕ
-admissible_in [] = 0
-admissible_in (row ∷ rows) = one_admissible row.verdict + admissible_in rows
-
--- how many come to the same
-unfoldable pub same_in : List Row → ℕ
-same_in [] = 0
-same_in (row ∷ rows) = one_same row.same + same_in rows
+-- how many of a list are so
+abbrev pub count_in : {A : Type 0} → (A → Bool) → List A → ℕ
+count_in is items = length (filter is items)
 
 -- the last line
 abbrev pub total_line : List Row → List ℕ
 total_line rows =
-    codes "CAMPAIGN " ++ decimal (length rows) ++ codes " ADMISSIBLE " ++ decimal (admissible_in rows) ++ codes " SAME "
-    ++ decimal (same_in rows) ++ codes "\n"
+    codes "CAMPAIGN " ++ decimal (length rows) ++ codes " ADMISSIBLE " ++ decimal (count_in (λ row. admits row.verdict) rows) ++ codes " SAME "
+    ++ decimal (count_in (λ row. row.same) rows) ++ codes "\n"
 
 -- the whole, in the order of the scripts
 abbrev pub campaign_text : List Row → List ℕ

@@ -2,7 +2,7 @@
 
 ghost use Rattle.std.specs.Prelude.{◌≡◌, ◌+◌, ◌*◌, ◌≤◌, ◌++◌, length, All, OnOk, IfOk};
 ghost use Rattle.lvdc_report.specs.Report.{lines_of};
-ghost use Rattle.lvdc_command_campaign.specs.Texts.{verdict_text, outcome_text, row_line, one_admissible, one_same, admissible_in, same_in, total_line, campaign_text};
+ghost use Rattle.lvdc_command_campaign.specs.Texts.{verdict_text, outcome_text, row_line, admits, count_in, total_line, campaign_text};
 
 use lvdc_campaign::Row;
 use lvdc_fault::Verdict;
@@ -67,45 +67,25 @@ fn put_rows(out: &mut Vec<u8>, rows: &[Row]) -> Result<(), NoMemory>
     Ok(())
 }
 
-/// 1 where the verdict is Admissible.
-fn one_admissible(verdict: &Verdict) -> usize
-    ensures value { result ≡ one_admissible verdict.now }
-    ensures few { result ≤ 1 }
+/// Is the script admissible?
+fn is_admissible(row: &Row) -> bool
+    ensures { result ≡ admits row.now.verdict }
 {
-    match verdict {
-        Verdict::Admissible => 1,
-        Verdict::Logic { .. } | Verdict::Memory { .. } => 0,
-    }
-}
-
-/// 1 where the outcome is the same. It stands for its clauses alone, which proofs cite.
-fn one_same(same: bool) -> usize
-    ensures value { result ≡ one_same same }
-    ensures few { result ≤ 1 }
-{
-    usize::from(same)
+    matches!(row.verdict, Verdict::Admissible)
 }
 
 /// How many scripts are admissible.
 fn admissible_in(rows: &[Row]) -> usize
-    ensures { result ≡ admissible_in rows.now }
+    ensures { result ≡ count_in (λ row. admits row.verdict) rows.now }
 {
-    let mut count = 0;
-    for row in rows {
-        count += one_admissible(&row.verdict);
-    }
-    count
+    rows.iter().filter(|&row| is_admissible(row)).count()
 }
 
 /// How many come to the same.
 fn same_in(rows: &[Row]) -> usize
-    ensures { result ≡ same_in rows.now }
+    ensures { result ≡ count_in (λ row. row.same) rows.now }
 {
-    let mut count = 0;
-    for row in rows {
-        count += one_same(row.same);
-    }
-    count
+    rows.iter().filter(|&row| row.same).count()
 }
 
 /// Adds the last line.

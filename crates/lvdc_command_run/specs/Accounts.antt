@@ -50,13 +50,13 @@ begun_account o step end =
       recoverable = is_recoverable o step;
     }
 
--- by what is said of the first step that isn't admissible: it ends the run
+-- by what is said of the first step that isn't admissible, Admissible where there is none: it ends the run
 abbrev pub account_by : Verdict → Trial → ℕ → Account
 account_by Admissible o n = whole_account o n
 account_by (Logic step number) o n = begun_account o step (Inadmissible (Logic step number))
 account_by (Memory step at) o n = begun_account o step (Inadmissible (Memory step at))
 
--- what `run` tells of a trial of so many times
+-- what `run` tells of a trial of so many times, in which no device fails
 abbrev pub account : Trial → ℕ → Account
 account o n = account_by (first_bad o n) o n
 

@@ -11,15 +11,15 @@ use Rattle.lvdc_report.specs.declared.title.Title.TheVariants.{Run}
 use Rattle.lvdc_reply.specs.Answer.{Answer}
 use Rattle.lvdc_command_run.specs.Accounts.{Account, account, end_status}
 
--- the report of an account, up to what the redundancy did: its end, its registers, its port exchanges, and of each address the
--- word where it can be recovered
+-- the report of an account, but for what the redundancy did at its end: its end, its registers, its port exchanges, and of each
+-- address that is there the word where it can be recovered and isn't 0, or that it can't be recovered
 abbrev pub account_front : Trial → Account → List ℕ
 account_front o told =
     title_line Run ++ end_text told.end ++ registers_text (visible_in told.plain) ++ log_text told.plain.log
     ++ memory_text o.opening.banks told.plain.memory told.recoverable
 
 -- the text reports an account, and behind it stand the lines of some counts and of some repairs and no others: how often each copy
--- differed and which cells were repaired is left open here
+-- differed and which cells were repaired is left open here, and is said by the clause `answer`
 pub record Reports (o : Trial) (told : Account) (text : List ℕ) : Type 0 where
   pub counts : List (List ℕ)
   pub repairs : List Repair

@@ -5,10 +5,11 @@ use Rattle.lvdc_port.specs.Device.{Device}
 use Rattle.lvdc_port.specs.Supplies.{supplied}
 use Rattle.lvdc_fault.specs.Events.{IsEvent}
 use Rattle.lvdc_model.specs.Trial.{Trial}
-use Rattle.lvdc_deck.specs.declared.TheConstants.{MOST_TIMES, MOST_EVENTS}
+use Rattle.lvdc_fault.specs.declared.TheConstants.{MOST_TIMES, MOST_EVENTS}
 use Rattle.lvdc_deck.specs.declared.deck.Deck.{Deck}
 
--- the trial of a deck over these devices: the words of its TAPE lines stand behind those that the tapes have
+-- the trial of a deck over these devices: the words of its TAPE lines stand behind those that the tapes have; its orders of
+-- latching are left out
 abbrev pub trial_of : List Device → Deck → Trial
 trial_of devices deck =
     record {

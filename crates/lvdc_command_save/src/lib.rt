@@ -2,7 +2,6 @@
 #![tactic(auto)]
 
 mod laws;
-mod places;
 mod reply;
 mod runs;
 mod saving;

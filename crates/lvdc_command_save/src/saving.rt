@@ -12,7 +12,6 @@ ghost use Rattle.lvdc_command_save.specs.Answers.{saved_by};
 ghost use Rattle.lvdc_command_save.specs.Halves.{IsTaken};
 ghost use Rattle.lvdc_command_save.specs.Snapshots.{snapshot_of};
 
-use crate::places::stand_at_addresses;
 use crate::states::states_of;
 use lvdc_machine::{Machine, Snapshot};
 use lvdc_orders::Orders;
@@ -33,7 +32,6 @@ fn snapshot(alloc: Global, machine: &Machine) -> Result<Snapshot, NoMemory>
     ensures state { IfOk result (λ s. (o : Trial) (v : Voted) (ds : List Device) → Shows o machine.now ds v → s ≡ snapshot_of o.opening.banks v) }
 {
     let snapshot = machine.snapshot(alloc)?;
-    stand_at_addresses(snapshot.words.items());
     Ok(snapshot)
 }
 

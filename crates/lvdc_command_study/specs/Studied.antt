@@ -7,7 +7,7 @@ use Rattle.lvdc_campaign_deck.specs.Scripts.{CanRun}
 use Rattle.lvdc_campaign_deck.specs.declared.TheConstants.{MOST_EVENTS}
 use Rattle.lvdc_study_deck.specs.declared.TheConstants.{MOST_SCRIPTS}
 use Rattle.lvdc_study_deck.specs.declared.deck.StudyDeck.{StudyDeck}
-use Rattle.lvdc_study.specs.declared.TheConstants.{MOST_TIMES}
+use Rattle.lvdc_fault.specs.declared.TheConstants.{MOST_TIMES}
 use Rattle.lvdc_command_study.specs.Answers.{rows_in, failed_text}
 use Rattle.lvdc_command_study.specs.Replies.{ExchangesIn}
 use Rattle.lvdc_command_study.specs.Texts.{study_text}

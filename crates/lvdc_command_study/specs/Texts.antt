@@ -1,12 +1,10 @@
 -- The text of a study: a line for each row, and a line of their total.
-use Rattle.std.specs.Prelude.{ℕ, Bool, true, false, is_none, List, ◌++◌, codes, decimal, length, filter}
+use Rattle.std.specs.Prelude.{ℕ, Bool, true, false, is_none, List, ◌++◌, codes, decimal, length}
 use Rattle.std.specs.declared.option.Option.{Option}
 use Rattle.std.specs.declared.option.Option.TheVariants.{None, Some}
-use Rattle.lvdc_fault.specs.declared.verdict.Verdict.{Verdict}
-use Rattle.lvdc_fault.specs.declared.verdict.Verdict.TheVariants.{Admissible}
 use Rattle.lvdc_image.specs.Image.{spot_text}
 use Rattle.lvdc_report.specs.Report.{lines_of}
-use Rattle.lvdc_command_campaign.specs.Texts.{verdict_text}
+use Rattle.lvdc_command_campaign.specs.Texts.{verdict_text, admits, count_in}
 use Rattle.lvdc_study.specs.declared.difference.Difference.{Difference}
 use Rattle.lvdc_study.specs.declared.difference.Difference.TheVariants.{End, Port, Registers, Words}
 use Rattle.lvdc_study.specs.declared.row.Row.{Row}
@@ -46,11 +44,6 @@ row_line row =
 
 -- ---- the line of the total
 
--- a verdict is Admissible
-abbrev pub admits : Verdict → Bool
-admits Admissible = true
-admits _ = false
-
 -- the script is admissible
 abbrev pub is_admissible : Row → Bool
 is_admissible row = admits row.verdict
@@ -58,10 +51,6 @@ is_admissible row = admits row.verdict
 -- the outcome is the same
 abbrev pub is_same : Row → Bool
 is_same row = is_none row.difference
-
--- how many rows are so
-abbrev pub count_in : (Row → Bool) → List Row → ℕ
-count_in is rows = length (filter is rows)
 
 -- the last line
 abbrev pub total_line : List Row → List ℕ

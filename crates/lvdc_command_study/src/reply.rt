@@ -7,7 +7,7 @@ ghost use Rattle.lvdc_reply.specs.Answer.{answer_of};
 ghost use Rattle.lvdc_report.specs.declared.report.TheConstants.{LONGEST_REPORT};
 ghost use Rattle.lvdc_command_run.specs.Trials.{trial_of};
 ghost use Rattle.lvdc_study_deck.specs.declared.TheConstants.{MOST_SCRIPTS};
-ghost use Rattle.lvdc_study.specs.declared.TheConstants.{MOST_TIMES};
+ghost use Rattle.lvdc_fault.specs.declared.TheConstants.{MOST_TIMES};
 ghost use Rattle.lvdc_study.specs.Failures.{FailsInRuns};
 ghost use Rattle.lvdc_study.specs.Study.{opening_over, IsProgram};
 ghost use Rattle.lvdc_command_study.specs.Answers.{rows_in, failed_text, RowsKeepLaws};

@@ -2,7 +2,8 @@
 
 ghost use Rattle.std.specs.Prelude.{◌≡◌, ◌+◌, ◌*◌, ◌≤◌, ◌++◌, length, All, OnOk, IfOk};
 ghost use Rattle.lvdc_report.specs.Report.{lines_of};
-ghost use Rattle.lvdc_command_study.specs.Texts.{difference_text, outcome_text, step_text, redundancy_text, form_text, row_line, admits, is_admissible, is_same, count_in, total_line, study_text};
+ghost use Rattle.lvdc_command_campaign.specs.Texts.{count_in};
+ghost use Rattle.lvdc_command_study.specs.Texts.{difference_text, outcome_text, step_text, redundancy_text, form_text, row_line, is_admissible, is_same, total_line, study_text};
 
 use lvdc_command_campaign::put_verdict;
 use lvdc_fault::Verdict;

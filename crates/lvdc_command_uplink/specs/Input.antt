@@ -52,7 +52,7 @@ from_heading heading bytes next (line ∷ lines) =
 
 -- ---- the image
 
--- the place of the line that ends the image: the first END without outer blanks
+-- the place of the line that ends the image: the first that is END alone, but for outer blanks
 abbrev pub end_of : List ℕ → List Line → Option ℕ
 end_of bytes lines = place_of (codes "END") bytes lines
 

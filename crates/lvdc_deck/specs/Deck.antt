@@ -80,11 +80,11 @@ count_in debugging next s = count_by (not debugging || is_debug s.section) next 
 
 -- ---- the program
 
--- the place of the line that ends it: the first END without outer blanks
+-- the place of the line that ends it: the first that is END alone, but for outer blanks
 abbrev pub end_of : List ℕ → List Line → Option ℕ
 end_of bytes lines = place_of (codes "END") bytes lines
 
--- the program of an image that was read, and that of an assembled source
+-- the program of an image that was read
 abbrev pub by_image : Result Contents ImageFault → Result Program DeckFault
 by_image (Ok contents) = Ok (programs.Image contents)
 by_image (Err fault) = Err (Image fault)
@@ -127,7 +127,8 @@ constant_of (programs.Image contents) number name = Err (Asm (UndefinedName numb
 constant_of (programs.Source assembled) number name =
     constant_by number (is_some (definition_of assembled.plan.names name)) (start_of assembled.plan name)
 
--- where the run starts: where START says, else where the image says, else at place 0/0/0/0 with data module 0 and sector 1
+-- where the run starts: where START says, else where the image says, else at place 0/0/0/0 with data module 0 and sector 1,
+-- and both DUP bits
 abbrev pub start_in : Program → Option EntryPoint → Result HopConstant DeckFault
 start_in program None = Ok (unwrap_or (image_in program).start (hop_of 0o16))
 start_in program (Some (Constant start)) = Ok start

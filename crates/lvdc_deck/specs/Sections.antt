@@ -16,7 +16,8 @@ use Rattle.lvdc_plain.specs.declared.records.Unplug.{Unplug}
 use Rattle.lvdc_fault.specs.declared.event.Event.{Event}
 use Rattle.lvdc_script_lines.specs.Lines.{fault_in, order_in}
 use Rattle.lvdc_source.specs.Names.{is_name}
-use Rattle.lvdc_deck.specs.declared.TheConstants.{MOST_TIMES, MOST_EVENTS, MOST_ORDERS}
+use Rattle.lvdc_fault.specs.declared.TheConstants.{MOST_TIMES, MOST_EVENTS}
+use Rattle.lvdc_deck.specs.declared.TheConstants.{MOST_ORDERS}
 use Rattle.lvdc_deck.specs.declared.entry.EntryPoint.{EntryPoint}
 use Rattle.lvdc_deck.specs.declared.entry.EntryPoint.TheVariants.{Constant, Name}
 use Rattle.lvdc_deck.specs.declared.fault.DeckFault.{DeckFault}
@@ -117,7 +118,7 @@ entry_by kind number token (Some w) = Some (Constant (hop_of w))
 entry_by Source number token None = if is_name token then Some (Name number token) else None
 entry_by Image number token None = None
 
--- what a token of START means: a HOP constant, or before a source a name
+-- what a token of START means: a HOP constant, or behind a source a name
 abbrev pub entry_in : ProgramKind → ℕ → List ℕ → Option EntryPoint
 entry_in kind number token = entry_by kind number token (word_in token)
 

@@ -2,7 +2,7 @@ ghost use Rattle.std.specs.Prelude.{◌≡◌, ℕ, ◌+◌, ◌<◌, ◌≤◌,
 ghost use Rattle.lvdc_text.specs.Lines.{IsWithin, part_of};
 ghost use Rattle.lvdc_deck.specs.Sections.{port_in, time_in, words_in, supply_of, pairs_from};
 
-use crate::MOST_TIMES;
+use lvdc_fault::MOST_TIMES;
 use lvdc_map::Banks;
 use lvdc_port::Supply;
 use lvdc_text::{Line, octal, octal_word, part, plain_decimal};

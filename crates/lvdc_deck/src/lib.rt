@@ -22,11 +22,5 @@ pub use laws::{
 pub use layout::after_program;
 pub use read::read_deck;
 
-/// The greatest count of instruction times, and the latest time of an UNPLUG line (this project's profile).
-pub const MOST_TIMES: u64 = 1_000_000;
-
-/// The most events of a script (this project's profile).
-pub const MOST_EVENTS: usize = 65_536;
-
 /// The most lines of ORDER (this project's profile).
 pub const MOST_ORDERS: usize = 16;

@@ -4,7 +4,7 @@ ghost use Rattle.lvdc_text.specs.Lines.{IsWithin, part_of};
 ghost use Rattle.lvdc_fault.specs.Events.{IsEvent};
 ghost use Rattle.lvdc_deck.specs.Deck.{end_of, with_program, by_end, deck_of};
 ghost use Rattle.lvdc_text.specs.declared.comment.TheConstants.{LONGEST_LINE};
-ghost use Rattle.lvdc_deck.specs.declared.TheConstants.{MOST_TIMES, MOST_EVENTS};
+ghost use Rattle.lvdc_fault.specs.declared.TheConstants.{MOST_TIMES, MOST_EVENTS};
 ghost use Rattle.lvdc_deck.specs.declared.fault.DeckFault.TheVariants.{NoMemory as WantsMemory};
 
 use crate::layout::{end_of, opening_of};

@@ -6,7 +6,7 @@ ghost use Rattle.lvdc_script_lines.specs.Lines.{fault_in, order_in};
 ghost use Rattle.lvdc_deck.specs.Sections.{nothing_said, entry_in, start_line, simplex_line, begun, ports_line, faults_line, order_line, run_line, debug_line, in_order, with_event, with_order, belongs, by_tokens, after_line, Makes};
 ghost use Rattle.lvdc_deck.specs.Deck.{told_from, count_in, made_of};
 ghost use Rattle.lvdc_text.specs.declared.comment.TheConstants.{LONGEST_LINE};
-ghost use Rattle.lvdc_deck.specs.declared.TheConstants.{MOST_TIMES, MOST_EVENTS};
+ghost use Rattle.lvdc_fault.specs.declared.TheConstants.{MOST_TIMES, MOST_EVENTS};
 ghost use Rattle.lvdc_deck.specs.declared.fault.DeckFault.TheVariants.{NoMemory as WantsMemory};
 
 use crate::commands::commands_in;
@@ -15,8 +15,8 @@ use crate::fields::pairs_in;
 use crate::layout::section_of;
 use crate::program::Program;
 use crate::section::{ProgramKind, Section};
-use crate::{Deck, DeckFault, MOST_EVENTS, MOST_TIMES};
-use lvdc_fault::Script;
+use crate::{Deck, DeckFault};
+use lvdc_fault::{MOST_EVENTS, MOST_TIMES, Script};
 use lvdc_map::{Banks, Hop};
 use lvdc_orders::Orders;
 use lvdc_plain::Unplug;
@@ -48,7 +48,7 @@ impl Model for Said {
     ghost use Rattle.std.specs.Prelude.{◌≤◌, length, IfSome, All};
     ghost use Rattle.lvdc_fault.specs.Events.{IsEvent};
     ghost use Rattle.lvdc_deck.specs.Sections.{Sections};
-    ghost use Rattle.lvdc_deck.specs.declared.TheConstants.{MOST_TIMES, MOST_EVENTS};
+    ghost use Rattle.lvdc_fault.specs.declared.TheConstants.{MOST_TIMES, MOST_EVENTS};
 
     ghost Value = { Sections };
 

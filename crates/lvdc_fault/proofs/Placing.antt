@@ -71,6 +71,7 @@ wrote-elsewhere banks words at w here there h other ok none =
 -- what was gathered from the words below a number
 pub record GathersWords (banks : ℕ) (table : List ℕ) (n : ℕ) (placed : List Placed) : Type 0 where
   pub rising : are_rising placed ≡ true
+  pub addresses : All (λ p. IsAddress p.at) placed
   pub there : AllThere banks placed
   pub others : All (λ p. p.word ≢ 0) placed
   pub below : All (λ p. number_of p.at < n) placed
@@ -79,6 +80,7 @@ pub record GathersWords (banks : ℕ) (table : List ℕ) (n : ℕ) (placed : Lis
 pub words-none : (banks : ℕ) (words : List ℕ) → GathersWords banks words 0 []
 words-none banks words = record {
   rising = refl;
+  addresses = All-nil (λ p. IsAddress p.at);
   there = All-nil (λ p. is_there banks p.at ≡ true);
   others = All-nil (λ p. p.word ≢ 0);
   below = All-nil (λ p. number_of p.at < 0);
@@ -90,6 +92,7 @@ pub words-other : (banks : ℕ) (words : List ℕ) (n : ℕ) (placed : List Plac
     → GathersWords banks words (suc n) placed
 words-other banks words n placed none g = record {
   rising = g.rising;
+  addresses = g.addresses;
   there = g.there;
   others = g.others;
   below = λ k d less. let before = g.below k d less in omega (arith, before);
@@ -123,6 +126,7 @@ pub words-more : (banks : ℕ) (words : List ℕ) (n : ℕ) (placed : List Place
     → p.word ≡ get_or words n 0 → p.word ≢ 0 → GathersWords banks words n placed → GathersWords banks words (suc n) (placed ++ p ∷ [])
 words-more banks words n placed p here elsewhere at is other g = record {
   rising = rising-push placed p n g.rising g.below at;
+  addresses = All-push (λ q. IsAddress q.at) placed p g.addresses here;
   there = All-push (λ q. is_there banks q.at ≡ true) placed p g.there (by_bank (is_there banks p.at) refl);
   others = All-push (λ q. q.word ≢ 0) placed p g.others other;
   below = All-push (λ q. number_of q.at < suc n) placed p (λ k d less. let before = g.below k d less in omega (arith, before)) (omega (arith, at));

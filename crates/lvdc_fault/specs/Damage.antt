@@ -14,7 +14,7 @@ abbrev pub damaged_by : ℕ → ℕ → Spot → Event → ℕ → ℕ
 damaged_by step twin place (Damage w at t mask) cell = if t == step && w == twin && is_same place at then bit_xor cell mask else cell
 damaged_by step twin place _ cell = cell
 
--- the stored cell after the damage before a step, in the order of the script
+-- the stored cell after the damage of a step, with which the step begins, in the order of the script
 abbrev pub damaged : ℕ → ℕ → Spot → List Event → ℕ → ℕ
 damaged step twin place [] cell = cell
 damaged step twin place (e ∷ es) cell = damaged step twin place es (damaged_by step twin place e cell)

@@ -21,6 +21,7 @@ NoneElsewhere banks words = (at : Spot) → IsAddress at → is_there banks at �
 -- the list holds the intended words other than 0, each once and in order, in banks that are there
 pub record ArePlaced (i : Intended) (placed : List Placed) : Type 0 where
   pub rising : are_rising placed ≡ true
+  pub addresses : All (λ p. IsAddress p.at) placed
   pub there : AllThere i.banks placed
   pub others : All (λ p. p.word ≢ 0) placed
   pub words : (at : Spot) → IsAddress at → intended_at i at ≡ word_at (memory_of placed) at

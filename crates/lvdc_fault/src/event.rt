@@ -4,8 +4,9 @@ ghost use Rattle.lvdc_fault.specs.Script.{first_of, span_of, makes_wrong, is_act
 use lvdc_map::Address;
 use lvdc_word::{Cell, Word};
 
-/// A line of the fault script (this project's profile). Modules are 1 to 7, copies 1 to 3, twins 0 and 1; an event acts at
-/// the steps from `first` to `last`. The events on memory name the physical place, with its pair below 4.
+/// A line of the fault script (this project's profile). Modules are 1 to 7, copies 1 to 3, twins 0 and 1; `index` is a latch of the
+/// module, from 0; an event acts at the steps from `first` to `last`. The events on memory name the physical place, with its pair
+/// below 4.
 #[derive(Clone, Copy, Debug, PartialEq, Eq)]
 pub enum Event {
     /// FLIP: the bits under the mask are turned over in the latch that the copy takes.
@@ -41,7 +42,7 @@ pub enum Event {
         first: u64,
         last: u64,
     },
-    /// DAMAGE: before the step the bits under the mask are turned over in the stored cell.
+    /// DAMAGE: as the step begins the bits under the mask are turned over in the stored cell.
     Damage {
         twin: u8,
         at: Address,

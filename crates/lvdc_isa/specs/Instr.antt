@@ -4,7 +4,7 @@ use Rattle.lvdc_isa.specs.declared.op.Op.{Op}
 use Rattle.lvdc_isa.specs.declared.op.Op.TheVariants.{Hop, Mpy, Sub, Div, Tnz, Mph, And, Add, Tra, Xor, Pio, Sto, Tmi, Rsu, Cds, Shf, WrongShift, Exm, Cla}
 use Rattle.lvdc_isa.specs.declared.instr.Instr.{Instr}
 
--- a pattern that shifts: to nothing, one or two places right, one or two places left
+-- a pattern that shifts: to 0, one or two places right, one or two places left
 abbrev pub is_shift : ℕ → Bool
 is_shift pattern = pattern == 0 || pattern == 0o1 || pattern == 0o2 || pattern == 0o20 || pattern == 0o40
 
@@ -15,7 +15,7 @@ fourteen address =
     else (if address / 2 ^ 8 == 1 then Exm
     else (if is_shift (address % 2 ^ 7) then Shf else WrongShift))
 
--- the operations in the order of their codes; code 14 stands apart
+-- the operations in the order of their codes; code 14 stands apart, and CDS keeps its place
 abbrev pub operations : List Op
 operations = Hop ∷ Mpy ∷ Sub ∷ Div ∷ Tnz ∷ Mph ∷ And ∷ Add ∷ Tra ∷ Xor ∷ Pio ∷ Sto ∷ Tmi ∷ Rsu ∷ Cds ∷ Cla ∷ []
 

@@ -27,7 +27,7 @@ pub enum Op {
     Xor,
     /// Writes the accumulator to a port, or reads it from one.
     Pio,
-    /// Stores the accumulator, the saver or PQ, by the place.
+    /// Stores by the place: the accumulator into memory or into PQ, or the saver into its words.
     Sto,
     /// Transfers where the accumulator is negative.
     Tmi,

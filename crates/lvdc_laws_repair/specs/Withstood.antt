@@ -16,10 +16,11 @@ pub record Masked (o : Trial) (count : ℕ) : Type 0 where
   pub words : (step : ℕ) (at : Spot) → step < 3 * count → HasBank o.opening.banks at → is_recoverable o step at ≡ true
   pub words_after : (steps : ℕ) (at : Spot) → steps ≤ 3 * count → HasBank o.opening.banks at → is_recoverable_after o steps at ≡ true
 
--- so the voted machine comes to what the plain run comes to: its end, its registers, its port log, its devices, and all its words,
--- each of which it can tell
+-- so the voted machine comes to what the plain run comes to: its end, as many times as were made, its registers, its port log, its
+-- devices, and all its words, each of which it can tell
 pub record Withstood (o : Trial) (count : ℕ) : Type 0 where
   pub masked : Masked o count
   pub shows : ShowsTimes o count (guarded o (3 * count))
   pub end : (guarded o (3 * count)).end ≡ stop_end (plain_at o count).stop (plain_at o count).times
+  pub made : (guarded o (3 * count)).steps ≡ 3 * (plain_at o count).times
   pub known : (at : Spot) → HasBank o.opening.banks at → is_known o (guarded o (3 * count)) at ≡ true

@@ -24,7 +24,7 @@ no_third true false c h = refl
 no_third false b c h = refl
 
 -- an event that isn't in force acts on nothing
-not_hit : (number copy first last step m c : ℕ) → is_within first last step ≡ false → acts_on number copy first last step m c ≡ false
+pub not_hit : (number copy first last step m c : ℕ) → is_within first last step ≡ false → acts_on number copy first last step m c ≡ false
 not_hit number copy first last step m c h = no_third (number == m) (copy == c) (is_within first last step) h
 
 -- and hurts nothing

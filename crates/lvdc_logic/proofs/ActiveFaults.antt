@@ -47,7 +47,7 @@ assoc true b c = refl
 assoc false b c = refl
 
 -- the copy that an event in force acts on is the one that it names
-acts_by_number : (number copy first last step n : ℕ) → IsCopy number copy → is_within first last step ≡ true
+pub acts_by_number : (number copy first last step n : ℕ) → IsCopy number copy → is_within first last step ≡ true
     → acts_on number copy first last step (n / 3 + 1) (n % 3 + 1) ≡ (3 * (number - 1) + (copy - 1) == n)
 acts_by_number number copy first last step n is within =
     by_module (number == n / 3 + 1) (copy == n % 3 + 1) (3 * (number - 1) + (copy - 1) == n) refl refl refl where

@@ -7,3 +7,5 @@ pub mod Numbers
 pub mod Under
 pub mod Commits
 mod Rows
+pub mod Joins
+pub mod PartLaws

@@ -5,3 +5,5 @@ pub mod Latching
 pub mod Listing
 pub mod Logic
 pub mod Seven
+pub mod Shares
+pub mod Parts

@@ -22,7 +22,7 @@ pub struct Faults {
 
 impl Faults {
     /// Nothing.
-    fn none() -> Faults
+    pub(crate) fn none() -> Faults
         ensures { result ≡ no_faults }
     {
         Faults {

@@ -3,11 +3,16 @@
 #![tactic(auto)]
 
 mod counts;
+mod forces;
 mod hit_modules;
 mod in_force;
+mod known;
 mod listing;
 mod logic;
+mod parts;
+mod shares;
 mod triples;
 
+pub use forces::Forces;
 pub use in_force::{Faults, InForce, in_force_stays};
 pub use logic::Logic;

@@ -6,17 +6,12 @@ use Rattle.std.specs.declared.option.Option.TheVariants.{None, Some}
 use Rattle.lvdc_map.specs.Memory.{Memory}
 use Rattle.lvdc_fault.specs.Activity as activity
 use Rattle.lvdc_fault.specs.Activity.{Activity, Fits}
-use Rattle.lvdc_fault.specs.Script.{active_at, is_wrong, wrong_module}
-use Rattle.lvdc_fault.specs.WrongCopies.{AreWrong}
-use Rattle.lvdc_fault.specs.declared.wrong.WrongCopies.{WrongCopies}
+use Rattle.lvdc_fault.specs.Script.{active_at}
 use Rattle.lvdc_fault.specs.declared.event.Event.{Event}
 use Rattle.lvdc_model.specs.Exchanges.{damages}
 use Rattle.lvdc_model.specs.Trial.{Trial}
 use Rattle.lvdc_model.specs.Twins.{Twins}
 use Rattle.lvdc_memory.specs.Holds.{Kept, Holds}
-use Rattle.lvdc_logic.specs.InForce.{IsInForce}
-use Rattle.lvdc_logic.specs.declared.in_force.InForce.{InForce}
-use Rattle.lvdc_machine.specs.Sound.{KnowsForce, KnowsCopies, KnowsWrong}
 
 -- by what was in force: a step of the script, or nothing
 released-by : (o : Trial) (old new : Kept) (t : Twins) (i : Memory) (a : Activity) (last : Option ℕ)
@@ -38,12 +33,6 @@ released o old new t i script a same fits forced unforced h =
     (λ step held g. forced o step t i (sym same) (subst (λ (s : List Event). a.held ≡ active_at s step) (sym same) held) g)
     (λ g. unforced o t i g) h
 
--- the lowest module of the copies that are known as wrong is known
-pub knows-module : (script : List Event) (last : Option ℕ) (copies : WrongCopies) (wrong : Option ℕ) → KnowsCopies script last copies
-    → ((step : ℕ) → AreWrong script step copies → wrong ≡ wrong_module script step) → KnowsWrong script last wrong
-knows-module script None copies wrong known named = tt
-knows-module script (Some step) copies wrong known named = named step known
-
 -- ---- the same events as in the step before
 
 -- the step before is the one that was in force
@@ -61,34 +50,6 @@ module _ (script : List Event) (steps : ℕ) where
       let here : steps - 1 ≡ before = omega (arith, stays.0) in
       let back : steps - 1 + 1 ≡ steps = omega (arith, stays.0) in
       ap (active_at script) back ∙ stays.1 ∙ ap (active_at script) (sym here)
-
-  -- what is known to be in force stays so
-  pub stays-force : (last : Option ℕ) (force : InForce) → IsSomeAnd last StayedFrom → KnowsForce script last force
-      → (IsInForce script (steps - 1) force → IsInForce script (steps - 1 + 1) force) → KnowsForce script (Some steps) force
-  stays-force None force stays known on = absurd stays
-  stays-force (Some before) force stays known on =
-      let here : steps - 1 ≡ before = omega (arith, stays.0) in
-      let back : steps - 1 + 1 ≡ steps = omega (arith, stays.0) in
-      subst (λ step. IsInForce script step force) back (on (subst (λ step. IsInForce script step force) (sym here) known))
-
-  -- the copies that are known as wrong stay so
-  pub stays-copies : (last : Option ℕ) (copies : WrongCopies) → IsSomeAnd last StayedFrom → KnowsCopies script last copies
-      → ((m c : ℕ) → is_wrong script (steps - 1 + 1) m c ≡ is_wrong script (steps - 1) m c) → KnowsCopies script (Some steps) copies
-  stays-copies None copies stays known same = absurd stays
-  stays-copies (Some before) copies stays known same = λ m c hm hc.
-      let here : steps - 1 ≡ before = omega (arith, stays.0) in
-      let back : steps - 1 + 1 ≡ steps = omega (arith, stays.0) in
-      known m c hm hc ∙ ap (λ step. is_wrong script step (m + 1) (c + 1)) (sym here) ∙ sym (same (m + 1) (c + 1))
-      ∙ ap (λ step. is_wrong script step (m + 1) (c + 1)) back
-
-  -- the module that is known as wrong stays so
-  pub stays-wrong : (last wrong : Option ℕ) → IsSomeAnd last StayedFrom → KnowsWrong script last wrong
-      → wrong_module script (steps - 1 + 1) ≡ wrong_module script (steps - 1) → KnowsWrong script (Some steps) wrong
-  stays-wrong None wrong stays known named = absurd stays
-  stays-wrong (Some before) wrong stays known named =
-      let here : steps - 1 ≡ before = omega (arith, stays.0) in
-      let back : steps - 1 + 1 ≡ steps = omega (arith, stays.0) in
-      known ∙ ap (wrong_module script) (sym here) ∙ sym named ∙ ap (wrong_module script) back
 
   -- what is in force stays so
   pub stayed : (o : Trial) (m : Kept) (t : Twins) (i : Memory) (last : Option ℕ) → script ≡ o.script → IsSomeAnd last StayedFrom

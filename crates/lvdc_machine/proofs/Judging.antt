@@ -14,9 +14,9 @@ use Rattle.lvdc_model.specs.Exchanges.{wished}
 use Rattle.lvdc_model.specs.Runs.{own_verdict, own_logic, own_memory, recovers, read_of_wish}
 use Rattle.lvdc_machine.specs.View.{View}
 use Rattle.lvdc_machine.specs.Shows.{Shows}
-use Rattle.lvdc_logic.specs.InForce.{IsInForce}
-use Rattle.lvdc_logic.specs.declared.in_force.InForce.{InForce}
-use Rattle.lvdc_machine.specs.Sound.{KnowsForce, KnowsWrong}
+use Rattle.lvdc_logic.specs.Parts.{IsKnown}
+use Rattle.lvdc_logic.specs.declared.known.Known.{Known}
+use Rattle.lvdc_machine.specs.Sound.{KnowsForce}
 
 -- the module that is found wrong
 pub found-wrong : {o : Trial} {m : View} {ds : List device.Device} {v : Voted} → Shows o m ds v → (n : ℕ)
@@ -40,12 +40,6 @@ found-good o v at e = rw (← e) refl
 pub found-bad : (o : Trial) (v : Voted) (at : Spot) (step : ℕ) → step ≡ v.steps → false ≡ recovers o v at → Memory step at ≡ own_memory o v (Some at)
 found-bad o v at step is e = rw (← e) (ap (λ s. Memory s at) is)
 
--- what is known to be in force is what the script puts in force in that step
-pub known_force : (script : List Event) (last : Option ℕ) (steps : ℕ) (force : InForce) → KnowsForce script last force → last ≡ Some steps
-    → IsInForce script steps force
-known_force script last steps force known is = subst (λ (l : Option ℕ). KnowsForce script l force) is known
-
--- the module that is known as wrong is that of the step in force
-pub known_wrong : (script : List Event) (last : Option ℕ) (steps : ℕ) (wrong : Option ℕ) → KnowsWrong script last wrong → last ≡ Some steps
-    → wrong ≡ wrong_module script steps
-known_wrong script last steps wrong known is = subst (λ (l : Option ℕ). KnowsWrong script l wrong) is known
+-- what is known of the copies is so in that step
+pub known_then : (script : List Event) (last : Option ℕ) (steps : ℕ) (known : Known) → KnowsForce script last known → last ≡ Some steps → IsKnown script steps known
+known_then script last steps known knows is = subst (λ (l : Option ℕ). KnowsForce script l known) is knows

@@ -15,3 +15,4 @@ pub mod Telling
 pub mod Starting
 pub mod Calls
 mod Rows
+pub mod OnMemory

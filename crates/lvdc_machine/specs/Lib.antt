@@ -9,4 +9,5 @@ pub mod Resumed
 pub mod Snapshot
 pub mod Made
 pub mod Notes
+pub mod OnMemory
 pub mod Calls

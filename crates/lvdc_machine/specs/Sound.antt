@@ -3,44 +3,35 @@ use Rattle.std.specs.Prelude.{◌≡◌, ℕ, ◌+◌, ◌*◌, ◌/◌, ◌%◌
 use Rattle.std.specs.declared.option.Option.{Option}
 use Rattle.std.specs.declared.option.Option.TheVariants.{None}
 use Rattle.lvdc_fault.specs.Activity.{Fits}
-use Rattle.lvdc_fault.specs.Script.{wrong_module}
-use Rattle.lvdc_fault.specs.WrongCopies.{AreWrong}
-use Rattle.lvdc_fault.specs.declared.wrong.WrongCopies.{WrongCopies}
 use Rattle.lvdc_fault.specs.declared.event.Event.{Event}
 use Rattle.lvdc_fault.specs.Events.{IsEvent}
-use Rattle.lvdc_logic.specs.InForce.{IsInForce}
 use Rattle.lvdc_logic.specs.Logic.{DifferedAtMost}
-use Rattle.lvdc_logic.specs.declared.in_force.InForce.{InForce}
+use Rattle.lvdc_logic.specs.Parts.{AreForces, IsKnown}
+use Rattle.lvdc_logic.specs.declared.known.Known.{Known}
 use Rattle.lvdc_machine.specs.declared.machine.Machine.TheInside.{Inside}
 use Rattle.lvdc_machine.specs.declared.mode.Mode.TheVariants.{Guarded}
 use Rattle.lvdc_machine.specs.declared.mode.Pace.TheVariants.{ByTime}
+use Rattle.lvdc_machine.specs.OnMemory.{on_memory}
 use Rattle.lvdc_machine.specs.Room.{pace_of, exchanges_left, repairs_left, IsInTime}
 use Rattle.lvdc_machine.specs.Notes.{IsLog, AreRepairs}
 use Rattle.lvdc_machine.specs.View.{bus_of_votes, end_seen}
 
--- the module that is known as the lowest with two wrong copies is that of the step in force, if one is
-abbrev pub KnowsWrong : List Event → Option ℕ → Option ℕ → Type 0
-KnowsWrong script last wrong = IfSome last (λ step. wrong ≡ wrong_module script step)
+-- what is known of the copies is what the script does in the step in force, if one is: what is in force on each, which are wrong, and
+-- which module has two of them
+abbrev pub KnowsForce : List Event → Option ℕ → Known → Type 0
+KnowsForce script last known = IfSome last (λ step. IsKnown script step known)
 
--- the copies that are known as wrong are those of the step in force, if one is
-abbrev pub KnowsCopies : List Event → Option ℕ → WrongCopies → Type 0
-KnowsCopies script last wrong_copies = IfSome last (λ step. AreWrong script step wrong_copies)
-
--- what is known to be in force on the copies is what the script puts in force in the step in force, if one is
-abbrev pub KnowsForce : List Event → Option ℕ → InForce → Type 0
-KnowsForce script last force = IfSome last (λ step. IsInForce script step force)
-
--- the script is in range, what is active fits it, what is in force on the copies, and which copies and module are known as wrong, are
--- those of the step in force, and there is room for what may still come; the log of a machine with the room of its mode is of its own steps alone; a machine with room by times
+-- the script is in range, the events on memory are those of it, and what is active fits them; what is kept of the copies fits the script,
+-- and what is known of them is so in the step in force, and there is room for what may still come; the log of a machine with the room of its mode is of its own steps alone; a machine with room by times
 -- judges, and one that judges has phases that go with the steps; the bus is that of the votes, and where no end has come they are
 -- against a stop; and what is noted is of steps that were made
 pub record IsSound (m : Inside) : Type 0 where
   pub events : All IsEvent m.script
-  pub fits : Fits m.script m.active
-  pub within : All (λ position. position < length m.script) m.active.held
-  pub force : KnowsForce m.script m.active.last m.force
-  pub copies : KnowsCopies m.script m.active.last m.wrong_copies
-  pub wrong : KnowsWrong m.script m.active.last m.wrong
+  pub on_memory : m.on_memory ≡ on_memory m.script
+  pub fits : Fits m.on_memory m.active
+  pub within : All (λ position. position < length m.on_memory) m.active.held
+  pub forces : AreForces m.script m.forces
+  pub known : KnowsForce m.script m.active.last m.forces.known
   pub differed : DifferedAtMost m.steps m.logic.counts
   pub banks : m.memory.twins.banks ≡ m.banks
   pub log : m.pace ≡ pace_of m.mode → vec_len m.log + exchanges_left m.pace m.steps m.limit ≤ exchanges_left m.pace 0 m.limit

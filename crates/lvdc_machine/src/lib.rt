@@ -6,6 +6,7 @@ mod answers;
 mod kept_end;
 mod machine;
 mod made;
+mod memory_events;
 mod mode;
 mod notes;
 mod resumed;

@@ -16,10 +16,11 @@ ghost use Rattle.lvdc_machine.specs.View.{answer_of_end};
 
 use crate::kept_end::KeptEnd;
 use crate::made::Made;
+use crate::memory_events::memory_events;
 use crate::start::Start;
 use crate::{Mode, Order, Orders, Pace};
-use lvdc_fault::{Active, Script, WrongCopies};
-use lvdc_logic::{InForce, Logic};
+use lvdc_fault::{Active, Script};
+use lvdc_logic::{Forces, Logic};
 use lvdc_map::{Banks, Hop, Placed, is_hop_constant};
 use lvdc_memory::VotedMemory;
 use lvdc_model::{Outcome, Repair};
@@ -32,17 +33,16 @@ use std::marker::Model;
 
 /// The voted machine, without its devices. Steps are counted from 0, three in an instruction time. The bus of the votes is built
 /// once a step, when all copies have latched; what is in force on each copy, which copies are wrong, and which module has two of them,
-/// is worked out where the active events change.
+/// is worked out where an event begins or has ended. The memory goes by a script of the events on it alone.
 pub struct Machine {
     pub(crate) banks: Banks,
     pub(crate) logic: Logic,
     pub(crate) bus: Bus,
     pub(crate) memory: VotedMemory,
     pub(crate) script: Script,
+    pub(crate) on_memory: Script,
     pub(crate) active: Active,
-    pub(crate) force: InForce,
-    pub(crate) wrong_copies: WrongCopies,
-    pub(crate) wrong: Option<u8>,
+    pub(crate) forces: Forces,
     pub(crate) unplugs: Vec<Unplug>,
     pub(crate) log: Vec<Exchange>,
     pub(crate) repairs: Vec<Repair>,
@@ -89,10 +89,9 @@ impl Drop for Machine {
             bus: _,
             memory: _,
             script: _,
+            on_memory: _,
             active: _,
-            force: _,
-            wrong_copies: _,
-            wrong: _,
+            forces: _,
             unplugs: _,
             log: _,
             repairs: _,
@@ -180,7 +179,9 @@ impl Machine {
         is_hop_constant(start);
         let pace = Pace::of(mode);
         let memory = VotedMemory::new(alloc, image, banks)?;
-        let active = Active::for_script(alloc, &script)?;
+        let on_memory = memory_events(alloc, &script)?;
+        let active = Active::for_script(alloc, &on_memory)?;
+        let forces = Forces::for_script(alloc, &script)?;
         let (log, repairs) = room_for(alloc, pace.exchanges(limit), pace.repairs(limit))?;
         let logic = Logic::new(start);
         Ok(Machine {
@@ -189,10 +190,9 @@ impl Machine {
             logic,
             memory,
             script,
+            on_memory,
             active,
-            force: InForce::none(),
-            wrong_copies: WrongCopies::none(),
-            wrong: None,
+            forces,
             unplugs,
             log,
             repairs,

@@ -1,6 +1,6 @@
 //! A machine that goes on from a snapshot.
 
-ghost use Rattle.std.specs.Prelude.{◌≡◌, ℕ, ◌+◌, ◌-◌, ◌*◌, ◌≤◌, ◌<◌, List, All, length, map, IfOk, None, vec_len, vec_capacity};
+ghost use Rattle.std.specs.Prelude.{◌≡◌, ℕ, ◌+◌, ◌-◌, ◌*◌, ◌≤◌, ◌<◌, ◌^◌, List, All, length, map, IfOk, None, vec_len, vec_capacity};
 ghost use Rattle.lvdc_map.specs.Memory.{Memory};
 ghost use Rattle.lvdc_port.specs.Device as device;
 ghost use Rattle.lvdc_port.specs.Devices.{AreDistinct};
@@ -18,15 +18,17 @@ ghost use Rattle.lvdc_machine.specs.Resumed.{StandsFrom};
 ghost use Rattle.lvdc_machine.specs.Calls.{IsFresh};
 ghost use Rattle.lvdc_machine.specs.Room.{exchanges_to_come};
 ghost use Rattle.lvdc_machine.specs.Snapshot.{IsWhole, Means, meant};
-ghost use Rattle.lvdc_machine.specs.Sound.{KnowsForce, KnowsCopies};
+ghost use Rattle.lvdc_logic.specs.Parts.{AreForces};
+ghost use Rattle.lvdc_machine.specs.Sound.{KnowsForce};
 ghost use Rattle.lvdc_machine.specs.Stands.{Stands};
 ghost use Rattle.lvdc_machine.specs.Steps.{run_of};
 ghost use Rattle.lvdc_machine.specs.declared.snapshot.Snapshot.{Snapshot};
 ghost use Rattle.lvdc_machine.specs.View.{View};
 
+use crate::memory_events::memory_events;
 use crate::{Machine, Mode, Pace, Snapshot};
-use lvdc_fault::{Active, Script, WrongCopies};
-use lvdc_logic::{InForce, Logic};
+use lvdc_fault::{Active, Script};
+use lvdc_logic::{Forces, Logic};
 use lvdc_memory::VotedMemory;
 use lvdc_model::Repair;
 use lvdc_plain::{Exchange, Unplug};
@@ -87,19 +89,19 @@ impl Machine {
         let steps = snapshot.steps;
         let banks = snapshot.banks;
         let logic = Logic::from_latches(snapshot.latches.items(), snapshot.differed.items());
-        let (active, memory) = memory_of(alloc, &snapshot, &script)?;
+        let on_memory = memory_events(alloc, &script)?;
+        let (active, memory) = memory_of(alloc, &snapshot, &on_memory)?;
+        let forces = forces_before(alloc, &script, steps)?;
         let (log, repairs) = noted_in(snapshot, 3 * limit - steps)?;
-        let wrong_copies = wrong_before(&script, &active, steps);
         Ok(Machine {
             banks,
             bus: logic.bus(Word::ZERO, Word::ZERO),
             logic,
             memory,
-            force: force_before(&script, &active, steps),
-            wrong: wrong_copies.lowest_module(),
-            wrong_copies,
             script,
+            on_memory,
             active,
+            forces,
             unplugs,
             log,
             repairs,
@@ -134,7 +136,7 @@ fn with_room<T: Drop>(list: Seq<T>, more: u64) -> Result<Vec<T>, NoMemory>
     Ok(made)
 }
 
-/// The memory that a snapshot means, in which what the script sticks and kills in the step before is in force; and by which of
+/// The memory that a snapshot means, in which what a script sticks and kills in the step before is in force; and by which of
 /// its events it is.
 fn memory_of(
     alloc: Global,
@@ -181,29 +183,19 @@ fn put_last_in_force(script: &Script, steps: u64, active: &mut Active, memory: &
     }
 }
 
-/// Which copies are wrong in the step before this one, if there is one.
-fn wrong_before(script: &Script, active: &Active, steps: u64) -> WrongCopies
-    requires fits { Fits script.now active.now }
-    requires last { active.now.last ≡ last_made steps }
-    ensures { KnowsCopies script.now active.now.last result }
-{
-    if steps == 0 {
-        return WrongCopies::none();
-    }
-    WrongCopies::of_active(script, active, steps - 1)
-}
-
 /// What is in force on the copies in the step before this one, if there is one.
-fn force_before(script: &Script, active: &Active, steps: u64) -> InForce
+fn forces_before(alloc: Global, script: &Script, steps: u64) -> Result<Forces, NoMemory>
     requires events { All IsEvent script.now }
-    requires fits { Fits script.now active.now }
-    requires last { active.now.last ≡ last_made steps }
-    ensures { KnowsForce script.now active.now.last result }
+    requires bound { steps < 2 ^ 63 }
+    ensures fit { IfOk result (AreForces script.now) }
+    ensures known { IfOk result (λ forces. KnowsForce script.now (last_made steps) forces.known) }
 {
+    let mut forces = Forces::for_script(alloc, script)?;
     if steps == 0 {
-        return InForce::none();
+        return Ok(forces);
     }
-    InForce::of_active(script, active, steps - 1)
+    forces.go_to(script, steps - 1);
+    Ok(forces)
 }
 
 /// A law, which does nothing when it runs. What stands where the run from a state of a trial's run is, stands where that run

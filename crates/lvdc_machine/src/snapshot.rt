@@ -1,4 +1,5 @@
 ghost use Rattle.std.specs.Prelude.{◌≡◌, ℕ, ◌%◌, ◌≤◌, ◌<◌, List, All, length, IfOk, Option, None};
+ghost use Rattle.lvdc_map.specs.Address.{IsAddress};
 ghost use Rattle.lvdc_map.specs.Memory.{Memory, AllThere};
 ghost use Rattle.lvdc_port.specs.Device as device;
 ghost use Rattle.lvdc_twin.specs.Cells.{AreHeld};
@@ -55,6 +56,7 @@ impl Machine {
         ensures whole { self.now.mode ≡ Guarded → IfOk result IsWhole }
         ensures banks { IfOk result (λ s. s.banks ≡ self.now.banks) }
         ensures steps { IfOk result (λ s. s.steps ≡ self.now.steps) }
+        ensures addresses { IfOk result (λ s. All (λ placed. IsAddress placed.at) s.words) }
     {
         let (latches, differed) = logic_lists(alloc, &self.logic)?;
         let (selected, cells, words) = memory_lists(alloc, &self.memory)?;

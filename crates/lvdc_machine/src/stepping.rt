@@ -8,7 +8,6 @@ ghost use Rattle.lvdc_port.specs.declared.requests.PortRequest.TheVariants as re
 ghost use Rattle.lvdc_modules.specs.Wish.{wish, IsThereFor};
 ghost use Rattle.lvdc_plain.specs.Lists.{Since, AreFit};
 ghost use Rattle.lvdc_machine.specs.Calls.{Leaves};
-ghost use Rattle.lvdc_fault.specs.Activity.{Stays};
 ghost use Rattle.lvdc_fault.specs.Script.{two_wrong};
 ghost use Rattle.lvdc_fault.specs.declared.verdict.Verdict.{Verdict};
 ghost use Rattle.lvdc_fault.specs.declared.verdict.Verdict.TheVariants.{Admissible};
@@ -32,10 +31,10 @@ ghost use Rattle.lvdc_machine.specs.View.{bus_of_votes, answer_of_end, outcome_o
 use crate::answers::answer;
 use crate::kept_end::KeptEnd;
 use crate::made::Made;
+use crate::memory_events::begin_memory;
 use crate::notes::note;
 use crate::{Machine, Mode, Order};
-use lvdc_fault::{Verdict, WrongCopies, none_wrong, same_actives};
-use lvdc_logic::{InForce, in_force_stays};
+use lvdc_fault::{Verdict, none_wrong};
 use lvdc_map::Address;
 use lvdc_model::{Outcome, Repair};
 use lvdc_modules::{Bus, Wanted, wish};
@@ -124,39 +123,18 @@ impl Machine {
         }
     }
 
-    /// Damages cells, and puts in force what is stuck and dead in this step, and what acts on the copies. Where the same events are
-    /// active as in the step before, there is nothing to do.
+    /// Damages cells, and puts in force what is stuck and dead in this step, and what acts on the copies. Where no event begins or has
+    /// ended with it, there is nothing to do.
     fn begin(&mut self)
         ensures { HasBegun self.old self.new }
     {
-        if self.script.stays(self.steps, &self.active) {
-            self.go_on();
-        } else {
-            self.change();
-        }
-    }
-
-    /// Begins a step in which the same events are active as in the step before.
-    fn go_on(&mut self)
-        requires { Stays self.old.script self.old.active self.old.steps }
-        ensures { HasBegun self.old self.new }
-    {
-        same_actives(&self.script, self.steps - 1);
-        in_force_stays(&self.script, self.steps - 1);
-        self.memory.stays(&self.script, self.steps - 1);
-        self.script.active(self.steps, &mut self.active);
-    }
-
-    /// Begins a step in which other events are active than in the step before.
-    fn change(&mut self)
-        ensures { HasBegun self.old self.new }
-    {
-        self.memory.release(&self.script, &self.active);
-        self.script.active(self.steps, &mut self.active);
-        self.memory.begin(&self.script, &self.active, self.steps);
-        self.force = InForce::of_active(&self.script, &self.active, self.steps);
-        self.wrong_copies = WrongCopies::of_active(&self.script, &self.active, self.steps);
-        self.wrong = self.wrong_copies.lowest_module();
+        self.forces.go_to(&self.script, self.steps);
+        begin_memory(
+            &self.on_memory,
+            self.steps,
+            &mut self.active,
+            &mut self.memory,
+        );
     }
 
     /// The exchange that the votes wish for.
@@ -198,7 +176,7 @@ impl Machine {
         ensures right { result ≡ Admissible → two_wrong self.now.script self.now.steps 1 ≡ false }
     {
         none_wrong();
-        match self.wrong {
+        match self.forces.wrong_module() {
             Some(number) => Verdict::Logic {
                 step: self.steps,
                 module: number,
@@ -241,7 +219,7 @@ impl Machine {
             port: brought.port,
             ..self.bus
         };
-        self.logic.step_under(order, &self.force, &voted);
+        self.logic.step_under(order, self.forces.in_force(), &voted);
         self.bus = self.logic.bus(Word::ZERO, Word::ZERO);
         self.end = stop_of(self.bus.exchange.stop, self.steps);
         self.steps += 1;

@@ -143,7 +143,7 @@ impl Machine {
         requires last_copy { copy ≤ 3 }
         ensures { (step : ℕ) → self.now.active.last ≡ Some step → result ≡ is_wrong self.now.script step number copy }
     {
-        self.wrong_copies.has(number, copy)
+        self.forces.has(number, copy)
     }
 
     /// Is an instruction time left for which nothing is fetched, by the voted HOLD?

@@ -54,7 +54,7 @@ pieces piece p (text ∷ texts) = and_then (piece p text) (λ q. pieces piece q 
 
 -- ---- calls
 
--- a call has no label and at most nine arguments
+-- is a call wrong? One that is right has no label and at most nine arguments
 abbrev pub is_wrong_call : Bool → List ℕ → Bool
 is_wrong_call labelled operand = labelled || nat_lt most_arguments (length (arguments_of operand))
 

@@ -17,7 +17,7 @@ pub record IsAddress (at : Spot) : Type 0 where
 abbrev pub is_same : Spot → Spot → Bool
 is_same a b = a.pair == b.pair && a.sector == b.sector && a.loc == b.loc
 
--- the place of an address in the order of all
+-- the number of an address in the order of all
 abbrev pub number_of : Spot → ℕ
 number_of at = at.pair * 4096 + at.sector * 256 + at.loc
 

@@ -4,7 +4,8 @@ use Rattle.lvdc_word.specs.Word.{bit_of, upper, lower}
 use Rattle.lvdc_map.specs.Address.{Spot}
 use Rattle.lvdc_map.specs.Banks.{bank_of}
 
--- the fields: instruction module, sector, syllable and location, data module and sector, and the two DUP bits
+-- the fields: instruction module, sector, syllable and location, data module and sector, and the two DUP bits, which are
+-- kept and change nothing
 pub record HopConstant : Type 0 where
   pub imod : ℕ
   pub isec : ℕ

@@ -26,7 +26,7 @@ operand_kind address =
 abbrev pub data_sector : HopConstant → ℕ → ℕ
 data_sector h address = if a9 address then 15 else h.dsec
 
--- the location of the data bank that an operand address means
+-- the address in the data bank that an operand address means
 abbrev pub data_spot : ℕ → HopConstant → ℕ → Spot
 data_spot banks h address = record { pair = bank_of banks h.dmod; sector = data_sector h address; loc = low_bits address }
 

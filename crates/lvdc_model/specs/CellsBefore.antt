@@ -10,7 +10,7 @@ use Rattle.lvdc_plain.specs.Accesses.{Store}
 use Rattle.lvdc_fault.specs.Damage.{damaged, is_dead, shown_of}
 use Rattle.lvdc_model.specs.Trial.{Trial, plain_in, read_at, store_at}
 
--- is it this address?
+-- is what is read, if anything is, at this address?
 abbrev pub reads_it : Option Spot → Spot → Bool
 reads_it None at = false
 reads_it (Some spot) at = is_same at spot
@@ -47,7 +47,7 @@ overwritten o step twin at (Some s) cell =
 abbrev pub cell_after : Trial → ℕ → ℕ → Spot → ℕ → ℕ
 cell_after o step twin at cell = overwritten o step twin at (store_at o step) (mended o step twin at (damaged_at o step twin at cell))
 
--- the cell that a twin stores at an address before a step
+-- the cell that a twin stores at an address before a step; of a simplex pair only the twin that holds the address is asked
 abbrev pub cell_before : Trial → ℕ → Spot → ℕ → ℕ
 cell_before o twin at zero = code_of (word_at (memory_of o.opening.image) at)
 cell_before o twin at (suc step) = cell_after o step twin at (cell_before o twin at step)

@@ -11,7 +11,7 @@ use Rattle.lvdc_fault.specs.declared.verdict.Verdict.TheVariants.{Admissible, Lo
 use Rattle.lvdc_model.specs.Trial.{Trial, plain_in, read_at}
 use Rattle.lvdc_model.specs.CellsBefore.{cell_before, shown_at, shown_with}
 
--- the plain run's word of an address can be recovered in a step
+-- the plain run's word of an address can be recovered in a step, once the damage of the step is done
 abbrev pub is_recoverable : Trial → ℕ → Spot → Bool
 is_recoverable o step at = is_recovered o.opening.banks at (word_at (plain_in o step).memory at) (λ twin. shown_at o twin at step)
 
@@ -44,12 +44,12 @@ abbrev pub first_bad_below : Trial → ℕ → Verdict
 first_bad_below o zero = Admissible
 first_bad_below o (suc step) = or_else (first_bad_below o step) (if is_begun o step then judged o step else Admissible)
 
--- the same for so many whole times
+-- the verdict of the first such step of so many whole times
 abbrev pub first_bad : Trial → ℕ → Verdict
 first_bad o times = first_bad_below o (3 * times)
 
--- the same of the word after so many whole steps, with what was stuck and dead in the last one; where none was made, all
--- words are there
+-- the plain run's word of an address can be recovered after so many whole steps, with what was stuck and dead in the last one;
+-- where none was made, all words are there
 abbrev pub is_recoverable_after : Trial → ℕ → Spot → Bool
 is_recoverable_after o zero at = true
 is_recoverable_after o (suc step) at =

@@ -19,7 +19,7 @@ pub record Trial : Type 0 where
 abbrev pub plain_at : Trial → ℕ → PlainState
 plain_at o k = (run o.opening k).plain
 
--- the plain state of the time in which a step lies: a time has three steps
+-- the plain state with which the time of a step begins: a time has three steps
 abbrev pub plain_in : Trial → ℕ → PlainState
 plain_in o step = plain_at o (step / 3)
 
@@ -31,8 +31,8 @@ plugged_at unplugs step devices = plugged unplugs (step / 3) devices
 abbrev pub devices_left : List Unplug → ℕ → List Device → List Device
 devices_left unplugs step devices = if step % 3 == 0 then plugged_at unplugs step devices else devices
 
--- the devices of the plain run in a step that is begun: those after the whole times before it, without those that are taken away
--- at its time
+-- the devices of the plain run in a step that is begun: those after the whole times before it, of which none was asked in its time
+-- yet, without those that are taken away at its time
 abbrev pub plugged_in : Trial → ℕ → List Device
 plugged_in o step = plugged_at o.opening.unplugs step (run o.opening (step / 3)).devices
 

@@ -61,7 +61,7 @@ multiply_phase u =
 
 -- ---- one phase of a divide
 
--- CONTROL with the signs noted: NEG where one of H and M is negative, SAT where H is not below M in magnitude
+-- CONTROL with the signs noted: NEG where exactly one of H and M is negative, SAT where H is not below M in magnitude
 abbrev pub signs_noted : Latches → Control
 signs_noted u =
     record (counted_down (control_of u.control)) {

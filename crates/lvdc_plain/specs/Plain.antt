@@ -9,7 +9,7 @@ use Rattle.lvdc_plain.specs.declared.records.Exchange.{Exchange}
 use Rattle.lvdc_plain.specs.declared.records.Pending.{Pending}
 use Rattle.lvdc_plain.specs.declared.records.Stop.{Stop}
 
--- which banks are there, the place and data place, the registers, what is pending, the times left to hold, the memory,
+-- which pairs of banks are simplex, the place and data place, the registers, what is pending, the times left to hold, the memory,
 -- the port log, the instruction times made, and why it stopped
 pub record PlainState : Type 0 where
   pub banks : ℕ

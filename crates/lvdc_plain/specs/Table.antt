@@ -34,7 +34,7 @@ fetched_instr p = instr (syllable_at p.place (memory.word_at p.memory (fetch_of 
 abbrev pub operand_place : PlainState → ℕ → Place
 operand_place p address = place_of p.banks p.place address
 
--- the word at a place; a word of the saver is read as memory
+-- the word at a place; a word of the saver, one of the two at which STO keeps it, is read as memory
 abbrev pub word_of_place : PlainState → Place → ℕ
 word_of_place p (Memory at) = memory.word_at p.memory at
 word_of_place p Pq = p.pq
@@ -128,7 +128,7 @@ abbrev pub later : Option Pending → Option Pending
 later None = None
 later (Some r) = if r.left == 1 then None else Some (record r { left = r.left - 1 })
 
--- a result of this many times
+-- a result that lands after this many times, and whether A takes it too
 abbrev pub issues : ℕ → ℕ → Bool → Option Pending
 issues left result to_a = Some (record { left = left; result = result; to_a = to_a })
 
@@ -165,7 +165,8 @@ logged _ p address m = p.log
 
 -- ---- one instruction time
 
--- an instruction is made, which takes the word m: its effect, then the landing, then what it issues
+-- an instruction is made, which takes the word m: its effect, then the landing, then what it issues (a result for A
+-- lands in a time that is held)
 abbrev pub makes : Instr → PlainState → ℕ → PlainState
 makes i p m =
     record (effect i.op p i.address m) {
@@ -201,6 +202,6 @@ step_by (Some s) hold p devices = record { plain = p; devices = devices }
 step_by None (suc hold) p devices = record { plain = waits hold p; devices = devices }
 step_by None zero p devices = executes (fetched_instr p) p devices
 
--- one instruction time
+-- one instruction time, which is three steps of a trial
 abbrev pub step : PlainState → List Device → World
 step p devices = step_by p.stop p.hold p devices

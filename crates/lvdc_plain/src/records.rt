@@ -46,7 +46,7 @@ pub struct Pending {
     pub to_a: bool,
 }
 
-/// How a call of the plain machine ended. A step is three times the instruction time, and 2.
+/// How a call of the plain machine ended. The number of a step is 3t + 2, for the instruction time t.
 #[derive(Clone, Copy, Debug, PartialEq, Eq)]
 pub enum PlainEnd {
     /// All times asked for were made.

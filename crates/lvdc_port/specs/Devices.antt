@@ -44,7 +44,7 @@ has_port device_of port [] = false
 has_port device_of port (device ∷ devices) =
     if (device_of device).port == port then true else has_port device_of port devices
 
--- a number of the device at this port, as its count of faults; 0 where there is no device
+-- a number of the device at this port, such as its count of faults; 0 where there is no device
 abbrev pub count_at : {B : Type 0} → (B → Device) → (B → ℕ) → ℕ → List B → ℕ
 count_at device_of count port [] = 0
 count_at device_of count port (device ∷ devices) =

@@ -32,7 +32,7 @@ pub record IsSuppliedInPart (supplies : List Supply) (old new : List Device) : T
   pub tape : kind_at (λ device. device) next.port new ≡ Some Tape
   pub devices : new ≡ supplied (take count supplies) old
 
--- the ports of devices, and their kinds
+-- the ports of devices
 abbrev pub ports_of : List Device → List ℕ
 ports_of devices = map (λ device. device.port) devices
 

@@ -77,7 +77,7 @@ pub trait PortDevice: Drop {
         // What the device holds are words, numbers below 2^26.
         ensures words { AreWords (device_of self.new).state };
 
-    /// Answers a word. The time is the number of the instruction, from 0, modulo 2^26.
+    /// Answers a word. The time is the number of the instruction time, from 0, modulo 2^26.
     fn read(&mut self, time: Word) -> Result<Word, Failed>
         ensures word { IfOk result (λ word. word ≡ read_word (device_of self.old) time) }
         ensures ok { OnOk result (device_of self.new ≡ after_read (device_of self.old)) }
@@ -85,7 +85,7 @@ pub trait PortDevice: Drop {
         ensures spare { spare self.new ≡ spare self.old }
         ensures cause { HasCause (faults self.old) (faults self.new) result };
 
-    /// Takes a word. The time is the number of the instruction, from 0, modulo 2^26.
+    /// Takes a word. The time is the number of the instruction time, from 0, modulo 2^26.
     fn write(&mut self, time: Word, word: Word) -> Result<(), Failed>
         requires { 1 ≤ spare self.old }
         ensures ok { OnOk result (device_of self.new ≡ after_write (device_of self.old) word) }

@@ -5,7 +5,6 @@ use Rattle.lvdc_campaign.specs.Same.{are_same_below}
 use Rattle.lvdc_campaign_deck.specs.Campaign.{from_campaign}
 use Rattle.lvdc_campaign_deck.specs.Scripts.{scripts_from}
 use Rattle.lvdc_command_campaign.specs.Answers.{study_answer}
-use Rattle.lvdc_command_campaign.specs.Texts.{admissible_in, same_in}
 use Rattle.lvdc_deck.specs.Deck.{commands_from, told_from, deck_from}
 use Rattle.lvdc_image.specs.Reading.{entry_in, words_from as words_told, banks_named, banks_in, image_of}
 use Rattle.lvdc_report.specs.Report.{lines_of, lines_below}
@@ -21,76 +20,76 @@ use Rattle.lvdc_reply.specs.Answer.{answer_with}
 -- one script that is admissible, one that is not and comes to something else, one that is not and comes to the same
 three_scripts : study_answer (codes "IMAGE\nLVDC 1\n0 00 000 000017000\n0 00 001 000007001\n0 00 002 000013002\n0 00 003 000010003\n0 01 000 177777777\n0 01 001 000000001\nEND\nRUN 3\nCAMPAIGN\nSCRIPT A\nFLIP 5 1 3 3 0 1\nSCRIPT B\nFLIP 3 1 4 4 0 1000\nFLIP 3 2 4 4 0 1000\nSCRIPT C\nLAG 5 1 0 0\nLAG 5 2 0 0\n") []
     ≡ answer_with 0 (codes "SCRIPT A ADMISSIBLE SAME\nSCRIPT B LOGIC 4 3 DIFFERS\nSCRIPT C LOGIC 0 5 SAME\nCAMPAIGN 3 ADMISSIBLE 1 SAME 2\n") []
-unfolding lines_from words_from octal_text word_in commands_from told_from deck_from entry_in words_told banks_named banks_in image_of step_in twin_in pair_in cell_in module_copy_in index_in span_in place_in is_name with_stuck majority flipped forced lines_of lines_below digits from_campaign scripts_from admissible_in same_in are_same_below
+unfolding lines_from words_from octal_text word_in commands_from told_from deck_from entry_in words_told banks_named banks_in image_of step_in twin_in pair_in cell_in module_copy_in index_in span_in place_in is_name with_stuck majority flipped forced lines_of lines_below digits from_campaign scripts_from are_same_below
 three_scripts = refl
 
 -- a lost word, and an unread one
 words : study_answer (codes "IMAGE\nLVDC 1\n0 00 000 000017000\n0 00 001 000007001\n0 00 002 000013002\n0 00 003 000010003\n0 01 000 177777777\n0 01 001 000000001\nEND\nRUN 2\nCAMPAIGN\nSCRIPT BOTH\nDAMAGE 0 0 01 000 0 1\nDAMAGE 1 0 01 000 0 1\nSCRIPT UNREAD\nDAMAGE 0 0 01 007 0 3\n") []
     ≡ answer_with 0 (codes "SCRIPT BOTH MEMORY 1 0 01 000 DIFFERS\nSCRIPT UNREAD ADMISSIBLE SAME\nCAMPAIGN 2 ADMISSIBLE 1 SAME 1\n") []
-unfolding lines_from words_from octal_text word_in commands_from told_from deck_from entry_in words_told banks_named banks_in image_of step_in twin_in pair_in cell_in module_copy_in index_in span_in place_in is_name with_stuck majority flipped forced lines_of lines_below digits from_campaign scripts_from admissible_in same_in are_same_below
+unfolding lines_from words_from octal_text word_in commands_from told_from deck_from entry_in words_told banks_named banks_in image_of step_in twin_in pair_in cell_in module_copy_in index_in span_in place_in is_name with_stuck majority flipped forced lines_of lines_below digits from_campaign scripts_from are_same_below
 words = refl
 
 -- no script
 none : study_answer (codes "IMAGE\nLVDC 1\n0 00 000 000010000\nEND\nRUN 2\nCAMPAIGN\n") []
     ≡ answer_with 0 (codes "CAMPAIGN 0 ADMISSIBLE 0 SAME 0\n") []
-unfolding lines_from words_from octal_text word_in commands_from told_from deck_from entry_in words_told banks_named banks_in image_of step_in twin_in pair_in cell_in module_copy_in index_in span_in place_in is_name with_stuck majority flipped forced lines_of lines_below digits from_campaign scripts_from admissible_in same_in are_same_below
+unfolding lines_from words_from octal_text word_in commands_from told_from deck_from entry_in words_told banks_named banks_in image_of step_in twin_in pair_in cell_in module_copy_in index_in span_in place_in is_name with_stuck majority flipped forced lines_of lines_below digits from_campaign scripts_from are_same_below
 none = refl
 
 -- a comment of 120 bytes, and one of 121
 long_comment : study_answer (codes "IMAGE\nLVDC 1\n0 00 000 000010000\nEND\nRUN 2\nCAMPAIGN\n* XXXXXXXXXXXXXXXXXXXXXXXXXXXXXXXXXXXXXXXXXXXXXXXXXXXXXXXXXXXXXXXXXXXXXXXXXXXXXXXXXXXXXXXXXXXXXXXXXXXXXXXXXXXXXXXXXXXXXX\nSCRIPT A\n") []
     ≡ answer_with 0 (codes "SCRIPT A ADMISSIBLE SAME\nCAMPAIGN 1 ADMISSIBLE 1 SAME 1\n") []
-unfolding lines_from words_from octal_text word_in commands_from told_from deck_from entry_in words_told banks_named banks_in image_of step_in twin_in pair_in cell_in module_copy_in index_in span_in place_in is_name with_stuck majority flipped forced lines_of lines_below digits from_campaign scripts_from admissible_in same_in are_same_below
+unfolding lines_from words_from octal_text word_in commands_from told_from deck_from entry_in words_told banks_named banks_in image_of step_in twin_in pair_in cell_in module_copy_in index_in span_in place_in is_name with_stuck majority flipped forced lines_of lines_below digits from_campaign scripts_from are_same_below
 long_comment = refl
 
 too_long_comment : study_answer (codes "IMAGE\nLVDC 1\n0 00 000 000010000\nEND\nRUN 2\nCAMPAIGN\nSCRIPT A\n* XXXXXXXXXXXXXXXXXXXXXXXXXXXXXXXXXXXXXXXXXXXXXXXXXXXXXXXXXXXXXXXXXXXXXXXXXXXXXXXXXXXXXXXXXXXXXXXXXXXXXXXXXXXXXXXXXXXXXXX\n") []
     ≡ answer_with 2 (codes "REFUSED BadLine 8\n") []
-unfolding lines_from words_from octal_text word_in commands_from told_from deck_from entry_in words_told banks_named banks_in image_of step_in twin_in pair_in cell_in module_copy_in index_in span_in place_in is_name with_stuck majority flipped forced lines_of lines_below digits from_campaign scripts_from admissible_in same_in are_same_below
+unfolding lines_from words_from octal_text word_in commands_from told_from deck_from entry_in words_told banks_named banks_in image_of step_in twin_in pair_in cell_in module_copy_in index_in span_in place_in is_name with_stuck majority flipped forced lines_of lines_below digits from_campaign scripts_from are_same_below
 too_long_comment = refl
 
 -- a fault before the first script, a name again, and no name
 no_script : study_answer (codes "IMAGE\nLVDC 1\n0 00 000 000010000\nEND\nRUN 2\nCAMPAIGN\nLAG 1 1 0 0\n") []
     ≡ answer_with 2 (codes "REFUSED BadLine 7\n") []
-unfolding lines_from words_from octal_text word_in commands_from told_from deck_from entry_in words_told banks_named banks_in image_of step_in twin_in pair_in cell_in module_copy_in index_in span_in place_in is_name with_stuck majority flipped forced lines_of lines_below digits from_campaign scripts_from admissible_in same_in are_same_below
+unfolding lines_from words_from octal_text word_in commands_from told_from deck_from entry_in words_told banks_named banks_in image_of step_in twin_in pair_in cell_in module_copy_in index_in span_in place_in is_name with_stuck majority flipped forced lines_of lines_below digits from_campaign scripts_from are_same_below
 no_script = refl
 
 name_again : study_answer (codes "IMAGE\nLVDC 1\n0 00 000 000010000\nEND\nRUN 2\nCAMPAIGN\nSCRIPT A\nLAG 1 1 0 0\nSCRIPT B\nSCRIPT A\n") []
     ≡ answer_with 2 (codes "REFUSED BadLine 10\n") []
-unfolding lines_from words_from octal_text word_in commands_from told_from deck_from entry_in words_told banks_named banks_in image_of step_in twin_in pair_in cell_in module_copy_in index_in span_in place_in is_name with_stuck majority flipped forced lines_of lines_below digits from_campaign scripts_from admissible_in same_in are_same_below
+unfolding lines_from words_from octal_text word_in commands_from told_from deck_from entry_in words_told banks_named banks_in image_of step_in twin_in pair_in cell_in module_copy_in index_in span_in place_in is_name with_stuck majority flipped forced lines_of lines_below digits from_campaign scripts_from are_same_below
 name_again = refl
 
 no_name : study_answer (codes "IMAGE\nLVDC 1\n0 00 000 000010000\nEND\nRUN 2\nCAMPAIGN\nSCRIPT A B\n") []
     ≡ answer_with 2 (codes "REFUSED BadLine 7\n") []
-unfolding lines_from words_from octal_text word_in commands_from told_from deck_from entry_in words_told banks_named banks_in image_of step_in twin_in pair_in cell_in module_copy_in index_in span_in place_in is_name with_stuck majority flipped forced lines_of lines_below digits from_campaign scripts_from admissible_in same_in are_same_below
+unfolding lines_from words_from octal_text word_in commands_from told_from deck_from entry_in words_told banks_named banks_in image_of step_in twin_in pair_in cell_in module_copy_in index_in span_in place_in is_name with_stuck majority flipped forced lines_of lines_below digits from_campaign scripts_from are_same_below
 no_name = refl
 
 no_fault_line : study_answer (codes "IMAGE\nLVDC 1\n0 00 000 000010000\nEND\nRUN 2\nCAMPAIGN\nSCRIPT A\nLAG 8 1 0 0\n") []
     ≡ answer_with 2 (codes "REFUSED BadLine 8\n") []
-unfolding lines_from words_from octal_text word_in commands_from told_from deck_from entry_in words_told banks_named banks_in image_of step_in twin_in pair_in cell_in module_copy_in index_in span_in place_in is_name with_stuck majority flipped forced lines_of lines_below digits from_campaign scripts_from admissible_in same_in are_same_below
+unfolding lines_from words_from octal_text word_in commands_from told_from deck_from entry_in words_told banks_named banks_in image_of step_in twin_in pair_in cell_in module_copy_in index_in span_in place_in is_name with_stuck majority flipped forced lines_of lines_below digits from_campaign scripts_from are_same_below
 no_fault_line = refl
 
 -- ten thousand times, and one more; that comes before the scripts, and a section before it
 too_many_times : study_answer (codes "IMAGE\nLVDC 1\n0 00 000 000010000\nEND\nRUN 10001\nCAMPAIGN\nFLY\n") []
     ≡ answer_with 2 (codes "REFUSED CountTooLarge 5\n") []
-unfolding lines_from words_from octal_text word_in commands_from told_from deck_from entry_in words_told banks_named banks_in image_of step_in twin_in pair_in cell_in module_copy_in index_in span_in place_in is_name with_stuck majority flipped forced lines_of lines_below digits from_campaign scripts_from admissible_in same_in are_same_below
+unfolding lines_from words_from octal_text word_in commands_from told_from deck_from entry_in words_told banks_named banks_in image_of step_in twin_in pair_in cell_in module_copy_in index_in span_in place_in is_name with_stuck majority flipped forced lines_of lines_below digits from_campaign scripts_from are_same_below
 too_many_times = refl
 
 section_first : study_answer (codes "IMAGE\nLVDC 1\n0 00 000 000010000\nEND\nFAULTS\nLAG 1 1 0 0\nRUN 10001\nCAMPAIGN\nFLY\n") []
     ≡ answer_with 2 (codes "REFUSED BadSection 5\n") []
-unfolding lines_from words_from octal_text word_in commands_from told_from deck_from entry_in words_told banks_named banks_in image_of step_in twin_in pair_in cell_in module_copy_in index_in span_in place_in is_name with_stuck majority flipped forced lines_of lines_below digits from_campaign scripts_from admissible_in same_in are_same_below
+unfolding lines_from words_from octal_text word_in commands_from told_from deck_from entry_in words_told banks_named banks_in image_of step_in twin_in pair_in cell_in module_copy_in index_in span_in place_in is_name with_stuck majority flipped forced lines_of lines_below digits from_campaign scripts_from are_same_below
 section_first = refl
 
 no_campaign : study_answer (codes "IMAGE\nLVDC 1\n0 00 000 000010000\nEND\nRUN 2\n") []
     ≡ answer_with 2 (codes "REFUSED BadSection 6\n") []
-unfolding lines_from words_from octal_text word_in commands_from told_from deck_from entry_in words_told banks_named banks_in image_of step_in twin_in pair_in cell_in module_copy_in index_in span_in place_in is_name with_stuck majority flipped forced lines_of lines_below digits from_campaign scripts_from admissible_in same_in are_same_below
+unfolding lines_from words_from octal_text word_in commands_from told_from deck_from entry_in words_told banks_named banks_in image_of step_in twin_in pair_in cell_in module_copy_in index_in span_in place_in is_name with_stuck majority flipped forced lines_of lines_below digits from_campaign scripts_from are_same_below
 no_campaign = refl
 
 -- a refusal of the deck has its own status: of its image 4, else 2
 bad_image : study_answer (codes "IMAGE\nLVDC 3\nEND\nRUN 2\nCAMPAIGN\n") []
     ≡ answer_with 4 (codes "REFUSED BadImageLine 2\n") []
-unfolding lines_from words_from octal_text word_in commands_from told_from deck_from entry_in words_told banks_named banks_in image_of step_in twin_in pair_in cell_in module_copy_in index_in span_in place_in is_name with_stuck majority flipped forced lines_of lines_below digits from_campaign scripts_from admissible_in same_in are_same_below
+unfolding lines_from words_from octal_text word_in commands_from told_from deck_from entry_in words_told banks_named banks_in image_of step_in twin_in pair_in cell_in module_copy_in index_in span_in place_in is_name with_stuck majority flipped forced lines_of lines_below digits from_campaign scripts_from are_same_below
 bad_image = refl
 
 no_program : study_answer (codes "RUN 2\nCAMPAIGN\n") []
     ≡ answer_with 2 (codes "REFUSED NoProgram 1\n") []
-unfolding lines_from words_from octal_text word_in commands_from told_from deck_from entry_in words_told banks_named banks_in image_of step_in twin_in pair_in cell_in module_copy_in index_in span_in place_in is_name with_stuck majority flipped forced lines_of lines_below digits from_campaign scripts_from admissible_in same_in are_same_below
+unfolding lines_from words_from octal_text word_in commands_from told_from deck_from entry_in words_told banks_named banks_in image_of step_in twin_in pair_in cell_in module_copy_in index_in span_in place_in is_name with_stuck majority flipped forced lines_of lines_below digits from_campaign scripts_from are_same_below
 no_program = refl

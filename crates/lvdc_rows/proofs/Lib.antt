@@ -1,8 +1,10 @@
 mod CampaignRows
 mod DeckRows
+mod DeviceLineRows
 mod LoadRows
 mod MacroRows
 mod ResumeRows
+mod RunRows
 mod SaveRows
 mod SessionRows
 mod SourceRows

@@ -5,5 +5,4 @@ mod Judged
 mod Making
 mod Parts
 mod Rowing
-mod LimitRows
 mod Studying

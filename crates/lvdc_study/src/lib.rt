@@ -22,6 +22,3 @@ pub use row::Row;
 pub use runs::run_plain;
 pub use scripts::study_scripts;
 pub use study::study_script;
-
-/// The most instruction times of a run (this project's profile).
-pub const MOST_TIMES: u64 = 1_000_000;

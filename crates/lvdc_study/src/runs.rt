@@ -3,7 +3,7 @@
 ghost use Rattle.std.specs.Prelude.{◌≡◌, ◌≤◌, length, map, All, IfOk, IfErr, MatchOption};
 ghost use Rattle.lvdc_fault.specs.Events.{IsEvent};
 ghost use Rattle.lvdc_port.specs.Devices.{AreDistinct};
-ghost use Rattle.lvdc_campaign.specs.declared.TheConstants.{MOST_EVENTS};
+ghost use Rattle.lvdc_fault.specs.declared.TheConstants.{MOST_EVENTS};
 ghost use Rattle.lvdc_campaign.specs.Campaign.{trial_under};
 ghost use Rattle.lvdc_campaign.specs.Ran.{HasRun, HasRunPlainly, NoneFailed, NonePlainlyFailed};
 ghost use Rattle.lvdc_study.specs.Failures.{HasFailed, FailsUnder, FailsPlainly, EndsIn, EndsPlainlyIn};

@@ -5,7 +5,7 @@ ghost use Rattle.lvdc_fault.specs.Events.{IsEvent};
 
 use crate::same::same;
 use lvdc_fault::{Event, Script, Verdict};
-use lvdc_machine::{Machine, Mode, Orders, Outcome};
+use lvdc_machine::{Machine, Mode, Orders, Outcome, Shown};
 use lvdc_map::{Address, Banks, Hop, Placed};
 use lvdc_port::PortDevice;
 use lvdc_word::{Cell, Word};
@@ -101,8 +101,8 @@ fn the_modules_of_a_simplex_pair_hold_words_of_their_own(rt: HostRuntime) -> Res
     Ok(())
 }
 
-/// How a run in a simplex pair ends whose first word was damaged in a twin.
-fn end_of_a_load(alloc: Global, twin: u8) -> Result<Option<Outcome>, Fail>
+/// A run of one time in a simplex pair, which loads the first word of module 0; before it that place was damaged in a twin.
+fn damaged_load(alloc: Global, twin: u8) -> Result<Machine, Fail>
     requires { twin < 2 }
 {
     let banks = Banks::new(1).ok_or("pair 0 alone")?;
@@ -118,7 +118,7 @@ fn end_of_a_load(alloc: Global, twin: u8) -> Result<Option<Outcome>, Fail>
         step: 0,
         mask: Cell::within(1),
     })?;
-    Ok(run(alloc, &image, banks, script, 1)?.ended())
+    run(alloc, &image, banks, script, 1)
 }
 
 #[test]
@@ -127,7 +127,27 @@ fn damage_in_a_simplex_pair_has_no_twin_to_be_repaired_from(rt: HostRuntime) -> 
         step: 1,
         address: FIRST,
     });
-    same(&rt, end_of_a_load(rt.alloc(), 0)?, Some(refused));
-    same(&rt, end_of_a_load(rt.alloc(), 1)?, None);
+    same(&rt, damaged_load(rt.alloc(), 0)?.ended(), Some(refused));
+    same(&rt, damaged_load(rt.alloc(), 1)?.ended(), None);
+    Ok(())
+}
+
+/// What is shown of that place in a bank, where that is there.
+fn shown_in(machine: &Machine, bank: u8) -> Result<Option<Shown>, Fail> {
+    let at = Address::new(bank, 1, 0).ok_or("a bank")?;
+    if machine.banks().has(at) {
+        Ok(Some(machine.shown(at)))
+    } else {
+        Ok(None)
+    }
+}
+
+/// Twin 1 of a simplex pair holds the odd module, here without a word at the place.
+#[test]
+fn a_damaged_word_of_the_odd_module_is_not_known(rt: HostRuntime) -> Result<(), Fail> {
+    let machine = damaged_load(rt.alloc(), 1)?;
+    let five = Shown::Known(Word::within(5));
+    same(&rt, shown_in(&machine, 0)?, Some(five));
+    same(&rt, shown_in(&machine, 4)?, Some(Shown::Unknown));
     Ok(())
 }

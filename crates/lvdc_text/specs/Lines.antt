@@ -1,4 +1,4 @@
--- How bytes fall into lines and into words.
+-- How bytes fall into lines, and lines into words, which other texts call tokens.
 use Rattle.std.specs.Prelude.{ℕ, ◌+◌, ◌≤◌, nat_lt, length, map, drop, slice_range, Bool, true, ◌||◌, ◌==◌, not, List, [], ◌∷◌, if◌then◌else◌}
 use Rattle.std.specs.List.{slice_split, filter, list_all}
 use Rattle.std.specs.Str.Lines.{strip_carriage_return, lines_of_parts}

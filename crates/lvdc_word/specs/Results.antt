@@ -15,7 +15,8 @@ product a m = word_of (int_div_euclid (fraction a *ℤ fraction m) (pos (2 ^ 21)
 abbrev pub with_sign : Bool → ℕ → ℤ
 with_sign negative n = if negative then neg_ℤ (pos n) else pos n
 
--- the quotient of two fractions, a below m in magnitude: that of the magnitudes over 2 ^ 23, rounded down, with its sign, times 4
+-- the quotient of two fractions, a below m in magnitude: 2 ^ 23 times the magnitude of a by that of m, rounded down, with its sign,
+-- times 4
 abbrev pub proper_quotient : ℤ → ℤ → Bool → ℕ
 proper_quotient a m negative = word_of (with_sign negative (unsigned_abs a * 2 ^ 23 / unsigned_abs m) *ℤ pos 4)
 
@@ -23,7 +24,7 @@ proper_quotient a m negative = word_of (with_sign negative (unsigned_abs a * 2 ^
 abbrev pub saturated : Bool → ℕ
 saturated negative = if negative then 0o200000000 else 0o177777774
 
--- the quotient of two fractions, or the greatest of its sign where none below 1 is
+-- the quotient of two fractions; where it would be 1 or more in magnitude, the greatest number of its sign
 abbrev pub quotient_of : ℤ → ℤ → Bool → ℕ
 quotient_of a m negative =
     if nat_lt (unsigned_abs a) (unsigned_abs m) then proper_quotient a m negative

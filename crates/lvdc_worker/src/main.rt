@@ -2,7 +2,7 @@
 #![tactic(auto)]
 
 use lvdc_service::{refuse, serve};
-use lvdc_streams::Retried;
+use lvdc_streams::{Retried, keep_memory};
 use lvdc_text::{StdSink, StdSource};
 use std::process::ExitCode;
 use std::{env, io};
@@ -11,6 +11,9 @@ use std::{env, io};
 const NO_MEMORY: u8 = 9;
 
 fn main(rt: HostRuntime) -> ExitCode {
+    if keep_memory(rt.alloc()).is_err() {
+        return ExitCode::from(NO_MEMORY);
+    }
     let mut sink = StdSink::new(Retried::new(io::writer(&rt)));
     match env::args(&rt) {
         Ok(args) => {

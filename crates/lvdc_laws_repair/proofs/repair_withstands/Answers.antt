@@ -11,6 +11,7 @@ returns c o count ok h =
       masked = masked;
       shows = c.guarded_times.ensures o ok count masked.verdict;
       end = c.guarded_ends.ensures.end o ok count masked.verdict;
+      made = c.guarded_ends.ensures.steps o ok count masked.verdict;
       known = λ at bank.
           c.words_known.ensures.made o ok n masked.verdict at bank
           ∙ masked.words_after (guarded o n).steps at (few-steps o n (c.guarded_run.ensures o ok n) masked.verdict) bank;

@@ -1,5 +1,6 @@
 use Rattle.std.proofs.Common.{ℕ, ◌++◌, ◌∙◌, ap, codes, decimal, length, arith, length-append}
-use Rattle.lvdc_command_campaign.specs.Texts.{admissible_in, same_in}
+use Rattle.lvdc_campaign.specs.declared.row.Row.{Row}
+use Rattle.lvdc_command_campaign.specs.Texts.{admits, count_in}
 use Rattle.lvdc_report.proofs.Lines.{onward}
 use Rattle.lvdc_report.proofs.Sizes.{decimal_short}
 use Rattle.lvdc_command_campaign.proofs.text.put_total.Goals as goal
@@ -7,13 +8,15 @@ use Rattle.lvdc_command_campaign.proofs.text.put_total.Goals as goal
 pub returns-clause-line : goal.returns-clause-line
 returns-clause-line c =
     let rows = c.args.rows.now in
+    let admitted = count_in (λ (row : Row). admits row.verdict) rows in
+    let alike = count_in (λ (row : Row). row.same) rows in
     let scripts = codes "CAMPAIGN " ++ decimal (length rows) in
-    let admissible = scripts ++ codes " ADMISSIBLE " ++ decimal (admissible_in rows) in
-    let same = admissible ++ codes " SAME " ++ decimal (same_in rows) in
+    let admissible = scripts ++ codes " ADMISSIBLE " ++ decimal admitted in
+    let same = admissible ++ codes " SAME " ++ decimal alike in
     onward _ same (codes "\n") _ _
-    (onward _ (admissible ++ codes " SAME ") (decimal (same_in rows)) _ _
+    (onward _ (admissible ++ codes " SAME ") (decimal alike) _ _
     (onward _ admissible (codes " SAME ") _ _
-    (onward _ (scripts ++ codes " ADMISSIBLE ") (decimal (admissible_in rows)) _ _
+    (onward _ (scripts ++ codes " ADMISSIBLE ") (decimal admitted) _ _
     (onward _ scripts (codes " ADMISSIBLE ") _ _
     (onward _ (codes "CAMPAIGN ") (decimal (length rows)) _ _ c.in_ok-extend_from_slice.ensures.items c.in_ok-put_decimal.ensures.ok)
     c.in_ok-extend_from_slice-2.ensures.items)

@@ -2,7 +2,8 @@ use Rattle.std.proofs.Common.{ℕ, ◌++◌, ◌∙◌, ap, codes, decimal, leng
 use Rattle.lvdc_report.proofs.Lines.{onward}
 use Rattle.lvdc_report.proofs.Sizes.{decimal_short}
 use Rattle.lvdc_study.specs.declared.row.Row.{Row}
-use Rattle.lvdc_command_study.specs.Texts.{is_admissible, is_same, count_in}
+use Rattle.lvdc_command_campaign.specs.Texts.{count_in}
+use Rattle.lvdc_command_study.specs.Texts.{is_admissible, is_same}
 use Rattle.lvdc_command_study.proofs.text.put_total.Goals as goal
 
 pub returns-clause-line : goal.returns-clause-line

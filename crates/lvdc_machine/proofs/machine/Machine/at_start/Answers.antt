@@ -6,11 +6,11 @@ use Rattle.lvdc_machine.proofs.machine.Machine.at_start.Goals as goal
 pub invariant_of-result : goal.invariant_of-result
 invariant_of-result c = record {
   events = c.requires.events;
+  on_memory = c.in_ok-on_memory.ensures;
   fits = c.in_ok-active.ensures.fits;
-  within = nothing-within c.args.start.script _ c.in_ok-active.ensures.held;
-  force = rw c.in_ok-active.ensures.last tt;
-  copies = rw c.in_ok-active.ensures.last tt;
-  wrong = rw c.in_ok-active.ensures.last tt;
+  within = nothing-within _ _ c.in_ok-active.ensures.held;
+  forces = c.in_ok-forces.ensures;
+  known = rw c.in_ok-active.ensures.last tt;
   differed = c.new-logic.ensures.differed;
   banks = c.in_ok-memory.ensures.banks;
   log = λ own. let none = ap length c.in_ok-log.ensures.log in omega (arith, none);

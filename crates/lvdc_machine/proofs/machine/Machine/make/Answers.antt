@@ -1,5 +1,6 @@
-use Rattle.std.proofs.Common.{◌%◌, refl, arith}
-use Rattle.lvdc_machine.proofs.Judging.{known_force}
+use Rattle.std.proofs.Common.{◌%◌, refl, sym, subst, arith}
+use Rattle.lvdc_logic.specs.InForce.{IsInForce}
+use Rattle.lvdc_machine.proofs.Judging.{known_then}
 use Rattle.lvdc_machine.proofs.Noting.{log-noted, repairs-noted, goes-on}
 use Rattle.lvdc_machine.proofs.Timer.{stays-in-time}
 use Rattle.lvdc_machine.proofs.Making.{log-room, repair-room, begun-made, ends-made, latched-from, shows-made}
@@ -11,14 +12,15 @@ step_under-requires c = record { differed = λ number copy. omega (arith, c.self
 pub invariant_of-self : goal.invariant_of-self
 invariant_of-self c =
     let may = rw (← c.self.view_is) at c.requires.may in
-    let in_force = known_force c.self.inside.script c.self.inside.active.last c.self.inside.steps c.self.inside.force c.self.invariant.force may.begun in
+    let known = known_then c.self.inside.script c.self.inside.active.last c.self.inside.steps c.self.inside.forces.known c.self.invariant.known may.begun in
+    let in_force = subst (IsInForce c.self.inside.script c.self.inside.steps) (sym c.in_force.ensures) known.force in
     record {
       events = c.self.invariant.events;
+      on_memory = c.self.invariant.on_memory;
       fits = c.self.invariant.fits;
       within = c.self.invariant.within;
-      force = c.self.invariant.force;
-      copies = c.self.invariant.copies;
-      wrong = c.self.invariant.wrong;
+      forces = c.self.invariant.forces;
+      known = c.self.invariant.known;
       differed = c.step_under.ensures.differed c.self.inside.steps c.self.invariant.differed;
       banks = c.self.invariant.banks;
       log = λ own. log-room c.self.inside.pace c.self.inside.steps c.self.inside.limit _ _ _ c.args.brought.line (c.self.invariant.log own) may.left
@@ -44,7 +46,8 @@ invariant_of-self c =
 
 pub returns-clause-shows : goal.returns-clause-shows
 returns-clause-shows c = λ o v ds h.
-    let in_force = known_force c.self.inside.script c.self.inside.active.last c.self.inside.steps c.self.inside.force c.self.invariant.force (rw (← c.self.view_is) at c.requires.may).begun in
+    let known = known_then c.self.inside.script c.self.inside.active.last c.self.inside.steps c.self.inside.forces.known c.self.invariant.known (rw (← c.self.view_is) at c.requires.may).begun in
+    let in_force = subst (IsInForce c.self.inside.script c.self.inside.steps) (sym c.in_force.ensures) known.force in
     shows-made (rw (← c.self.view_is) at h) c.args.brought _ _ _ _ _ _ (latched-from c.self.inside.script c.self.inside.steps _ _ _ c.args.brought (c.step_under.ensures.copies c.self.inside.script c.self.inside.steps c.self.invariant.events in_force) c.self.invariant.bus) c.step_under.ensures.counts c.note.ensures.items
     c.note-2.ensures.items c.bus-self-inside.ensures c.stop_of-self-inside.ensures
 

@@ -1,8 +1,15 @@
-use Rattle.std.proofs.Common.{length, sym, ap, refl, ◌∙◌, arith}
+use Rattle.std.proofs.Common.{length, sym, ap, subst, refl, ◌∙◌, arith}
+use Rattle.std.specs.Prelude.{All}
+use Rattle.std.proofs.lemmas.List.Elements.{All-filter}
+use Rattle.lvdc_fault.specs.Events.{IsEvent}
 use Rattle.lvdc_machine.proofs.Again.{few-repairs, begins-timed, log-whole}
-use Rattle.lvdc_machine.proofs.Begun.{knows-module}
+use Rattle.lvdc_machine.specs.OnMemory.{is_on_memory, on_memory}
+use Rattle.lvdc_machine.proofs.OnMemory.{only, holds-whole}
 use Rattle.lvdc_machine.proofs.Standing.{after-none}
 use Rattle.lvdc_machine.proofs.machine.Machine.resumed.Goals as goal
+
+pub memory_of-requires-clause-events : goal.memory_of-requires-clause-events
+memory_of-requires-clause-events c = subst (All IsEvent) (sym c.in_ok-on_memory.ensures) (All-filter is_on_memory IsEvent c.args.script c.requires.events)
 
 pub invariant_of-result : goal.invariant_of-result
 invariant_of-result c =
@@ -14,12 +21,11 @@ invariant_of-result c =
     let within = c.requires.steps in
     record {
       events = c.requires.events;
+      on_memory = c.in_ok-on_memory.ensures;
       fits = c.in_ok-active.ensures.fits;
       within = c.in_ok-active.ensures.within;
-      force = c.force_before.ensures;
-      copies = c.wrong_before-wrong_copies.ensures;
-      wrong = knows-module c.args.script _ c.wrong_before-wrong_copies.result c.lowest_module.result c.wrong_before-wrong_copies.ensures
-          (c.lowest_module.ensures c.args.script);
+      forces = c.in_ok-forces.ensures.fit;
+      known = rw c.in_ok-active.ensures.last c.in_ok-forces.ensures.known;
       differed = c.from_latches-logic.ensures.differed c.args.snapshot.steps (rw c.items-2.ensures whole.most);
       banks = c.in_ok-active.ensures.banks;
       log = λ own. absurd (cc own);
@@ -43,7 +49,7 @@ returns-clause-stands c devices = λ o v script unplugs banks means left. record
     script = sym script;
     unplugs = sym unplugs;
     copies = rw c.items.ensures at c.from_latches-logic.ensures.copies ∙ sym means.copies;
-    memory = c.in_ok-active.ensures.holds o v script banks means;
+    memory = holds-whole o _ _ v.twins v.intended (c.in_ok-active.ensures.holds (only o) v (ap on_memory script ∙ sym c.in_ok-on_memory.ensures) banks means);
     left = sym left;
     log = c.in_ok-log.ensures.log ∙ sym means.log;
     repairs = c.in_ok-log.ensures.repairs ∙ sym means.repairs;

@@ -52,3 +52,6 @@ returns-clause-banks c = rw (← c.self.view_is) refl
 
 pub returns-clause-steps : goal.returns-clause-steps
 returns-clause-steps c = rw (← c.self.view_is) refl
+
+pub returns-clause-addresses : goal.returns-clause-addresses
+returns-clause-addresses c = c.in_ok-selected.ensures.placed.addresses

@@ -1,0 +1,10 @@
+use Rattle.std.proofs.Common.{◌∙◌}
+use Rattle.lvdc_logic.specs.declared.known.Known.{Known}
+use Rattle.lvdc_logic.proofs.PartLaws.{known_by}
+use Rattle.lvdc_logic.proofs.known.Known.of_parts.Goals as goal
+
+pub returns : goal.returns
+returns c script step events right =
+    let known : Known = record { force = record { hit = c.hit_of.result; copies = c.copies_of.result }; marks = c.marks_of-marks.result; wrong = c.lowest_of.result } in
+    known_by script step known c.totals-shares.result events (λ n h. c.totals-shares.ensures n h ∙ right n h) c.marks_of-marks.ensures c.copies_of.ensures c.hit_of.ensures
+    c.lowest_of.ensures

@@ -1,0 +1,8 @@
+use Rattle.std.proofs.Common.{sym}
+use Rattle.lvdc_machine.proofs.Begun.{released}
+use Rattle.lvdc_machine.proofs.memory_events.change_memory.Goals as goal
+
+pub returns-clause-begun : goal.returns-clause-begun
+returns-clause-begun c = λ o t i is h.
+    c.begin.ensures.begun o t i is
+    (released o _ _ t i c.args.script.now c.args.active.now (sym is) c.requires.fits c.release.ensures.released c.release.ensures.unforced h)

@@ -1,0 +1,6 @@
+mod InstructionRows
+mod MaskRows
+mod ModuleRows
+mod OrderRows
+mod ReplyRows
+mod ScriptRows
