@@ -1,7 +1,6 @@
 pub mod Actives
 mod FaultRows
 pub mod Lowest
-pub mod Marks
 pub mod Moves
 pub mod Placing
 pub mod Rising

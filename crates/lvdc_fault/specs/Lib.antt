@@ -4,4 +4,3 @@ pub mod Events
 pub mod Ledger
 pub mod Recoverable
 pub mod Script
-pub mod WrongCopies

@@ -19,7 +19,7 @@ pub use ledger::Ledger;
 pub use named::Named;
 pub use script::Script;
 pub use verdict::Verdict;
-pub use wrong::{WrongCopies, wrong_module};
+pub use wrong::wrong_module;
 
 /// The most instruction times of a run.
 pub const MOST_TIMES: u64 = 1_000_000;

@@ -1,10 +1,9 @@
--- Where all 21 copies have latched, the commit gives what each latched, in whatever order.
-use Rattle.std.proofs.Common.{◌≡◌, ℕ, ◌+◌, ◌<◌, Bool, true, false, List, refl, sym, ap, ◌∙◌, arith}
-use Rattle.std.proofs.lemmas.Bool.{false≢true}
-use Rattle.std.specs.Prelude.{◌==◌}
+-- Where all 21 copies that are named have latched, the next copies are those of the script, in whatever order.
+use Rattle.std.proofs.Common.{◌≡◌, ℕ, ◌+◌, ◌/◌, ◌%◌, ◌<◌, Bool, true, false, ◌&&◌, List, refl, ◌∙◌, arith, None, Option}
+use Rattle.std.specs.Prelude.{◌==◌, if◌then◌else◌, unwrap_or}
 use Rattle.std.specs.List.{list_any}
-use Rattle.lvdc_vote.specs.Copies.{Copies, after_latches, after_commit, settled, IsFresh}
-use Rattle.lvdc_vote.proofs.Orders.{from_all}
+use Rattle.std.proofs.Math.Bool.{and-false}
+use Rattle.lvdc_vote.specs.Copies.{Copies, after_settle, settled, IsFresh}
 use Rattle.lvdc_modules.specs.Rows.{rows}
 use Rattle.lvdc_modules.specs.Timer.{timer_row}
 use Rattle.lvdc_modules.specs.Locator.{locator_row}
@@ -15,95 +14,111 @@ use Rattle.lvdc_modules.specs.Multiplier.{multiplier_row}
 use Rattle.lvdc_modules.specs.Exchange.{exchange_row}
 use Rattle.lvdc_modules.specs.declared.bus.Bus.{Bus}
 use Rattle.lvdc_fault.specs.declared.event.Event.{Event}
-use Rattle.lvdc_model.specs.Voted.{next_three, next_copies, thrice}
+use Rattle.lvdc_model.specs.Voted.{next_copy, next_copies}
+use Rattle.lvdc_logic.specs.declared.in_force.InForce.{InForce}
 use Rattle.lvdc_logic.specs.declared.triples.Triples.{Triples}
-use Rattle.lvdc_logic.specs.HitModules.{is_hit, IsUntouched}
-use Rattle.lvdc_logic.specs.Latching.{copies_in, list_if, new_latches, after_numbers, after_step, after_steps, AllFresh, AllSettle, Settles}
-use Rattle.lvdc_logic.specs.declared.hit_modules.HitModules.{HitModules}
+use Rattle.lvdc_logic.specs.HitModules.{IsUntouched}
+use Rattle.lvdc_logic.specs.InForce.{is_alone, mark_at}
+use Rattle.lvdc_logic.specs.Latching.{copies_in, latches_in, row_of, new_latches, latched_named, after_named, after_numbers, after_steps, AllFresh, AllSettle}
 
--- a list names each of the 21 numbers
-abbrev NamesAll : List ℕ → Type 0
-NamesAll order = (c : ℕ) → c < 21 → list_any (λ d. d == c) order ≡ true
+-- a list has each of the 21 numbers that is named
+abbrev HasNamed : (ℕ → Bool) → List ℕ → Type 0
+HasNamed named order = (c : ℕ) → c < 21 → named c ≡ true → list_any (λ d. d == c) order ≡ true
 
--- the three copies of a module, in whatever order they latched
-committed : (t : Copies) (order : List ℕ) (first : ℕ) (words : ℕ → List ℕ) → NamesAll order → first + 2 < 21 → after_commit (after_latches t order first words) ≡ settled (words first) (words (first + 1)) (words (first + 2))
-committed t order first words all h =
-    ap after_commit (from_all t order first words (all first (omega (arith, h))) (all (first + 1) (omega (arith, h))) (all (first + 2) h))
+-- a copy in the next step: what it latched where it is named, or these words
+abbrev named_or : (ℕ → Bool) → (ℕ → List ℕ) → List ℕ → ℕ → List ℕ
+named_or named words next n = if named n then words n else next
 
--- where a script does nothing to the copies of a module, each latches its row of the votes
-untouched_three : (script : List Event) (step number : ℕ) (row : Bus → List ℕ) (t : Copies) (copies : List Copies) (voted : Bus) → IsUntouched script step number → thrice (row voted) ≡ next_three script step number row t copies voted
-untouched_three script step number row t copies voted h =
-    rw (h.heard 1, h.heard 2, h.heard 3, h.unhurt 1, h.unhurt 2, h.unhurt 3) refl
+copy_settled : (named : Bool) (order : List ℕ) (n : ℕ) (words next : List ℕ) (had : Option (List ℕ)) → had ≡ None → (named ≡ true → list_any (λ d. d == n) order ≡ true)
+    → unwrap_or (latched_named named order n words had) next ≡ (if named then words else next)
+copy_settled true order n words next had none all = rw (all refl) refl
+copy_settled false order n words next had none all = rw none refl
 
--- the copies of a module in the next step, hit or not
-stepped : (hit : Bool) (t : Copies) (order : List ℕ) (first : ℕ) (words : ℕ → List ℕ) (next : List ℕ) (three : Copies) → NamesAll order → first + 2 < 21
-    → settled (words first) (words (first + 1)) (words (first + 2)) ≡ three → (hit ≡ false → thrice next ≡ three)
-    → after_step hit (after_latches t (list_if hit order) first words) next ≡ three
-stepped true t order first words next three all h latched once = committed t order first words all h ∙ latched
-stepped false t order first words next three all h latched once = once refl
-
--- three copies that latch the same words
-three_are : (words others : ℕ → List ℕ) (first : ℕ) → ((n : ℕ) → n < 21 → words n ≡ others n) → first + 2 < 21
-    → settled (words first) (words (first + 1)) (words (first + 2)) ≡ settled (others first) (others (first + 1)) (others (first + 2))
-three_are words others first are h = rw (are first (omega (arith, h)), are (first + 1) (omega (arith, h)), are (first + 2) h) refl
-
--- the commit leaves the copies of the next step
-pub steps_are : (script : List Event) (step : ℕ) (t : Triples) (hit : HitModules) (order : List ℕ) (voted : Bus) (words : ℕ → List ℕ)
-    → ((n : ℕ) → n < 21 → words n ≡ new_latches script step t voted n) → NamesAll order → ((k : ℕ) → k < 7 → is_hit hit k ≡ false → IsUntouched script step (k + 1))
-    → copies_in (after_steps (after_numbers t hit order words) hit voted) ≡ next_copies script step 1 rows (copies_in t) (copies_in t) voted
-unfolding new_latches
-steps_are script step t hit order voted words are all others =
+-- the three copies of a module, in whatever order those that are named latched
+three_settled : (t : Copies) (named : ℕ → Bool) (order : List ℕ) (first : ℕ) (words : ℕ → List ℕ) (next : List ℕ) → IsFresh t → HasNamed named order → first + 2 < 21
+    → after_settle (after_named t named order first words) next ≡ settled (named_or named words next first) (named_or named words next (first + 1)) (named_or named words next (first + 2))
+three_settled t named order first words next fresh all h =
     rw (
-      stepped hit.timer t.timer order 0 words (timer_row voted) (next_three script step 1 timer_row t.timer (copies_in t) voted) all (omega arith) (three_are words (new_latches script step t voted) 0 are (omega arith))
-          (λ h. untouched_three script step 1 timer_row t.timer (copies_in t) voted (others 0 (omega arith) h)),
-      stepped hit.locator t.locator order 3 words (locator_row voted) (next_three script step 2 locator_row t.locator (copies_in t) voted) all (omega arith) (three_are words (new_latches script step t voted) 3 are (omega arith))
-          (λ h. untouched_three script step 2 locator_row t.locator (copies_in t) voted (others 1 (omega arith) h)),
-      stepped hit.decoder t.decoder order 6 words (decoder_row voted) (next_three script step 3 decoder_row t.decoder (copies_in t) voted) all (omega arith) (three_are words (new_latches script step t voted) 6 are (omega arith))
-          (λ h. untouched_three script step 3 decoder_row t.decoder (copies_in t) voted (others 2 (omega arith) h)),
-      stepped hit.selector t.selector order 9 words (selector_row voted) (next_three script step 4 selector_row t.selector (copies_in t) voted) all (omega arith) (three_are words (new_latches script step t voted) 9 are (omega arith))
-          (λ h. untouched_three script step 4 selector_row t.selector (copies_in t) voted (others 3 (omega arith) h)),
-      stepped hit.accumulator t.accumulator order 12 words (accumulator_row voted) (next_three script step 5 accumulator_row t.accumulator (copies_in t) voted) all (omega arith) (three_are words (new_latches script step t voted) 12 are (omega arith))
-          (λ h. untouched_three script step 5 accumulator_row t.accumulator (copies_in t) voted (others 4 (omega arith) h)),
-      stepped hit.multiplier t.multiplier order 15 words (multiplier_row voted) (next_three script step 6 multiplier_row t.multiplier (copies_in t) voted) all (omega arith) (three_are words (new_latches script step t voted) 15 are (omega arith))
-          (λ h. untouched_three script step 6 multiplier_row t.multiplier (copies_in t) voted (others 5 (omega arith) h)),
-      stepped hit.exchange t.exchange order 18 words (exchange_row voted) (next_three script step 7 exchange_row t.exchange (copies_in t) voted) all (omega arith) (three_are words (new_latches script step t voted) 18 are (omega arith))
-          (λ h. untouched_three script step 7 exchange_row t.exchange (copies_in t) voted (others 6 (omega arith) h)),
+      copy_settled (named first) order first (words first) next t.shadow_one fresh.one (all first (omega (arith, h))),
+      copy_settled (named (first + 1)) order (first + 1) (words (first + 1)) next t.shadow_two fresh.two (all (first + 1) (omega (arith, h))),
+      copy_settled (named (first + 2)) order (first + 2) (words (first + 2)) next t.shadow_three fresh.three (all (first + 2) h),
     ) refl
 
--- each copy of a module has latched where it is hit, and none where it isn't
-settles : (hit : Bool) (t : Copies) (order : List ℕ) (first : ℕ) (words : ℕ → List ℕ) → NamesAll order → first + 2 < 21 → IsFresh t → Settles hit (after_latches t (list_if hit order) first words)
-settles true t order first words all h fresh =
-    record {
-      latched = λ e. record { one = rw (all first (omega (arith, h))) refl; two = rw (all (first + 1) (omega (arith, h))) refl; three = rw (all (first + 2) h) refl };
-      fresh = λ e. absurd (false≢true (sym e));
-    }
-settles false t order first words all h fresh = record { latched = λ e. absurd (false≢true e); fresh = λ e. fresh }
+-- a copy to which a script does nothing latches its row of the votes
+untouched_copy : (script : List Event) (step number copy : ℕ) (row : Bus → List ℕ) (old : List ℕ) (copies : List Copies) (voted : Bus) → IsUntouched script step number copy
+    → row voted ≡ next_copy script step number copy row old copies voted
+untouched_copy script step number copy row old copies voted h = rw (h.heard, h.unhurt) refl
 
-pub all_settle : (t : Triples) (hit : HitModules) (order : List ℕ) (words : ℕ → List ℕ) → NamesAll order → AllFresh t → AllSettle hit (after_numbers t hit order words)
-all_settle t hit order words all fresh =
+-- the copies of a module in the next step
+module_steps : (t : Copies) (named : ℕ → Bool) (order : List ℕ) (first : ℕ) (words : ℕ → List ℕ) (next a b c : List ℕ) → IsFresh t → HasNamed named order → first + 2 < 21
+    → named_or named words next first ≡ a → named_or named words next (first + 1) ≡ b → named_or named words next (first + 2) ≡ c
+    → after_settle (after_named t named order first words) next ≡ settled a b c
+module_steps t named order first words next a b c fresh all h one two three =
+    three_settled t named order first words next fresh all h ∙ (λ j. settled (one j) (two j) (three j))
+
+-- each copy
+copy_steps : (script : List Event) (step : ℕ) (t : Triples) (named : ℕ → Bool) (voted : Bus) (words : ℕ → List ℕ)
+    → ((n : ℕ) → n < 21 → words n ≡ new_latches script step t voted n) → ((n : ℕ) → n < 21 → named n ≡ false → IsUntouched script step (n / 3 + 1) (n % 3 + 1))
+    → (n : ℕ) → n < 21 → named_or named words (row_of (n / 3) voted) n ≡ new_latches script step t voted n
+unfolding new_latches
+copy_steps script step t named voted words are others n h = by (named n) refl where
+  by : (b : Bool) → named n ≡ b → (if b then words n else row_of (n / 3) voted) ≡ new_latches script step t voted n
+  by true e = are n h
+  by false e = untouched_copy script step (n / 3 + 1) (n % 3 + 1) (row_of (n / 3)) (latches_in t n) (copies_in t) voted (others n h e)
+
+-- the copies of the next step
+pub steps_are : (script : List Event) (step : ℕ) (t : Triples) (named : ℕ → Bool) (order : List ℕ) (voted : Bus) (words : ℕ → List ℕ) → AllFresh t
+    → ((n : ℕ) → n < 21 → words n ≡ new_latches script step t voted n) → HasNamed named order → ((n : ℕ) → n < 21 → named n ≡ false → IsUntouched script step (n / 3 + 1) (n % 3 + 1))
+    → copies_in (after_steps (after_numbers t named order words) voted) ≡ next_copies script step 1 rows (copies_in t) (copies_in t) voted
+unfolding new_latches
+steps_are script step t named order voted words fresh are all others =
+    let latched = new_latches script step t voted in
+    let each = copy_steps script step t named voted words are others in
+    rw (
+      module_steps t.timer named order 0 words (timer_row voted) (latched 0) (latched 1) (latched 2) fresh.timer all (omega arith) (each 0 (omega arith)) (each 1 (omega arith)) (each 2 (omega arith)),
+      module_steps t.locator named order 3 words (locator_row voted) (latched 3) (latched 4) (latched 5) fresh.locator all (omega arith) (each 3 (omega arith)) (each 4 (omega arith)) (each 5 (omega arith)),
+      module_steps t.decoder named order 6 words (decoder_row voted) (latched 6) (latched 7) (latched 8) fresh.decoder all (omega arith) (each 6 (omega arith)) (each 7 (omega arith)) (each 8 (omega arith)),
+      module_steps t.selector named order 9 words (selector_row voted) (latched 9) (latched 10) (latched 11) fresh.selector all (omega arith) (each 9 (omega arith)) (each 10 (omega arith)) (each 11 (omega arith)),
+      module_steps t.accumulator named order 12 words (accumulator_row voted) (latched 12) (latched 13) (latched 14) fresh.accumulator all (omega arith) (each 12 (omega arith)) (each 13 (omega arith)) (each 14 (omega arith)),
+      module_steps t.multiplier named order 15 words (multiplier_row voted) (latched 15) (latched 16) (latched 17) fresh.multiplier all (omega arith) (each 15 (omega arith)) (each 16 (omega arith)) (each 17 (omega arith)),
+      module_steps t.exchange named order 18 words (exchange_row voted) (latched 18) (latched 19) (latched 20) fresh.exchange all (omega arith) (each 18 (omega arith)) (each 19 (omega arith)) (each 20 (omega arith)),
+    ) refl
+
+-- no copy of a module has latched where none is named
+settle_fresh : (t : Copies) (named : ℕ → Bool) (order : List ℕ) (first : ℕ) (words : ℕ → List ℕ) → IsFresh t → named first ≡ false → named (first + 1) ≡ false → named (first + 2) ≡ false
+    → IsFresh (after_named t named order first words)
+settle_fresh t named order first words fresh one two three =
+    record { one = rw one fresh.one; two = rw two fresh.two; three = rw three fresh.three }
+
+unhit : (mark hit : Bool) → hit ≡ false → (mark && hit) ≡ false
+unhit mark hit off = rw off (and-false mark)
+
+pub all_settle : (t : Triples) (force : InForce) (order : List ℕ) (words : ℕ → List ℕ) → AllFresh t → AllSettle force.hit (after_numbers t (is_alone force) order words)
+all_settle t force order words fresh =
+    let mark = mark_at force.marks in
+    let named = is_alone force in
     record {
-      timer = settles hit.timer t.timer order 0 words all (omega arith) fresh.timer;
-      locator = settles hit.locator t.locator order 3 words all (omega arith) fresh.locator;
-      decoder = settles hit.decoder t.decoder order 6 words all (omega arith) fresh.decoder;
-      selector = settles hit.selector t.selector order 9 words all (omega arith) fresh.selector;
-      accumulator = settles hit.accumulator t.accumulator order 12 words all (omega arith) fresh.accumulator;
-      multiplier = settles hit.multiplier t.multiplier order 15 words all (omega arith) fresh.multiplier;
-      exchange = settles hit.exchange t.exchange order 18 words all (omega arith) fresh.exchange;
+      timer = λ off. settle_fresh t.timer named order 0 words fresh.timer (unhit (mark 0) force.hit.timer off) (unhit (mark 1) force.hit.timer off) (unhit (mark 2) force.hit.timer off);
+      locator = λ off. settle_fresh t.locator named order 3 words fresh.locator (unhit (mark 3) force.hit.locator off) (unhit (mark 4) force.hit.locator off) (unhit (mark 5) force.hit.locator off);
+      decoder = λ off. settle_fresh t.decoder named order 6 words fresh.decoder (unhit (mark 6) force.hit.decoder off) (unhit (mark 7) force.hit.decoder off) (unhit (mark 8) force.hit.decoder off);
+      selector = λ off. settle_fresh t.selector named order 9 words fresh.selector (unhit (mark 9) force.hit.selector off) (unhit (mark 10) force.hit.selector off) (unhit (mark 11) force.hit.selector off);
+      accumulator = λ off. settle_fresh t.accumulator named order 12 words fresh.accumulator (unhit (mark 12) force.hit.accumulator off) (unhit (mark 13) force.hit.accumulator off) (unhit (mark 14) force.hit.accumulator off);
+      multiplier = λ off. settle_fresh t.multiplier named order 15 words fresh.multiplier (unhit (mark 15) force.hit.multiplier off) (unhit (mark 16) force.hit.multiplier off) (unhit (mark 17) force.hit.multiplier off);
+      exchange = λ off. settle_fresh t.exchange named order 18 words fresh.exchange (unhit (mark 18) force.hit.exchange off) (unhit (mark 19) force.hit.exchange off) (unhit (mark 20) force.hit.exchange off);
     }
 
 -- and after it no copy of a module has latched
-step_fresh : (hit : Bool) (t : Copies) (next : List ℕ) → IsFresh (after_step hit t next)
-step_fresh true t next = record { one = refl; two = refl; three = refl }
-step_fresh false t next = record { one = refl; two = refl; three = refl }
+step_fresh : (t : Copies) (next : List ℕ) → IsFresh (after_settle t next)
+step_fresh t next = record { one = refl; two = refl; three = refl }
 
-pub steps_fresh : (t : Triples) (hit : HitModules) (voted : Bus) → AllFresh (after_steps t hit voted)
-steps_fresh t hit voted =
+pub steps_fresh : (t : Triples) (voted : Bus) → AllFresh (after_steps t voted)
+steps_fresh t voted =
     record {
-      timer = step_fresh hit.timer t.timer (timer_row voted);
-      locator = step_fresh hit.locator t.locator (locator_row voted);
-      decoder = step_fresh hit.decoder t.decoder (decoder_row voted);
-      selector = step_fresh hit.selector t.selector (selector_row voted);
-      accumulator = step_fresh hit.accumulator t.accumulator (accumulator_row voted);
-      multiplier = step_fresh hit.multiplier t.multiplier (multiplier_row voted);
-      exchange = step_fresh hit.exchange t.exchange (exchange_row voted);
+      timer = step_fresh t.timer (timer_row voted);
+      locator = step_fresh t.locator (locator_row voted);
+      decoder = step_fresh t.decoder (decoder_row voted);
+      selector = step_fresh t.selector (selector_row voted);
+      accumulator = step_fresh t.accumulator (accumulator_row voted);
+      multiplier = step_fresh t.multiplier (multiplier_row voted);
+      exchange = step_fresh t.exchange (exchange_row voted);
     }

@@ -20,7 +20,11 @@ use Rattle.lvdc_fault.specs.declared.event.Event.TheVariants as ev
 use Rattle.lvdc_model.specs.Voted.{hurts_by, hurts_on}
 use Rattle.lvdc_logic.specs.Shares.{harm_in, share_with, share_on, share_next, patch_join, patches_join, share_join}
 use Rattle.lvdc_logic.specs.declared.shares.Share.{Share}
-use Rattle.lvdc_logic.proofs.ActiveFaults.{harm_append}
+
+-- hurts one list after another
+harm_append : (h : Harm) (xs ys : List Hurt) → harm_after h (xs ++ ys) ≡ harm_after (harm_after h xs) ys
+harm_append h [] ys = refl
+harm_append h (x ∷ xs) ys = harm_append (harm_and h x) xs ys
 
 -- ---- one patch after another
 

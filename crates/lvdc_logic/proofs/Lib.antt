@@ -1,6 +1,4 @@
-pub mod ActiveEvents
-pub mod Untouched
-pub mod ActiveFaults
+pub mod HurtsFit
 pub mod Differing
 pub mod Listed
 pub mod Numbers

@@ -1,23 +1,23 @@
 -- What is told of the parts of a script is what the script does.
-use Rattle.std.proofs.Common.{◌≡◌, ◌≢◌, ℕ, zero, suc, ◌+◌, ◌-◌, ◌*◌, ◌/◌, ◌%◌, ◌<◌, ◌≤◌, Bool, true, false, cond, ◌&&◌, ◌||◌, ◌==◌, List, [], ◌∷◌, ◌++◌, length, take, drop, min, refl, sym, ◌∙◌, ap, subst, arith, Some, find, ltb, length-drop, get_or, get_or-drop, set, replicate}
+use Rattle.std.proofs.Common.{◌≡◌, ℕ, zero, suc, ◌+◌, ◌-◌, ◌*◌, ◌/◌, ◌%◌, ◌<◌, ◌≤◌, Bool, true, false, cond, if◌then◌else◌, ◌&&◌, ◌||◌, ◌==◌, List, [], ◌∷◌, ◌++◌, length, take, drop, min, refl, sym, ◌∙◌, ap, subst, arith, add-zero, Some, find, ltb, length-drop, get_or, get_or-drop, set, replicate}
 use Rattle.std.specs.Prelude.{All, slice_get}
 use Rattle.std.proofs.Math.Bool.{or-false}
 use Rattle.std.proofs.Math.Seq.{take-add}
-use Rattle.std.proofs.lemmas.Bool.{eqb-true, eqb-false, false≢true, ltb-true, ltb-false, ne_eqb}
+use Rattle.std.proofs.lemmas.Bool.{eqb-true, eqb-false, false≢true, ltb-true, ltb-false}
 use Rattle.std.proofs.lemmas.Bool.Decides.{nat_tests}
 use Rattle.std.proofs.lemmas.List.{take_all, get_or-replicate, get_or-set_same, get_or-set_other}
 use Rattle.std.proofs.lemmas.List.Elements.{All-more, All-weaker}
 use Rattle.std.proofs.lemmas.Option.{slice_get_within, slice_get-get_or, get_or_from_slice_get}
 use Rattle.lvdc_vote.specs.Harms.{harm_of}
-use Rattle.lvdc_fault.specs.Events.{IsEvent}
 use Rattle.lvdc_fault.specs.Script.{is_within, makes_wrong, is_wrong, deafens, is_deaf, are_two, two_wrong}
 use Rattle.lvdc_fault.specs.declared.event.Event.{Event}
 use Rattle.lvdc_fault.specs.declared.event.Event.TheVariants.{Flip, Force, Lag, Deaf, Damage, Stick, Dead}
 use Rattle.lvdc_fault.proofs.Lowest.{find_same}
 use Rattle.lvdc_model.specs.Voted.{hurts_by, hurts_on}
 use Rattle.lvdc_logic.specs.HitModules.{is_hit, IsUntouched}
-use Rattle.lvdc_logic.specs.InForce.{faults_at, no_faults}
-use Rattle.lvdc_logic.specs.Parts.{StaysUntil, faults_in, no_part, part_at, events_of, IsRight, total_of, share_then, mark_at, IsKnown}
+use Rattle.lvdc_vote.specs.Copies.{chosen}
+use Rattle.lvdc_logic.specs.InForce.{faults_at, mark_at, no_faults}
+use Rattle.lvdc_logic.specs.Parts.{StaysUntil, faults_in, no_part, part_at, events_of, IsRight, total_of, share_then, IsKnown}
 use Rattle.lvdc_logic.specs.Shares.{no_share, share_at, share_with, share_on, share_of, share_next, share_join}
 use Rattle.lvdc_logic.specs.declared.hit_modules.HitModules.{HitModules}
 use Rattle.lvdc_logic.specs.declared.in_force.Faults.{Faults}
@@ -93,32 +93,6 @@ part_events script from to left is ends = by (ltb left 256) refl where
 
 -- ---- what is known
 
-no_second : (a b c : Bool) → b ≡ false → (a && b && c) ≡ false
-no_second true b c h = rw h refl
-no_second false b c h = refl
-
--- no event acts on a copy that there isn't
-abbrev IsNone : ℕ → Type 0
-IsNone c = (copy : ℕ) → 1 ≤ copy → copy < 4 → copy ≢ c
-
-none_acts : (t m c : ℕ) (e : Event) → IsNone c → IsEvent e → makes_wrong t m c e ≡ false
-none_acts t m c (Flip number copy first last index mask) none is =
-    no_second (number == m) (copy == c) (is_within first last t) (ne_eqb copy c (none copy is.0.first_copy is.0.last_copy))
-none_acts t m c (Force number copy first last index mask value) none is =
-    no_second (number == m) (copy == c) (is_within first last t) (ne_eqb copy c (none copy is.0.first_copy is.0.last_copy))
-none_acts t m c (Lag number copy first last) none is =
-    no_second (number == m) (copy == c) (is_within first last t) (ne_eqb copy c (none copy is.0.first_copy is.0.last_copy))
-none_acts t m c (Deaf number copy first last) none is =
-    no_second (number == m) (copy == c) (is_within first last t) (ne_eqb copy c (none copy is.0.first_copy is.0.last_copy))
-none_acts t m c (Damage twin at d mask) none is = refl
-none_acts t m c (Stick twin at first last mask value) none is = refl
-none_acts t m c (Dead twin pair first last) none is = refl
-
-none_wrong : (t m c : ℕ) (es : List Event) → IsNone c → All IsEvent es → is_wrong es t m c ≡ false
-none_wrong t m c [] none are = refl
-none_wrong t m c (e ∷ es) none are =
-    λ j. none_acts t m c e none (are 0 e (omega arith)) j || none_wrong t m c es none (λ k d below. are (suc k) d (omega (arith, below))) j
-
 neither : (a b : Bool) → (a || b) ≡ false → (a ≡ false) × (b ≡ false)
 neither false b h = (refl, h)
 neither true b h = absurd (false≢true (sym h))
@@ -136,29 +110,8 @@ unwrong_unhurt t m c (e ∷ es) h =
     let both = neither (makes_wrong t m c e) (is_wrong es t m c) h in
     rw ((idle t m c e both.0).1) (unwrong_unhurt t m c es both.1)
 
--- a module whose three copies aren't wrong is untouched
-untouched_by : (script : List Event) (t m : ℕ) → All IsEvent script → is_wrong script t m 1 ≡ false → is_wrong script t m 2 ≡ false → is_wrong script t m 3 ≡ false
-    → IsUntouched script t m
-untouched_by script t m are one two three =
-    record { heard = λ c. unwrong_hears t m c script (each c); unhurt = λ c. unwrong_unhurt t m c script (each c) }
-  where
-    each : (c : ℕ) → is_wrong script t m c ≡ false
-    each zero = none_wrong t m zero script (λ copy low high same. omega (arith, low, same)) are
-    each (suc zero) = one
-    each (suc (suc zero)) = two
-    each (suc (suc (suc zero))) = three
-    each (suc (suc (suc (suc c)))) = none_wrong t m (suc (suc (suc (suc c)))) script (λ copy low high same. omega (arith, high, same)) are
-
--- where none of three copies is marked, the module is untouched
 abbrev AreMarks : List Event → ℕ → List Bool → Type 0
 AreMarks script t marks = (n : ℕ) → n < 21 → mark_at marks n ≡ is_wrong script t (n / 3 + 1) (n % 3 + 1)
-
-unmarked : (script : List Event) (t : ℕ) (marks : List Bool) → All IsEvent script → AreMarks script t marks → (m : ℕ) (a b c : Bool)
-    → a ≡ is_wrong script t m 1 → b ≡ is_wrong script t m 2 → c ≡ is_wrong script t m 3 → (a || b || c) ≡ false → IsUntouched script t m
-unmarked script t marks events are m a b c ha hb hc none =
-    let both = neither (a || b) c none in
-    let others = neither a b both.0 in
-    untouched_by script t m events (sym ha ∙ others.0) (sym hb ∙ others.1) (sym hc ∙ both.1)
 
 -- the modules that have a marked copy
 abbrev pub hit_by_marks : List Bool → HitModules
@@ -173,17 +126,59 @@ hit_by_marks marks =
       exchange = mark_at marks 18 || mark_at marks 19 || mark_at marks 20;
     }
 
-others_untouched : (script : List Event) (t : ℕ) (marks : List Bool) → All IsEvent script → AreMarks script t marks
-    → (k : ℕ) → k < 7 → is_hit (hit_by_marks marks) k ≡ false → IsUntouched script t (k + 1)
-others_untouched script t marks events are =
-    seven (λ (k : ℕ). is_hit (hit_by_marks marks) k ≡ false → IsUntouched script t (k + 1))
-    (unmarked script t marks events are 1 (mark_at marks 0) (mark_at marks 1) (mark_at marks 2) (are 0 (omega arith)) (are 1 (omega arith)) (are 2 (omega arith)))
-    (unmarked script t marks events are 2 (mark_at marks 3) (mark_at marks 4) (mark_at marks 5) (are 3 (omega arith)) (are 4 (omega arith)) (are 5 (omega arith)))
-    (unmarked script t marks events are 3 (mark_at marks 6) (mark_at marks 7) (mark_at marks 8) (are 6 (omega arith)) (are 7 (omega arith)) (are 8 (omega arith)))
-    (unmarked script t marks events are 4 (mark_at marks 9) (mark_at marks 10) (mark_at marks 11) (are 9 (omega arith)) (are 10 (omega arith)) (are 11 (omega arith)))
-    (unmarked script t marks events are 5 (mark_at marks 12) (mark_at marks 13) (mark_at marks 14) (are 12 (omega arith)) (are 13 (omega arith)) (are 14 (omega arith)))
-    (unmarked script t marks events are 6 (mark_at marks 15) (mark_at marks 16) (mark_at marks 17) (are 15 (omega arith)) (are 16 (omega arith)) (are 17 (omega arith)))
-    (unmarked script t marks events are 7 (mark_at marks 18) (mark_at marks 19) (mark_at marks 20) (are 18 (omega arith)) (are 19 (omega arith)) (are 20 (omega arith)))
+-- each of three marks hits their module
+first_true : (a b : Bool) → a ≡ true → (a || b) ≡ true
+first_true a b e = rw e refl
+
+second_true : (a b : Bool) → b ≡ true → (a || b) ≡ true
+second_true true b e = refl
+second_true false b e = e
+
+one_of_three : (a b c : Bool) (copy : ℕ) → chosen a b c copy ≡ true → (a || b || c) ≡ true
+one_of_three a b c copy = by (copy == 0) (copy == 1) where
+  by : (x y : Bool) → (if x then a else (if y then b else c)) ≡ true → (a || b || c) ≡ true
+  by true y e = first_true (a || b) c (first_true a b e)
+  by false true e = first_true (a || b) c (second_true a b e)
+  by false false e = second_true (a || b) c e
+
+-- so a copy that is marked is one of a module that is hit
+marked_hits : (marks : List Bool) (n : ℕ) → n < 21 → mark_at marks n ≡ true → is_hit (hit_by_marks marks) (n / 3) ≡ true
+marked_hits marks n h e =
+    let three = λ (k : ℕ). chosen (mark_at marks (3 * k)) (mark_at marks (3 * k + 1)) (mark_at marks (3 * k + 2)) (n % 3) in
+    seven (λ (k : ℕ). three k ≡ true → is_hit (hit_by_marks marks) k ≡ true)
+    (one_of_three (mark_at marks 0) (mark_at marks 1) (mark_at marks 2) (n % 3))
+    (one_of_three (mark_at marks 3) (mark_at marks 4) (mark_at marks 5) (n % 3))
+    (one_of_three (mark_at marks 6) (mark_at marks 7) (mark_at marks 8) (n % 3))
+    (one_of_three (mark_at marks 9) (mark_at marks 10) (mark_at marks 11) (n % 3))
+    (one_of_three (mark_at marks 12) (mark_at marks 13) (mark_at marks 14) (n % 3))
+    (one_of_three (mark_at marks 15) (mark_at marks 16) (mark_at marks 17) (n % 3))
+    (one_of_three (mark_at marks 18) (mark_at marks 19) (mark_at marks 20) (n % 3))
+    (n / 3) (omega (arith, h)) (by (n % 3) (omega arith) (omega arith))
+  where
+    by : (copy : ℕ) → copy < 3 → n ≡ 3 * (n / 3) + copy
+        → chosen (mark_at marks (3 * (n / 3))) (mark_at marks (3 * (n / 3) + 1)) (mark_at marks (3 * (n / 3) + 2)) copy ≡ true
+    by zero below is = sym (ap (mark_at marks) (is ∙ add-zero (3 * (n / 3)))) ∙ e
+    by (suc zero) below is = sym (ap (mark_at marks) is) ∙ e
+    by (suc (suc zero)) below is = sym (ap (mark_at marks) is) ∙ e
+    by (suc (suc (suc copy))) below is = absurd (omega (arith, below))
+
+-- where a module is hit, some copy is named
+any_hit : (h : HitModules) (k : ℕ) → k < 7 → is_hit h k ≡ true → (h.timer || h.locator || h.decoder || h.selector || h.accumulator || h.multiplier || h.exchange) ≡ true
+any_hit h =
+    seven (λ (k : ℕ). is_hit h k ≡ true → (h.timer || h.locator || h.decoder || h.selector || h.accumulator || h.multiplier || h.exchange) ≡ true)
+    (λ e. first_true (h.timer || h.locator || h.decoder || h.selector || h.accumulator || h.multiplier) h.exchange (first_true (h.timer || h.locator || h.decoder || h.selector || h.accumulator) h.multiplier (first_true (h.timer || h.locator || h.decoder || h.selector) h.accumulator (first_true (h.timer || h.locator || h.decoder) h.selector (first_true (h.timer || h.locator) h.decoder (first_true h.timer h.locator e))))))
+    (λ e. first_true (h.timer || h.locator || h.decoder || h.selector || h.accumulator || h.multiplier) h.exchange (first_true (h.timer || h.locator || h.decoder || h.selector || h.accumulator) h.multiplier (first_true (h.timer || h.locator || h.decoder || h.selector) h.accumulator (first_true (h.timer || h.locator || h.decoder) h.selector (first_true (h.timer || h.locator) h.decoder (second_true h.timer h.locator e))))))
+    (λ e. first_true (h.timer || h.locator || h.decoder || h.selector || h.accumulator || h.multiplier) h.exchange (first_true (h.timer || h.locator || h.decoder || h.selector || h.accumulator) h.multiplier (first_true (h.timer || h.locator || h.decoder || h.selector) h.accumulator (first_true (h.timer || h.locator || h.decoder) h.selector (second_true (h.timer || h.locator) h.decoder e)))))
+    (λ e. first_true (h.timer || h.locator || h.decoder || h.selector || h.accumulator || h.multiplier) h.exchange (first_true (h.timer || h.locator || h.decoder || h.selector || h.accumulator) h.multiplier (first_true (h.timer || h.locator || h.decoder || h.selector) h.accumulator (second_true (h.timer || h.locator || h.decoder) h.selector e))))
+    (λ e. first_true (h.timer || h.locator || h.decoder || h.selector || h.accumulator || h.multiplier) h.exchange (first_true (h.timer || h.locator || h.decoder || h.selector || h.accumulator) h.multiplier (second_true (h.timer || h.locator || h.decoder || h.selector) h.accumulator e)))
+    (λ e. first_true (h.timer || h.locator || h.decoder || h.selector || h.accumulator || h.multiplier) h.exchange (second_true (h.timer || h.locator || h.decoder || h.selector || h.accumulator) h.multiplier e))
+    (λ e. second_true (h.timer || h.locator || h.decoder || h.selector || h.accumulator || h.multiplier) h.exchange e)
+
+-- and a copy that isn't named isn't marked
+unnamed : (any mark hit : Bool) → (mark ≡ true → hit ≡ true) → (hit ≡ true → any ≡ true) → (any && (mark && hit)) ≡ false → mark ≡ false
+unnamed any false hit h some off = refl
+unnamed true true hit h some off = absurd (false≢true (sym off ∙ h refl))
+unnamed false true hit h some off = absurd (false≢true (some (h refl)))
 
 -- the lowest module with two marked copies is that with two wrong ones
 abbrev pub two_marked : List Bool → ℕ → Bool
@@ -218,26 +213,32 @@ faults_are script t m c = by (is_wrong script t m c) refl where
       ∙ sym (λ j. record { deaf = unwrong_hears t m c script e j; harm = harm_of (unwrong_unhurt t m c script e j) })
 
 -- what is known by the totals of all copies
-pub known_by : (script : List Event) (t : ℕ) (k : Known) (shares : List Share) → All IsEvent script
-    → ((n : ℕ) → n < 21 → share_at shares n ≡ share_of script t n)
-    → ((n : ℕ) → n < 21 → mark_at k.marks n ≡ (share_at shares n).named)
+pub known_by : (script : List Event) (t : ℕ) (k : Known) (shares : List Share) → ((n : ℕ) → n < 21 → share_at shares n ≡ share_of script t n)
+    → ((n : ℕ) → n < 21 → mark_at k.force.marks n ≡ (share_at shares n).named)
     → ((n : ℕ) → n < 21 → faults_at k.force.copies n ≡ faults_in (share_at shares n))
-    → k.force.hit ≡ hit_by_marks k.marks
-    → k.wrong ≡ find (two_marked k.marks) (1 ∷ 2 ∷ 3 ∷ 4 ∷ 5 ∷ 6 ∷ 7 ∷ [])
+    → k.force.hit ≡ hit_by_marks k.force.marks
+    → k.force.any ≡ (k.force.hit.timer || k.force.hit.locator || k.force.hit.decoder || k.force.hit.selector || k.force.hit.accumulator || k.force.hit.multiplier || k.force.hit.exchange)
+    → k.wrong ≡ find (two_marked k.force.marks) (1 ∷ 2 ∷ 3 ∷ 4 ∷ 5 ∷ 6 ∷ 7 ∷ [])
     → IsKnown script t k
-known_by script t k shares events right marks copies hit wrong =
+known_by script t k shares right marks copies hit any wrong =
     record {
       force =
           record {
             copies = λ n h. copies n h ∙ ap faults_in (right n h) ∙ faults_are script t (n / 3 + 1) (n % 3 + 1);
-            others = λ j h none. others_untouched script t k.marks events are j h (subst (λ (x : HitModules). is_hit x j ≡ false) hit none);
+            others = λ n h off. untouched n (sym (are n h) ∙ unnamed k.force.any (mark_at k.force.marks n) (is_hit k.force.hit (n / 3)) (hits n h) (λ e. any ∙ any_hit k.force.hit (n / 3) (omega (arith, h)) e) off);
           };
       marks = are;
-      wrong = wrong ∙ find_same (two_marked k.marks) (two_wrong script t) (marked_two script t k.marks are);
+      wrong = wrong ∙ find_same (two_marked k.force.marks) (two_wrong script t) (marked_two script t k.force.marks are);
     }
   where
-    are : AreMarks script t k.marks
+    are : AreMarks script t k.force.marks
     are n h = marks n h ∙ ap (λ (s : Share). s.named) (right n h)
+
+    hits : (n : ℕ) → n < 21 → mark_at k.force.marks n ≡ true → is_hit k.force.hit (n / 3) ≡ true
+    hits n h e = subst (λ (x : HitModules). is_hit x (n / 3) ≡ true) (sym hit) (marked_hits k.force.marks n h e)
+
+    untouched : (n : ℕ) → is_wrong script t (n / 3 + 1) (n % 3 + 1) ≡ false → IsUntouched script t (n / 3 + 1) (n % 3 + 1)
+    untouched n off = record { heard = unwrong_hears t (n / 3 + 1) (n % 3 + 1) script off; unhurt = unwrong_unhurt t (n / 3 + 1) (n % 3 + 1) script off }
 
 -- ---- all parts
 

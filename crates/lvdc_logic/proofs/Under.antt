@@ -16,7 +16,7 @@ use Rattle.lvdc_logic.specs.Latching.{copies_in, latches_in, row_of, new_latches
 use Rattle.lvdc_logic.specs.Seven.{of_seven}
 use Rattle.lvdc_logic.specs.declared.in_force.InForce.{InForce}
 use Rattle.lvdc_logic.specs.declared.triples.Triples.{Triples}
-use Rattle.lvdc_logic.proofs.ActiveEvents.{hurts_fit}
+use Rattle.lvdc_logic.proofs.HurtsFit.{hurts_fit}
 use Rattle.lvdc_logic.proofs.Numbers.{seven}
 
 -- what all hurts come to does what they do

@@ -1,6 +1,6 @@
 -- Seven triples whose copies, numbered from 0 to 20, latch one after another.
-use Rattle.std.specs.Prelude.{◌≡◌, ℕ, ◌+◌, ◌/◌, ◌%◌, Bool, true, false, List, [], ◌∷◌, ◌==◌, if◌then◌else◌, IsSome}
-use Rattle.lvdc_vote.specs.Copies.{Copies, copy_of, after_latch, after_latches, after_commit, IsFresh, IsSized}
+use Rattle.std.specs.Prelude.{◌≡◌, ℕ, ◌+◌, ◌/◌, ◌%◌, Bool, false, Option, List, [], ◌∷◌, ◌==◌, if◌then◌else◌}
+use Rattle.lvdc_vote.specs.Copies.{Copies, copy_of, latched_in, after_latch, after_settle, differs_of, IsFresh, IsSized}
 use Rattle.lvdc_modules.specs.Timer.{timer_row}
 use Rattle.lvdc_modules.specs.Locator.{locator_row}
 use Rattle.lvdc_modules.specs.Decoder.{decoder_row}
@@ -10,7 +10,7 @@ use Rattle.lvdc_modules.specs.Multiplier.{multiplier_row}
 use Rattle.lvdc_modules.specs.Exchange.{exchange_row}
 use Rattle.lvdc_modules.specs.declared.bus.Bus.{Bus}
 use Rattle.lvdc_fault.specs.declared.event.Event.{Event}
-use Rattle.lvdc_model.specs.Voted.{next_copy, thrice}
+use Rattle.lvdc_model.specs.Voted.{next_copy}
 use Rattle.lvdc_logic.specs.Seven.{of_seven}
 use Rattle.lvdc_logic.specs.declared.hit_modules.HitModules.{HitModules}
 use Rattle.lvdc_logic.specs.declared.triples.Triples.{Triples}
@@ -61,38 +61,43 @@ after_number t n words =
       exchange = latched_at t.exchange 6 n words;
     }
 
--- a list, where it is wanted
-abbrev pub list_if : Bool → List ℕ → List ℕ
-list_if wanted order = if wanted then order else []
+-- the shadow of the copy of this number after those of a list latched that are named: its words where it is one of them
+abbrev pub latched_named : Bool → List ℕ → ℕ → List ℕ → Option (List ℕ) → Option (List ℕ)
+latched_named named order number words had = if named then latched_in order number words had else had
 
--- of the copies of a list of numbers those of the modules that are hit have latched, each its words
-abbrev pub after_numbers : Triples → HitModules → List ℕ → (ℕ → List ℕ) → Triples
-after_numbers t hit order words =
-    record {
-      timer = after_latches t.timer (list_if hit.timer order) 0 words;
-      locator = after_latches t.locator (list_if hit.locator order) 3 words;
-      decoder = after_latches t.decoder (list_if hit.decoder order) 6 words;
-      selector = after_latches t.selector (list_if hit.selector order) 9 words;
-      accumulator = after_latches t.accumulator (list_if hit.accumulator order) 12 words;
-      multiplier = after_latches t.multiplier (list_if hit.multiplier order) 15 words;
-      exchange = after_latches t.exchange (list_if hit.exchange order) 18 words;
+-- the copies of a module, numbered from the first on, after those of a list latched that are named, each its words
+abbrev pub after_named : Copies → (ℕ → Bool) → List ℕ → ℕ → (ℕ → List ℕ) → Copies
+after_named t named order first words =
+    record t {
+      shadow_one = latched_named (named first) order first (words first) t.shadow_one;
+      shadow_two = latched_named (named (first + 1)) order (first + 1) (words (first + 1)) t.shadow_two;
+      shadow_three = latched_named (named (first + 2)) order (first + 2) (words (first + 2)) t.shadow_three;
     }
 
--- the copies of a module in the next step: what they latched, or where it isn't hit three times the same
-abbrev pub after_step : Bool → Copies → List ℕ → Copies
-after_step hit t next = if hit then after_commit t else thrice next
-
 -- those of all modules
-abbrev pub after_steps : Triples → HitModules → Bus → Triples
-after_steps t hit voted =
+abbrev pub after_numbers : Triples → (ℕ → Bool) → List ℕ → (ℕ → List ℕ) → Triples
+after_numbers t named order words =
     record {
-      timer = after_step hit.timer t.timer (timer_row voted);
-      locator = after_step hit.locator t.locator (locator_row voted);
-      decoder = after_step hit.decoder t.decoder (decoder_row voted);
-      selector = after_step hit.selector t.selector (selector_row voted);
-      accumulator = after_step hit.accumulator t.accumulator (accumulator_row voted);
-      multiplier = after_step hit.multiplier t.multiplier (multiplier_row voted);
-      exchange = after_step hit.exchange t.exchange (exchange_row voted);
+      timer = after_named t.timer named order 0 words;
+      locator = after_named t.locator named order 3 words;
+      decoder = after_named t.decoder named order 6 words;
+      selector = after_named t.selector named order 9 words;
+      accumulator = after_named t.accumulator named order 12 words;
+      multiplier = after_named t.multiplier named order 15 words;
+      exchange = after_named t.exchange named order 18 words;
+    }
+
+-- the copies of all modules in the next step: what each latched, or where it hasn't, the row of the votes
+abbrev pub after_steps : Triples → Bus → Triples
+after_steps t voted =
+    record {
+      timer = after_settle t.timer (timer_row voted);
+      locator = after_settle t.locator (locator_row voted);
+      decoder = after_settle t.decoder (decoder_row voted);
+      selector = after_settle t.selector (selector_row voted);
+      accumulator = after_settle t.accumulator (accumulator_row voted);
+      multiplier = after_settle t.multiplier (multiplier_row voted);
+      exchange = after_settle t.exchange (exchange_row voted);
     }
 
 -- no copy has latched since the last commit
@@ -105,16 +110,19 @@ pub record AllFresh (t : Triples) : Type 0 where
   pub multiplier : IsFresh t.multiplier
   pub exchange : IsFresh t.exchange
 
--- each copy of a module has latched
-pub record HasLatched (t : Copies) : Type 0 where
-  pub one : IsSome t.shadow_one
-  pub two : IsSome t.shadow_two
-  pub three : IsSome t.shadow_three
+-- no copy differs from its vote
+pub record AllAgree (t : Triples) : Type 0 where
+  pub timer : (copy : ℕ) → differs_of t.timer copy ≡ false
+  pub locator : (copy : ℕ) → differs_of t.locator copy ≡ false
+  pub decoder : (copy : ℕ) → differs_of t.decoder copy ≡ false
+  pub selector : (copy : ℕ) → differs_of t.selector copy ≡ false
+  pub accumulator : (copy : ℕ) → differs_of t.accumulator copy ≡ false
+  pub multiplier : (copy : ℕ) → differs_of t.multiplier copy ≡ false
+  pub exchange : (copy : ℕ) → differs_of t.exchange copy ≡ false
 
--- each copy of a module has latched where it is hit, and none where it isn't
-pub record Settles (hit : Bool) (t : Copies) : Type 0 where
-  pub latched : hit ≡ true → HasLatched t
-  pub fresh : hit ≡ false → IsFresh t
+-- no copy of a module has latched where it isn't hit
+abbrev pub Settles : Bool → Copies → Type 0
+Settles hit t = hit ≡ false → IsFresh t
 
 -- so it is in all modules
 pub record AllSettle (hit : HitModules) (t : Triples) : Type 0 where

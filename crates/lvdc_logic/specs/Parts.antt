@@ -1,8 +1,8 @@
 -- A script in parts of 256 events: what each part does to each copy, and for how long; and what is known of all copies by that.
-use Rattle.std.specs.Prelude.{◌≡◌, ℕ, zero, suc, ◌+◌, ◌*◌, ◌/◌, ◌%◌, ◌≤◌, ◌<◌, Bool, false, if◌then◌else◌, List, length, take, drop, replicate, slice_index_or}
+use Rattle.std.specs.Prelude.{◌≡◌, ℕ, zero, suc, ◌+◌, ◌*◌, ◌/◌, ◌%◌, ◌≤◌, ◌<◌, if◌then◌else◌, List, length, take, drop, replicate, slice_index_or}
 use Rattle.lvdc_fault.specs.Script.{makes_wrong, is_wrong, wrong_module}
 use Rattle.lvdc_fault.specs.declared.event.Event.{Event}
-use Rattle.lvdc_logic.specs.InForce.{no_faults, IsInForce}
+use Rattle.lvdc_logic.specs.InForce.{no_faults, mark_at, IsInForce}
 use Rattle.lvdc_logic.specs.Shares.{no_share, harm_in, share_at, share_of, share_join}
 use Rattle.lvdc_logic.specs.declared.shares.Share.{Share}
 use Rattle.lvdc_logic.specs.declared.in_force.Faults.{Faults}
@@ -43,14 +43,10 @@ total_of parts n (suc k) = share_then (total_of parts n k) (share_at (part_at pa
 abbrev pub faults_in : Share → Faults
 faults_in s = if s.named then record { deaf = s.deaf; harm = harm_in s } else no_faults
 
--- whether a copy is marked, by its number
-abbrev pub mark_at : List Bool → ℕ → Bool
-mark_at marks n = slice_index_or marks n false
-
 -- what is known is what a script does in a step: what is in force on each copy, which copies are wrong, and which module has two
 pub record IsKnown (script : List Event) (step : ℕ) (k : Known) : Type 0 where
   pub force : IsInForce script step k.force
-  pub marks : (n : ℕ) → n < 21 → mark_at k.marks n ≡ is_wrong script step (n / 3 + 1) (n % 3 + 1)
+  pub marks : (n : ℕ) → n < 21 → mark_at k.force.marks n ≡ is_wrong script step (n / 3 + 1) (n % 3 + 1)
   pub wrong : k.wrong ≡ wrong_module script step
 
 -- the parts are those of a script, each is right from the step on that was last, and what is known is so up to the first step at

@@ -77,7 +77,7 @@ impl Forces {
         requires last_copy { copy ≤ 3 }
         ensures { (script : List Event) (step : ℕ) → IsKnown script step self.now.known → result ≡ is_wrong script step number copy }
     {
-        self.known.marks[3 * usize::from(number - 1) + usize::from(copy - 1)]
+        self.known.force.marks[3 * usize::from(number - 1) + usize::from(copy - 1)]
     }
 
     /// Is what is known right at the step too?

@@ -4,8 +4,8 @@ ghost use Rattle.std.specs.Prelude.{◌≡◌, ℕ, ◌+◌, ◌-◌, ◌*◌, �
 ghost use Rattle.lvdc_fault.specs.Events.{IsEvent};
 ghost use Rattle.lvdc_fault.specs.Script.{are_two};
 ghost use Rattle.lvdc_fault.specs.declared.event.Event.{Event};
-ghost use Rattle.lvdc_logic.specs.InForce.{faults_at};
-ghost use Rattle.lvdc_logic.specs.Parts.{faults_in, mark_at, total_of, IsKnown};
+ghost use Rattle.lvdc_logic.specs.InForce.{faults_at, mark_at};
+ghost use Rattle.lvdc_logic.specs.Parts.{faults_in, total_of, IsKnown};
 ghost use Rattle.lvdc_logic.specs.Shares.{share_at, share_of};
 
 use crate::hit_modules::HitModules;
@@ -17,7 +17,6 @@ use crate::shares::Share;
 #[derive(Clone, Copy, Debug)]
 pub struct Known {
     pub(crate) force: InForce,
-    pub(crate) marks: [bool; 21],
     pub(crate) wrong: Option<u8>,
 }
 
@@ -26,7 +25,6 @@ impl Known {
     pub(crate) fn none() -> Known {
         Known {
             force: InForce::none(),
-            marks: [false; 21],
             wrong: None,
         }
     }
@@ -38,12 +36,14 @@ impl Known {
     {
         let shares = totals(parts);
         let marks = marks_of(&shares);
+        let hit = hit_of(&marks);
         Known {
             force: InForce {
-                hit: hit_of(&marks),
+                any: hit.any(),
+                hit,
+                marks,
                 copies: copies_of(&shares),
             },
-            marks,
             wrong: lowest_of(&marks),
         }
     }

@@ -14,5 +14,5 @@ mod shares;
 mod triples;
 
 pub use forces::Forces;
-pub use in_force::{Faults, InForce, in_force_stays};
+pub use in_force::{Faults, InForce};
 pub use logic::Logic;

@@ -2,7 +2,6 @@ ghost use Rattle.std.specs.Prelude.{◌≡◌, ℕ, ◌+◌, ◌≤◌, ◌<◌,
 ghost use Rattle.lvdc_vote.specs.Copies.{vote_of};
 ghost use Rattle.lvdc_modules.specs.Rows.{rows, bus_of, start_latches};
 ghost use Rattle.lvdc_vote.specs.Numbers.{latches_of};
-ghost use Rattle.lvdc_fault.specs.Script.{active_at};
 ghost use Rattle.lvdc_fault.specs.declared.event.Event.{Event};
 ghost use Rattle.lvdc_model.specs.Voted.{next_copies, counted, thrice};
 ghost use Rattle.lvdc_fault.specs.Events.{IsEvent};
@@ -12,7 +11,6 @@ ghost use Rattle.lvdc_logic.specs.Logic.{latch_of, vote_at, is_outvoted, count_o
 use crate::counts::Counts;
 use crate::in_force::InForce;
 use crate::triples::Triples;
-use lvdc_fault::{Active, Script};
 use lvdc_map::Hop;
 use lvdc_modules::Bus;
 use lvdc_orders::Order;
@@ -60,23 +58,9 @@ impl Logic {
         self.triples.voted_bus(memory, port)
     }
 
-    /// Makes a step, in which the copies latch in this order: each from this bus of the votes and of words from memory and port,
-    /// or where it is deaf from the copies of its own number, and with what the active events do to it. Then each copy that
-    /// differs from the new vote is counted. What comes of it doesn't depend on the order.
-    pub fn step(&mut self, order: &Order, script: &Script, active: &Active, step: u64, voted: &Bus)
-        requires active { active.now.held ≡ active_at script.now step }
-        requires events { All IsEvent script.now }
-        requires differed { DifferedAtMost step self.old.counts }
-        requires bound { step < 2 ^ 63 }
-        ensures copies { self.new.copies ≡ next_copies script.now step 1 rows self.old.copies self.old.copies voted.now }
-        ensures counts { self.new.counts ≡ counted self.new.copies self.old.counts }
-        ensures differed { DifferedAtMost (step + 1) self.new.counts }
-    {
-        let force = InForce::of_active(script, active, step);
-        self.step_under(order, &force, voted);
-    }
-
-    /// Makes a step with this in force. It is the step of each script that puts it in force.
+    /// Makes a step with this in force, in which the copies latch in this order: each from this bus of the votes and of words from
+    /// memory and port, or where it is deaf from the copies of its own number, and with what is in force on it. Then each copy that
+    /// differs from the new vote is counted. It is the step of each script that puts this in force, and doesn't depend on the order.
     pub fn step_under(&mut self, order: &Order, force: &InForce, voted: &Bus)
         requires differed { DifferedAtMost (2 ^ 63) self.old.counts }
         ensures copies { (script : List Event) (step : ℕ) → All IsEvent script → IsInForce script step force.now
@@ -85,8 +69,12 @@ impl Logic {
         ensures differed { (most : ℕ) → DifferedAtMost most self.old.counts → DifferedAtMost (most + 1) self.new.counts }
     {
         harm_suffices();
-        self.triples.latch_all(order, force, voted);
-        self.triples.commit(force.hit, voted, &mut self.counts);
+        if force.any {
+            self.triples.latch_named(order, force, voted);
+            self.triples.settle(force.hit, voted, &mut self.counts);
+        } else {
+            self.triples.renew(voted);
+        }
     }
 
     /// In how many steps a copy differed from the vote. Modules are 1 to 7 and copies 1 to 3.

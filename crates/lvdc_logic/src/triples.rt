@@ -1,11 +1,11 @@
 ghost use Rattle.std.specs.Prelude.{◌≡◌, ℕ, ◌≤◌, ◌<◌, ◌+◌, ◌/◌, ◌%◌, ◌^◌, None, map, slice_index};
-ghost use Rattle.lvdc_vote.specs.Copies.{copy_of, shadow_of, vote_of, IsFullOrder, IsSized};
+ghost use Rattle.lvdc_vote.specs.Copies.{copy_of, shadow_of, vote_of, after_settle, IsFullOrder, IsSized};
 ghost use Rattle.lvdc_vote.specs.Harms.{harmed};
 ghost use Rattle.lvdc_modules.specs.Rows.{bus_of, start_latches};
 ghost use Rattle.lvdc_model.specs.Voted.{counted, counted_three, thrice};
 ghost use Rattle.lvdc_logic.specs.Counts.{counts_in};
-ghost use Rattle.lvdc_logic.specs.InForce.{faults_at, latched_under};
-ghost use Rattle.lvdc_logic.specs.Latching.{copies_in, row_of, latches_in, triple_in, after_number, after_numbers, after_step, after_steps, AllFresh, AllSettle, AllSized, Settles};
+ghost use Rattle.lvdc_logic.specs.InForce.{faults_at, is_alone, latched_under};
+ghost use Rattle.lvdc_logic.specs.Latching.{copies_in, row_of, latches_in, triple_in, after_number, after_numbers, after_steps, AllAgree, AllFresh, AllSettle, AllSized, Settles};
 ghost use Rattle.lvdc_logic.specs.Logic.{DifferedAtMost};
 
 use crate::counts::Counts;
@@ -140,32 +140,44 @@ impl Triples {
         }
     }
 
-    /// The copies of the modules that are hit latch in this order, each with what is in force on it. What comes of it doesn't
-    /// depend on the order.
-    pub fn latch_all(&mut self, order: &Order, force: &InForce, voted: &Bus)
+    /// The copies that latch by themselves do so in this order, each with what is in force on it. What comes of it doesn't depend on the
+    /// order.
+    pub fn latch_named(&mut self, order: &Order, force: &InForce, voted: &Bus)
         requires fresh { AllFresh self.old }
-        ensures value { self.new ≡ after_numbers self.old force.now.hit order.now
+        ensures value { self.new ≡ after_numbers self.old (is_alone force.now) order.now
             (λ n. latched_under (faults_at force.now.copies n) self.old voted.now n) }
         ensures full { IsFullOrder 21 order.now }
     {
-        let numbers = order.copies();
-        if force.hit.is_empty() {
-            return;
-        }
-        let hit = force.hit.listed();
-        for number in numbers {
-            if hit[usize::from(*number / 3)] {
+        for number in order.copies() {
+            if force.is_alone(*number) {
                 self.latch_next(*number, force.on_copy(*number), voted);
             }
         }
     }
 
-    /// What the copies of the modules that are hit latched takes their place, and each that differs from the new vote is counted.
-    /// What the three of another module latch is worked out once, from the votes, and none of them differs.
-    pub fn commit(&mut self, hit: HitModules, voted: &Bus, counts: &mut Counts)
+    /// No copy latches by itself: each has what follows from the votes, and none differs.
+    pub fn renew(&mut self, voted: &Bus)
+        requires fresh { AllFresh self.old }
+        ensures value { self.new ≡ after_steps self.old voted.now }
+        ensures agree { AllAgree self.new }
+        ensures sized { AllSized self.new }
+    {
+        self.timer.renew(Timer::next(voted));
+        self.locator.renew(Locator::next(voted));
+        self.decoder.renew(Decoder::next(voted));
+        self.selector.renew(Selector::next(voted));
+        self.accumulator.renew(Accumulator::next(voted));
+        self.multiplier.renew(Multiplier::next(voted));
+        self.exchange.renew(Exchanger::next(voted));
+    }
+
+    /// What each copy latched takes its place, and that of a copy that hasn't latched what follows from the votes, which is worked
+    /// out once for a module. Each copy of a module that is hit is counted where it differs from the new vote; of another module none
+    /// differs.
+    pub fn settle(&mut self, hit: HitModules, voted: &Bus, counts: &mut Counts)
         requires latched { AllSettle hit self.old }
         requires differed { DifferedAtMost (2 ^ 63) (counts_in counts.old) }
-        ensures value { self.new ≡ after_steps self.old hit voted.now }
+        ensures value { self.new ≡ after_steps self.old voted.now }
         ensures counts { counts_in counts.new ≡ counted (copies_in self.new) (counts_in counts.old) }
         ensures sized { AllSized self.new }
     {
@@ -199,20 +211,21 @@ impl Triples {
     }
 }
 
-/// The next copies of a module: what they latched, where it is hit, or three times the state that follows from the votes. Only where
-/// it is hit can one differ from the vote.
+/// The next copies of a module: what each latched, or the state that follows from the votes. Only where the module is hit has one
+/// latched, and can one differ from the vote.
 fn settle<M: LogicModule>(triple: &mut Triple<M>, counts: &mut [u64; 3], hit: bool, voted: &M::Bus)
     requires latched { Settles hit triple.old }
     requires differed { (c : ℕ) → slice_index counts.old c ≤ 2 ^ 63 }
-    ensures value { triple.new ≡ after_step hit triple.old (M.next_of voted.now) }
+    ensures value { triple.new ≡ after_settle triple.old (M.next_of voted.now) }
     ensures counts { counts.new ≡ counted_three triple.new counts.old }
     ensures sized { IsSized M.State.LATCHES triple.new }
 {
+    let next = M::next(voted);
     if hit {
-        triple.commit();
+        triple.settle(next);
         *counts = counted_three(triple, *counts);
     } else {
-        triple.renew(M::next(voted));
+        triple.renew(next);
     }
 }
 

@@ -2,8 +2,8 @@ ghost use Rattle.std.specs.Prelude.{◌≡◌, ◌<◌, ◌≤◌, All, IfOk};
 ghost use Rattle.lvdc_fault.specs.Events.{IsEvent};
 
 use crate::same::same;
-use lvdc_fault::{Active, Event, Script};
-use lvdc_logic::Logic;
+use lvdc_fault::{Event, Script};
+use lvdc_logic::{Forces, Logic};
 use lvdc_map::{Address, Banks, Hop};
 use lvdc_modules::{Bus, Wanted, wish};
 use lvdc_orders::Order;
@@ -47,13 +47,13 @@ fn run_script(alloc: Global, script: &Script, order: &Order, steps: u64) -> Resu
     requires events { All IsEvent script.now }
     requires steps { steps < 100 }
 {
-    let mut active = Active::for_script(alloc, script)?;
+    let mut forces = Forces::for_script(alloc, script)?;
     let mut logic = Logic::new(Hop::of(Word::within(0o16)));
     for step in 0..steps {
-        script.active(step, &mut active);
+        forces.go_to(script, step);
         let voted = logic.bus(Word::ZERO, Word::ZERO);
         let memory = memory(&voted);
-        logic.step(order, script, &active, step, &Bus { memory, ..voted });
+        logic.step_under(order, forces.in_force(), &Bus { memory, ..voted });
     }
     Ok(logic)
 }

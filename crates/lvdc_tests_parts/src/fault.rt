@@ -1,7 +1,7 @@
 ghost use Rattle.lvdc_fault.specs.Activity.{Fits};
 
 use crate::rows::{column, comes, holds, same, script_of, shown};
-use lvdc_fault::{Active, Event, Ledger, Script, WrongCopies, wrong_module};
+use lvdc_fault::{Active, Event, Ledger, Script, wrong_module};
 use lvdc_map::{Address, Banks, Placed};
 use lvdc_word::{Cell, Word};
 use std::alloc::Global;
@@ -54,11 +54,6 @@ fn stands_so(
     let step: u64 = step.parse().map_err(|_| "a step")?;
     script.active(step, active);
     comes(rt, shown(alloc, &active.positions())?.as_str(), positions);
-    let now = shown(
-        alloc,
-        &WrongCopies::of_active(script, active, step).lowest_module(),
-    )?;
-    comes(rt, now.as_str(), wrong);
     let alone = shown(alloc, &wrong_module(script, step))?;
     comes(rt, alone.as_str(), wrong);
     Ok(())

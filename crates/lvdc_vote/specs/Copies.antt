@@ -37,6 +37,10 @@ after_latch t copy words =
 abbrev pub after_commit : Copies → Copies
 after_commit t = settled (unwrap_or t.shadow_one t.one) (unwrap_or t.shadow_two t.two) (unwrap_or t.shadow_three t.three)
 
+-- what each copy has latched takes its place, and these words that of a copy that hasn't latched
+abbrev pub after_settle : Copies → List ℕ → Copies
+after_settle t words = settled (unwrap_or t.shadow_one words) (unwrap_or t.shadow_two words) (unwrap_or t.shadow_three words)
+
 -- the vote over the three copies
 abbrev pub vote_of : Copies → List ℕ
 vote_of t = majority_of t.one t.two t.three

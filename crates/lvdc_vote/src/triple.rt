@@ -1,9 +1,9 @@
-ghost use Rattle.std.specs.Prelude.{◌≡◌, ℕ, ◌<◌, slice_get, Some, None, true, false, not, ◌&&◌, IsSome, All, is_some, unwrap_or};
+ghost use Rattle.std.specs.Prelude.{◌≡◌, ◌⊎◌, ℕ, ◌<◌, slice_get, Some, None, true, false, not, ◌&&◌, ◌||◌, IsSome, All, is_some, unwrap_or};
 ghost use Rattle.std.specs.Option.{option_map};
 ghost use Rattle.lvdc_vote.specs.Bits.{TwoAre};
 ghost use Rattle.lvdc_vote.specs.Latches.{latched_by, FitsLatches, IsMajority};
-ghost use Rattle.lvdc_vote.specs.Copies.{settled, copy_of, shadow_of, after_latch, after_commit, vote_of, differs_of, IsFresh, IsSized};
-ghost use Rattle.lvdc_vote.specs.Differences.{kept_of};
+ghost use Rattle.lvdc_vote.specs.Copies.{settled, copy_of, shadow_of, after_latch, after_commit, after_settle, vote_of, differs_of, IsFresh, IsSized};
+ghost use Rattle.lvdc_vote.specs.Differences.{kept_of, shadow_by};
 ghost use Rattle.lvdc_vote.specs.Harms.{harmed};
 
 use crate::harm::harmed_state;
@@ -213,6 +213,52 @@ impl<M: LogicModule> Triple<M> {
         *self = committed;
     }
 
+    /// What each copy has latched takes its place, and this state that of each copy that hasn't latched. Where at most one has, the
+    /// state is the vote.
+    pub fn settle(&mut self, state: M::State)
+        ensures value { self.new ≡ after_settle self.old (M.State.latches state) }
+        ensures sized { IsSized M.State.LATCHES self.new }
+    {
+        if two_of(self.latched_one, self.latched_two, self.latched_three) {
+            self.settle_apart(&state);
+        } else {
+            self.settle_beside(state);
+        }
+    }
+
+    /// The same, whichever copies have latched.
+    fn settle_apart(&mut self, state: &M::State)
+        ensures value { self.new ≡ after_settle self.old (M.State.latches state.now) }
+        ensures sized { IsSized M.State.LATCHES self.new }
+    {
+        let settled = {
+            let first = &self.first;
+            let one = latched_or(self.latched_one, &self.shadow_one, first, state).copied();
+            let two = latched_or(self.latched_two, &self.shadow_two, first, state).copied();
+            let three = latched_or(self.latched_three, &self.shadow_three, first, state).copied();
+            Triple::from_copies(one, two, three)
+        };
+        *self = settled;
+    }
+
+    /// The same where at most one copy has latched.
+    fn settle_beside(&mut self, state: M::State)
+        requires one_two { self.old.shadow_one ≡ None ⊎ self.old.shadow_two ≡ None }
+        requires one_three { self.old.shadow_one ≡ None ⊎ self.old.shadow_three ≡ None }
+        requires two_three { self.old.shadow_two ≡ None ⊎ self.old.shadow_three ≡ None }
+        ensures value { self.new ≡ after_settle self.old (M.State.latches state) }
+        ensures sized { IsSized M.State.LATCHES self.new }
+    {
+        self.one = beside(self.latched_one, &self.shadow_one, &self.first, &state);
+        self.two = beside(self.latched_two, &self.shadow_two, &self.first, &state);
+        self.three = beside(self.latched_three, &self.shadow_three, &self.first, &state);
+        self.voted = state;
+        self.first = None;
+        self.latched_one = false;
+        self.latched_two = false;
+        self.latched_three = false;
+    }
+
     /// The vote over the three copies.
     pub fn voted(&self) -> M::State
         ensures value { M.State.latches result ≡ vote_of self.now }
@@ -283,6 +329,47 @@ fn kept<S: Vote>(state: S, base: &S) -> Option<S>
     ensures { option_map S.latches result ≡ kept_of (S.latches state) (S.latches base.now) }
 {
     if state.same(base) { None } else { Some(state) }
+}
+
+/// What a copy has latched, or this state where it hasn't latched.
+fn latched_or<'a, S: Vote>(
+    latched: bool,
+    own: &'a Option<S>,
+    first: &'a Option<S>,
+    state: &'a S,
+) -> &'a S
+    requires { latched ≡ true → IsSome first.now }
+    ensures { S.latches result.now ≡ unwrap_or (shadow_by latched (option_map S.latches own.now) (option_map S.latches first.now)) (S.latches state.now) }
+{
+    if latched {
+        meant(own, meant(first, state))
+    } else {
+        state
+    }
+}
+
+/// What is kept of a copy beside a state that it has where it hasn't latched.
+fn beside<S: Vote>(latched: bool, own: &Option<S>, first: &Option<S>, state: &S) -> Option<S>
+    requires { latched ≡ true → IsSome first.now }
+    ensures { option_map S.latches result ≡ kept_of (unwrap_or (shadow_by latched (option_map S.latches own.now) (option_map S.latches first.now)) (S.latches state.now)) (S.latches state.now) }
+{
+    if latched {
+        let shadow = meant(own, meant(first, state));
+        if shadow.same(state) {
+            None
+        } else {
+            Some(shadow.copied())
+        }
+    } else {
+        None
+    }
+}
+
+/// Do two of the three hold?
+fn two_of(one: bool, two: bool, three: bool) -> bool
+    ensures { result ≡ ((one && two) || (one && three) || (two && three)) }
+{
+    one && two || one && three || two && three
 }
 
 /// The state of which this is kept beside a base.

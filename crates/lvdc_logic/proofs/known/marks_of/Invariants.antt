@@ -1,5 +1,5 @@
 use Rattle.std.proofs.Common.{◌≡◌, ℕ, ◌<◌, length}
-use Rattle.lvdc_logic.specs.Parts.{mark_at}
+use Rattle.lvdc_logic.specs.InForce.{mark_at}
 use Rattle.lvdc_logic.specs.Shares.{share_at}
 use Rattle.lvdc_logic.proofs.known.marks_of.Given as goal
 

@@ -1,7 +1,7 @@
-use Rattle.lvdc_fault.specs.Activity.{Fits}
 use Rattle.lvdc_logic.specs.Logic.{DifferedAtMost}
+use Rattle.lvdc_logic.specs.Parts.{AreForces}
 use Rattle.lvdc_tests_machines.proofs.logic.run_script.Given as goal
 
 -- what the next step asks for
 abbrev pub invariant-loop-step : goal.invariant-loop-step
-invariant-loop-step l = Fits l.script l.active × DifferedAtMost l.step l.logic.counts
+invariant-loop-step l = AreForces l.script l.forces × DifferedAtMost l.step l.logic.counts

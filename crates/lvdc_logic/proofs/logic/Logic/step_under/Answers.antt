@@ -1,41 +1,69 @@
-use Rattle.std.proofs.Common.{◌+◌, ◌^◌, sym, ◌∙◌, ap, subst}
+use Rattle.std.proofs.Common.{rules, arith, ℕ, ◌∷◌, [], Bool, false, ◌&&◌, ◌+◌, ◌^◌, refl, sym, ◌∙◌, ap, subst}
+use Rattle.std.proofs.lemmas.Bool.{false≢true}
 use Rattle.lvdc_logic.specs.Logic.{DifferedAtMost}
-use Rattle.lvdc_logic.specs.InForce.{faults_at, latched_under}
-use Rattle.lvdc_logic.specs.Latching.{copies_in, after_steps, AllFresh}
+use Rattle.lvdc_logic.specs.InForce.{faults_at, is_alone, latched_under}
+use Rattle.lvdc_logic.specs.Latching.{copies_in, new_latches, after_steps}
 use Rattle.lvdc_logic.specs.Counts.{counts_in}
 use Rattle.lvdc_logic.specs.declared.triples.Triples.{Triples}
-use Rattle.lvdc_logic.proofs.Commits.{all_settle, steps_are, steps_fresh}
-use Rattle.lvdc_logic.proofs.Differing.{counted_at_most}
+use Rattle.lvdc_logic.proofs.Commits.{all_settle, steps_are}
+use Rattle.lvdc_logic.proofs.Differing.{counted_at_most, agreed_counted}
 use Rattle.lvdc_logic.proofs.Under.{latched_is}
 use Rattle.lvdc_logic.proofs.logic.Logic.step_under.Goals as goal
 
-pub commit-requires-clause-latched : goal.commit-requires-clause-latched
-commit-requires-clause-latched c =
+pub settle-requires-clause-latched : goal.settle-requires-clause-latched
+settle-requires-clause-latched c =
     let force = c.args.force.now in
     let t = c.self.inside.triples in
-    rw c.latch_all.ensures.value
-    (all_settle t force.hit c.args.order.now (λ n. latched_under (faults_at force.copies n) t c.args.voted.now n) c.latch_all.ensures.full.all c.self.invariant.0)
+    rw c.latch_named.ensures.value
+    (all_settle t force c.args.order.now (λ n. latched_under (faults_at force.copies n) t c.args.voted.now n) c.self.invariant.0)
 
-pub commit-requires-clause-differed : goal.commit-requires-clause-differed
-commit-requires-clause-differed c = subst (DifferedAtMost (2 ^ 63)) (ap (λ v. v.counts) (sym c.self.view_is)) c.requires.differed
+pub settle-requires-clause-differed : goal.settle-requires-clause-differed
+settle-requires-clause-differed c = subst (DifferedAtMost (2 ^ 63)) (ap (λ v. v.counts) (sym c.self.view_is)) c.requires.differed
 
-pub returns-clause-copies : goal.returns-clause-copies
-returns-clause-copies c script step events in_force =
+pub returns-then-force-clause-copies : goal.returns-then-force-clause-copies
+returns-then-force-clause-copies c script step events in_force =
     let order = c.args.order.now in
     let t = c.self.inside.triples in
     let force = c.args.force.now in
     let voted = c.args.voted.now in
     rw (← c.self.view_is)
-    (ap copies_in (c.commit.ensures.value ∙ ap (λ (t : Triples). after_steps t force.hit voted) c.latch_all.ensures.value)
-    ∙ steps_are script step t force.hit order voted (λ n. latched_under (faults_at force.copies n) t voted n)
+    (ap copies_in (c.settle.ensures.value ∙ ap (λ (t : Triples). after_steps t voted) c.latch_named.ensures.value)
+    ∙ steps_are script step t (is_alone force) order voted (λ n. latched_under (faults_at force.copies n) t voted n) c.self.invariant.0
     (latched_is c.harm_suffices.ensures script step force t voted c.self.invariant.1 events in_force)
-    c.latch_all.ensures.full.all in_force.others)
+    (λ n h e. c.latch_named.ensures.full.all n h) (λ n h off. in_force.others n h (ap (λ (any : Bool). any && is_alone force n) c.if-force.true ∙ off)))
 
-pub returns-clause-differed : goal.returns-clause-differed
-returns-clause-differed c most before =
-    subst (DifferedAtMost (most + 1)) (sym c.commit.ensures.counts)
-    (counted_at_most most (copies_in c.commit.new.self) (counts_in c.self.inside.counts) (subst (DifferedAtMost most) (ap (λ v. v.counts) (sym c.self.view_is)) before))
+pub returns-then-force-clause-differed : goal.returns-then-force-clause-differed
+returns-then-force-clause-differed c most before =
+    subst (DifferedAtMost (most + 1)) (sym c.settle.ensures.counts)
+    (counted_at_most most (copies_in c.settle.new.self) (counts_in c.self.inside.counts) (subst (DifferedAtMost most) (ap (λ v. v.counts) (sym c.self.view_is)) before))
 
-pub invariant_of-self : goal.invariant_of-self
-invariant_of-self c =
-    (subst AllFresh (sym c.commit.ensures.value) (steps_fresh c.latch_all.new.self c.args.force.now.hit c.args.voted.now), c.commit.ensures.sized)
+pub returns-else-force-clause-copies : goal.returns-else-force-clause-copies
+returns-else-force-clause-copies c script step events in_force =
+    let t = c.self.inside.triples in
+    let force = c.args.force.now in
+    let voted = c.args.voted.now in
+    let none = λ (n : ℕ). false in
+    rw (← c.self.view_is)
+    (ap copies_in c.renew.ensures.value
+    ∙ steps_are script step t none [] voted (new_latches script step t voted) c.self.invariant.0 (λ n h. refl) (λ n h e. absurd (false≢true e))
+    (λ n h off. in_force.others n h (ap (λ (any : Bool). any && is_alone force n) c.if-force.false)))
+
+pub returns-else-force-clause-counts : goal.returns-else-force-clause-counts
+returns-else-force-clause-counts c =
+    let t = c.renew.new.self in
+    let counts = c.self.inside.counts in
+    let agree = c.renew.ensures.agree in
+    rw (← c.self.view_is)
+    (λ j.
+    agreed_counted t.timer counts.timer (search rules) agree.timer j
+    ∷ agreed_counted t.locator counts.locator (search rules) agree.locator j
+    ∷ agreed_counted t.decoder counts.decoder (search rules) agree.decoder j
+    ∷ agreed_counted t.selector counts.selector (search rules) agree.selector j
+    ∷ agreed_counted t.accumulator counts.accumulator (search rules) agree.accumulator j
+    ∷ agreed_counted t.multiplier counts.multiplier (search rules) agree.multiplier j
+    ∷ agreed_counted t.exchange counts.exchange (search rules) agree.exchange j
+    ∷ [])
+
+pub returns-else-force-clause-differed : goal.returns-else-force-clause-differed
+returns-else-force-clause-differed c most before number copy =
+    omega (arith, subst (DifferedAtMost most) (ap (λ v. v.counts) (sym c.self.view_is)) before number copy)

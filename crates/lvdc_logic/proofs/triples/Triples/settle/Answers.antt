@@ -1,7 +1,7 @@
 use Rattle.std.specs.Prelude.{◌^◌}
 use Rattle.lvdc_logic.specs.Counts.{counts_in}
 use Rattle.lvdc_logic.proofs.Differing.{at_most}
-use Rattle.lvdc_logic.proofs.triples.Triples.commit.Goals as goal
+use Rattle.lvdc_logic.proofs.triples.Triples.settle.Goals as goal
 
 pub settle-requires-clause-differed : goal.settle-requires-clause-differed
 settle-requires-clause-differed c = at_most (2 ^ 63) (counts_in c.args.counts.now) c.requires.differed 0
