@@ -4,7 +4,7 @@ use Rattle.std.specs.Prelude.{nat_lt, IfSome, if◌then◌else◌}
 use Rattle.std.specs.Option.{option_map}
 use Rattle.std.proofs.lemmas.Bool.{true≢false, or_cases, cases_Bool}
 use Rattle.std.proofs.lemmas.List.{append_assoc, append-nil, length_push}
-use Rattle.lvdc_place.specs.Slot.{Slot, slot_at, number_of, sector_start}
+use Rattle.lvdc_place.specs.Slot.{Slot, is_slot, slot_at, number_of, sector_start}
 use Rattle.lvdc_place.specs.Slots.{Slots, never_free, with_saver, with_slots, are_free, block_slots, least, least_place, is_free_at}
 use Rattle.lvdc_place.specs.Placement.{Places, taken_after, taken_after_all, places_floating, places_with, places_with_all, after_fixed, places_of}
 use Rattle.lvdc_place.specs.Apart.{is_in, are_distinct}
@@ -104,14 +104,26 @@ all_slots-push (b ∷ bs) (p ∷ ps) block place same =
     ap (λ (later : List Slot). block_slots b.site.kind b.size p ++ later) (all_slots-push bs ps block place (omega arith))
     ∙ sym (append_assoc (block_slots b.site.kind b.size p) (all_slots bs ps) (block_slots block.site.kind block.size place))
 
--- slots that are taken, each once
+-- slots of the memory that are taken, each once, as is what is no slot of it
 pub record AreTakenOnce (taken : Slots) (slots : List Slot) : Type 0 where
   pub distinct : are_distinct slots ≡ true
   pub taken_all : (slot : Slot) → is_in slot slots ≡ true → taken slot ≡ true
+  pub inside : (slot : Slot) → is_in slot slots ≡ true → is_slot slot ≡ true
+  pub closed : (slot : Slot) → is_slot slot ≡ false → taken slot ≡ true
 
--- where the blocks aren't refused
+-- what is free is a slot of the memory
+free_inside : (taken : Slots) → ((slot : Slot) → is_slot slot ≡ false → taken slot ≡ true) → (slot : Slot) → taken slot ≡ false → is_slot slot ≡ true
+free_inside taken closed slot free = elim (cases_Bool (is_slot slot)) [
+  | inl t ↦ t
+  | inr f ↦ absurd (true≢false (sym (closed slot f) ∙ free))
+]
+
+closed_first : (slot : Slot) → is_slot slot ≡ false → never_free slot ≡ true
+closed_first slot h = rw h refl
+
+-- where the blocks aren't refused: each has a place
 abbrev pub BlocksApart : List Block → Result Places PlaceFault → Type 0
-BlocksApart blocks (Ok stands) = AreTakenOnce stands.taken (all_slots blocks stands.places)
+BlocksApart blocks (Ok stands) = AreTakenOnce stands.taken (all_slots blocks stands.places) × (length blocks ≡ length stands.places)
 BlocksApart blocks (Err fault) = Unit {0}
 
 -- where a block finds a place it is free
@@ -139,7 +151,7 @@ words_free taken home size = by_found (least_place taken (Words home) size) refl
 stand_apart : (past blocks : List Block) (so_far : Places) → length past ≡ length so_far.places → AreTakenOnce so_far.taken (all_slots past so_far.places ++ fixed_slots blocks) →
     BlocksApart (past ++ blocks) (places_with_all (Ok so_far) blocks)
 stand_apart past [] so_far same once =
-    rw (append-nil past) (subst (λ (slots : List Slot). AreTakenOnce so_far.taken slots) (append-nil (all_slots past so_far.places)) once)
+    rw (append-nil past) (subst (λ (slots : List Slot). AreTakenOnce so_far.taken slots) (append-nil (all_slots past so_far.places)) once, same)
 stand_apart past (block ∷ blocks) so_far same once = by_site block.site.at once (stand_apart (past ++ block ∷ []) blocks)
   where
     count : (place : Slot) → length (past ++ block ∷ []) ≡ length (so_far.places ++ place ∷ [])
@@ -170,6 +182,14 @@ stand_apart past (block ∷ blocks) so_far same once = by_site block.site.at onc
             ]
             | inr fixed ↦ with_slots-keeps so_far.taken S slot (once.taken_all slot (in-right slot P F fixed))
           ];
+          inside = λ slot a. elim (or_cases (is_in slot (P ++ S)) (is_in slot F) (sym (is_in-append slot (P ++ S) F) ∙ a)) [
+            | inl front ↦ elim (or_cases (is_in slot P) (is_in slot S) (sym (is_in-append slot P S) ∙ front)) [
+              | inl old ↦ once.inside slot (in-left slot P F old)
+              | inr new ↦ free_inside so_far.taken once.closed slot (in-free so_far.taken S slot free new)
+            ]
+            | inr fixed ↦ once.inside slot (in-right slot P F fixed)
+          ];
+          closed = λ slot a. with_slots-keeps so_far.taken S slot (once.closed slot a);
         }))
 
     by_stand : (at : Option Slot) → AreTakenOnce so_far.taken (all_slots past so_far.places ++ (of_fixed block at ++ fixed_slots blocks)) →
@@ -196,4 +216,9 @@ places_apart blocks = by_fixed (taken_after_all (Ok never_free) blocks) (fixed_a
     by_fixed : (fixed : Result Slots PlaceFault) → FixedApart never_free fixed (fixed_slots blocks) → BlocksApart blocks (after_fixed blocks fixed)
     by_fixed (Err fault) h = tt
     by_fixed (Ok now) h = stand_apart [] blocks (record { places = []; taken = with_saver now }) refl
-        (record { distinct = h.distinct; taken_all = λ slot a. rw (h.taken slot a) refl })
+        (record {
+          distinct = h.distinct;
+          taken_all = λ slot a. rw (h.taken slot a) refl;
+          inside = λ slot a. free_inside never_free closed_first slot (h.free slot a);
+          closed = λ slot a. rw (h.keeps slot (closed_first slot a)) refl;
+        })

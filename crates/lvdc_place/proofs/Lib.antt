@@ -3,6 +3,7 @@ pub mod Caps
 pub mod Distinct
 pub mod Least
 pub mod LinesApart
+pub mod Placed
 pub mod Programs
 pub mod Reserved
 mod Rows

@@ -1,5 +1,5 @@
 -- The lines of a program share no slot: together they take those of its blocks.
-use Rattle.std.proofs.Common.{◌≡◌, ℕ, zero, suc, ◌+◌, List, [], ◌∷◌, ◌++◌, Option, Ok, refl, sym, ap, ◌∙◌, subst, arith}
+use Rattle.std.proofs.Common.{◌≡◌, ℕ, zero, suc, ◌+◌, List, [], ◌∷◌, ◌++◌, length, Option, Ok, refl, sym, ap, ◌∙◌, subst, arith}
 use Rattle.std.proofs.lemmas.List.{append_assoc}
 use Rattle.lvdc_source.specs.Items.{AreItems, IsBody, IsProgram, block_after}
 use Rattle.lvdc_source.specs.declared.block.Block.{Block as Stands}
@@ -10,7 +10,6 @@ use Rattle.lvdc_source.specs.declared.item.Item.{Item}
 use Rattle.lvdc_place.specs.Slot.{Slot, slot_after, with_syllable, sector_start}
 use Rattle.lvdc_place.specs.Slots.{Slots, block_slots, slots_at}
 use Rattle.lvdc_place.specs.Blocks.{size_ahead, blocks_of}
-use Rattle.lvdc_place.specs.Fitting.{AllFit}
 use Rattle.lvdc_place.specs.Placement.{spots_from, places_of}
 use Rattle.lvdc_place.specs.Apart.{is_in, are_distinct, program_slots, StandApart}
 use Rattle.lvdc_place.specs.declared.spot.Spot.{Spot}
@@ -58,7 +57,7 @@ take_line kind count rest slot head later after is comes =
 
 -- what is shown of the lines after one
 abbrev Later : List Item → Type 0
-Later items = (block : Stands) (slot : Slot) (places : List Slot) → AreItems block items → AllFit (blocks_of items) places →
+Later items = (block : Stands) (slot : Slot) (places : List Slot) → AreItems block items → length (blocks_of items) ≡ length places →
     program_slots items (spots_from slot places items) ≡ block_slots (kind_in block) (size_ahead items) slot ++ all_slots (blocks_of items) places
 
 words_take : (block : Stands) (count : ℕ) (slot : Slot) → block ≡ stands.Words → block_slots (Words (with_syllable slot 0)) count (with_syllable slot 0) ≡ block_slots (kind_in block) count slot
@@ -67,52 +66,55 @@ words_take block count slot is =
     words-any (with_syllable slot 0) (sector_start 0 0) count slot 0 ∙ ap (λ (b : Stands). block_slots (kind_in b) count slot) (sym is)
 
 line_takes : (block : Stands) (item : Item) (body : Body) (items : List Item) (slot : Slot) (places : List Slot) → IsBody block item.label body → AreItems (block_after block body) items →
-    AllFit (blocks_of (record item { body = body } ∷ items)) places → Later items →
+    length (blocks_of (record item { body = body } ∷ items)) ≡ length places → Later items →
     program_slots (record item { body = body } ∷ items) (spots_from slot places (record item { body = body } ∷ items))
     ≡ block_slots (kind_in block) (size_ahead (record item { body = body } ∷ items)) slot ++ all_slots (blocks_of (record item { body = body } ∷ items)) places
 unfolding kind_in
-line_takes block item says.Code items slot [] h are fit later = absurd fit
-line_takes block item says.Code items slot (p ∷ ps) h are fit later = later stands.Code p ps are fit.1
-line_takes block item (says.Org at syl) items slot [] h are fit later = absurd fit
-line_takes block item (says.Org at syl) items slot (p ∷ ps) h are fit later = later stands.Code p ps are fit.1
-line_takes block item (says.Words pair sector loc) items slot [] h are fit later = absurd fit
-line_takes block item (says.Words pair sector loc) items slot (p ∷ ps) h are fit later =
-    later stands.Words p ps are fit.1
+line_takes block item says.Code items slot [] h are same later = absurd (omega arith)
+line_takes block item says.Code items slot (p ∷ ps) h are same later = later stands.Code p ps are (omega arith)
+line_takes block item (says.Org at syl) items slot [] h are same later = absurd (omega arith)
+line_takes block item (says.Org at syl) items slot (p ∷ ps) h are same later = later stands.Code p ps are (omega arith)
+line_takes block item (says.Words pair sector loc) items slot [] h are same later = absurd (omega arith)
+line_takes block item (says.Words pair sector loc) items slot (p ∷ ps) h are same later =
+    later stands.Words p ps are (omega arith)
     ∙ ap (λ (own : List Slot). own ++ all_slots (blocks_of items) ps) (words-any (sector_start 0 0) (sector_start pair sector) (size_ahead items) p p.syl)
-line_takes block item (says.Sector pair sector) items slot places h are fit later =
-    take_line (kind_in block) 0 (size_ahead items) slot [] (program_slots items (spots_from (slot_after slot 0) places items)) (all_slots (blocks_of items) places) refl (later block (slot_after slot 0) places are fit)
-line_takes block item (says.Room count) items slot places h are fit later =
+line_takes block item (says.Sector pair sector) items slot places h are same later =
+    take_line (kind_in block) 0 (size_ahead items) slot [] (program_slots items (spots_from (slot_after slot 0) places items)) (all_slots (blocks_of items) places) refl (later block (slot_after slot 0) places are same)
+line_takes block item (says.Room count) items slot places h are same later =
     take_line (kind_in block) count (size_ahead items) slot (block_slots (Words (with_syllable slot 0)) count (with_syllable slot 0))
     (program_slots items (spots_from (slot_after slot count) places items)) (all_slots (blocks_of items) places)
-    (words_take block count slot h.0) (later block (slot_after slot count) places are fit)
-line_takes block item (says.Constant constant) items slot places h are fit later =
+    (words_take block count slot h.0) (later block (slot_after slot count) places are same)
+line_takes block item (says.Constant constant) items slot places h are same later =
     take_line (kind_in block) 1 (size_ahead items) slot (block_slots (Words (with_syllable slot 0)) 1 (with_syllable slot 0))
     (program_slots items (spots_from (slot_after slot 1) places items)) (all_slots (blocks_of items) places)
-    (words_take block 1 slot h) (later block (slot_after slot 1) places are fit)
-line_takes block item (says.Instruction op operand) items slot places h are fit later =
+    (words_take block 1 slot h) (later block (slot_after slot 1) places are same)
+line_takes block item (says.Instruction op operand) items slot places h are same later =
     take_line (kind_in block) 1 (size_ahead items) slot (slot ∷ [])
     (program_slots items (spots_from (slot_after slot 1) places items)) (all_slots (blocks_of items) places)
-    (ap (λ (b : Stands). block_slots (kind_in b) 1 slot) (sym h.0)) (later block (slot_after slot 1) places are fit)
+    (ap (λ (b : Stands). block_slots (kind_in b) 1 slot) (sym h.0)) (later block (slot_after slot 1) places are same)
 
 -- the lines of a block take its slots, one after another, and then come those of the later blocks
-lines_take : (block : Stands) (items : List Item) (slot : Slot) (places : List Slot) → AreItems block items → AllFit (blocks_of items) places →
+lines_take : (block : Stands) (items : List Item) (slot : Slot) (places : List Slot) → AreItems block items → length (blocks_of items) ≡ length places →
     program_slots items (spots_from slot places items) ≡ block_slots (kind_in block) (size_ahead items) slot ++ all_slots (blocks_of items) places
 unfolding AreItems
-lines_take block [] slot places are fit = refl
-lines_take block (item ∷ items) slot places are fit =
-    line_takes block item item.body items slot places are.0 are.1 fit (λ b s ps a f. lines_take b items s ps a f)
+lines_take block [] slot places are same = refl
+lines_take block (item ∷ items) slot places are same =
+    line_takes block item item.body items slot places are.0 are.1 same (λ b s ps a f. lines_take b items s ps a f)
 
 -- no two lines share a slot, and each slot of a line is taken
-pub lines_apart : (items : List Item) (places : List Slot) (spots : List (Option Spot)) (taken : Slots) → IsProgram items → AllFit (blocks_of items) places →
+pub lines_apart : (items : List Item) (places : List Slot) (spots : List (Option Spot)) (taken : Slots) → IsProgram items →
     places_of (blocks_of items) ≡ Ok (record { places = places; taken = taken }) → spots ≡ spots_from (sector_start 0 0) places items → StandApart items spots taken
 unfolding kind_in
-lines_apart items places spots taken program fit stand are =
-    let once : BlocksApart (blocks_of items) (Ok (record { places = places; taken = taken })) = subst (BlocksApart (blocks_of items)) stand (places_apart (blocks_of items)) in
+lines_apart items places spots taken program stand are =
+    let apart : BlocksApart (blocks_of items) (Ok (record { places = places; taken = taken })) = subst (BlocksApart (blocks_of items)) stand (places_apart (blocks_of items)) in
+    let once = apart.0 in
     let same : program_slots items spots ≡ all_slots (blocks_of items) places =
     ap (program_slots items) are
-    ∙ lines_take stands.Nowhere items (sector_start 0 0) places program fit
+    ∙ lines_take stands.Nowhere items (sector_start 0 0) places program apart.1
     ∙ ap (λ n. block_slots Code n (sector_start 0 0) ++ all_slots (blocks_of items) places) (nothing_first items program) in
     record {
       distinct = ap are_distinct same ∙ once.distinct;
       taken_all = λ slot h. once.taken_all slot (ap (is_in slot) (sym same) ∙ h);
+      inside = λ slot h. once.inside slot (ap (is_in slot) (sym same) ∙ h);
+      closed = once.closed;
     }

@@ -3,6 +3,7 @@
 
 mod block;
 mod fault;
+mod laws;
 mod layout;
 mod placing;
 mod search;
@@ -11,6 +12,7 @@ mod spot;
 mod taken;
 
 pub use fault::PlaceFault;
+pub use laws::{placed_lines, pooled_places};
 pub use layout::Layout;
 pub use placing::place;
 pub use spot::Spot;

@@ -1,7 +1,7 @@
 //! What sources are like, as laws over their definitions: functions that do nothing.
 
 ghost use Rattle.std.specs.Prelude.{◌≡◌, List, length, Ok};
-ghost use Rattle.lvdc_source.specs.Items.{AreFew};
+ghost use Rattle.lvdc_source.specs.Items.{AreFew, IsProgram};
 ghost use Rattle.lvdc_text.specs.Lines.{NumberedLine};
 ghost use Rattle.lvdc_source.specs.Source.{source_of};
 ghost use Rattle.lvdc_source.specs.declared.item.Item.{Item};
@@ -9,4 +9,9 @@ ghost use Rattle.lvdc_source.specs.declared.item.Item.{Item};
 /// A source has no more items than lines, and their labels are no longer than names are.
 pub fn items_are_few()
     ensures { (lines : List NumberedLine) (items : List Item) → source_of lines ≡ Ok items → AreFew items (length lines) }
+{}
+
+/// What the lines of a source mean is a program: each line says what may be said in its block.
+pub fn sources_are_programs()
+    ensures { (lines : List NumberedLine) (items : List Item) → source_of lines ≡ Ok items → IsProgram items }
 {}

@@ -60,12 +60,9 @@ returns-clause-apart c =
     let taken : Slots = set_of c.in-Ok.standing.taken in
     let spots = c.in_ok-spots.spots.items in
     let blocks : c.deref.result.now ≡ map capped_block (blocks_of items) = c.deref.ensures.value ∙ c.in_ok-blocks.ensures in
-    let fit : AllFit c.deref.result.now c.in-Ok.standing.places.items = c.in-Ok.ensures.fit in
-    let fits : AllFit (blocks_of items) places = rw c.deref-2.ensures.value
-    (all_fit-capped_block (blocks_of items) c.in-Ok.standing.places.items (subst (λ (bs : List Block). AllFit bs c.in-Ok.standing.places.items) blocks fit)) in
     let stand : places_of (blocks_of items) ≡ Ok (record { places = places; taken = taken }) =
     sym (places_of-capped_block (blocks_of items)) ∙ ap places_of (sym blocks) ∙ c.in-Ok.ensures.places
     ∙ ap (λ (ps : List Slot). Ok (record { places = ps; taken = taken })) (sym c.deref-2.ensures.value) in
     rw c.new.ensures
     (subst (λ (is : List Item). StandApart is spots taken) c.items-items.ensures.items
-    (lines_apart items places spots taken c.items-items.ensures.program fits stand c.in_ok-spots.ensures.spots))
+    (lines_apart items places spots taken c.items-items.ensures.program stand c.in_ok-spots.ensures.spots))

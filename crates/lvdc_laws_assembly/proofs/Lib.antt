@@ -1,0 +1,12 @@
+pub mod Assemblies
+pub mod Held
+pub mod Images
+pub mod Items
+pub mod Lines
+pub mod Meanings
+pub mod Named
+pub mod Operands
+pub mod Pools
+pub mod Ranges
+pub mod Steps
+pub mod Words
