@@ -34,7 +34,7 @@ found-later place at None rest other = refl
 found-later place at (Some w) rest other = rw other refl
 
 -- no word stands before the first location, nor after the last one
-none-outside : (place : ℕ) (locations : Locations) (at : Spot) → (place ≤ number_of at → number_of at < place + length locations → ⊥) → word_at (words_from place locations) at ≡ None
+pub none-outside : (place : ℕ) (locations : Locations) (at : Spot) → (place ≤ number_of at → number_of at < place + length locations → ⊥) → word_at (words_from place locations) at ≡ None
 none-outside place [] at out = refl
 none-outside place (location ∷ locations) at out =
     found-later place at (word_in location) (words_from (place + 1) locations) (spot-other place at (λ is. out (omega arith) (omega arith)))

@@ -57,9 +57,9 @@ held-at plan done assumed (first ∷ items) (spot ∷ spots) (suc number) item h
     held-at plan done (data_after assumed first.body) items spots number item here hold.1 says stands
 
 -- where a line stands
-record LineStands (body : Body) (here : Place) : Type 0 where
-  form : StandsAs body (Some here)
-  inside : (slot : Slot) → is_in slot (line_slots body (Some here)) ≡ true → is_slot slot ≡ true
+pub record LineStands (body : Body) (here : Place) : Type 0 where
+  pub form : StandsAs body (Some here)
+  pub inside : (slot : Slot) → is_in slot (line_slots body (Some here)) ≡ true → is_slot slot ≡ true
 
 stands-at : (items : List Item) (spots : List (Option Place)) (number : ℕ) (item : Item) (here : Place) → StandAs items spots
     → ((slot : Slot) → is_in slot (program_slots items spots) ≡ true → is_slot slot ≡ true) → slice_get items number ≡ Some item → slice_get spots number ≡ Some (Some here) → LineStands item.body here
@@ -153,7 +153,7 @@ code-at a is line op operand here assumed syl stands inside place form holds =
       bits = address-is a is line op here.at syl assumed operand holds.address slot.pair place holds.means;
     }
 
-some-syl : (o : Option ℕ) → is_some o ≡ true → (syl : ℕ) × (o ≡ Some syl)
+pub some-syl : (o : Option ℕ) → is_some o ≡ true → (syl : ℕ) × (o ≡ Some syl)
 some-syl None h = absurd (true≢false (sym h))
 some-syl (Some syl) h = (syl, refl)
 
@@ -215,7 +215,7 @@ each-holds a is number item here assumed line =
 
 -- ---- pooled words
 
-pooled-at : {X : Type 0} (xs ys : List X) (index : ℕ) (P : X → Type 0) → xs ≡ ys → IfSome (slice_get ys index) P → IfSome (slice_get xs index) P
+pub pooled-at : {X : Type 0} (xs ys : List X) (index : ℕ) (P : X → Type 0) → xs ≡ ys → IfSome (slice_get ys index) P → IfSome (slice_get xs index) P
 pooled-at xs ys index P same h = subst (λ zs. IfSome (slice_get zs index) P) (sym same) h
 
 pub each-pooled : (a : Assembled) → IsWalked a → (index : ℕ) → IfSome (slice_get a.pool index) (λ pooled. word_at a.words pooled.1 ≡ Some pooled.0.word)

@@ -2,7 +2,7 @@
 use Rattle.std.proofs.Common.{◌≡◌, ◌≢◌, ℕ, zero, suc, ◌+◌, ◌-◌, ◌*◌, ◌/◌, ◌%◌, ◌^◌, ◌<◌, ◌≤◌, Bool, true, false, cond, ◌||◌, List, Option, None, Some, IfSome, Result, Ok, Err, ℤ, pos, negsuc, nat_lt, refl, sym, ap, ◌∙◌, subst, arith, inl, inr}
 use Rattle.std.specs.Prelude.{◌==◌}
 use Rattle.std.specs.Option.{option_and_then}
-use Rattle.std.proofs.lemmas.Bool.{eq-eqb, ne_eqb, ltb-true, le-ltb}
+use Rattle.std.proofs.lemmas.Bool.{true≢false, eq-eqb, ne_eqb, ltb-true, le-ltb}
 use Rattle.std.proofs.lemmas.Int.{ints}
 use Rattle.lvdc_word.specs.Word.{signed}
 use Rattle.lvdc_map.specs.Address.{Spot}
@@ -12,13 +12,14 @@ use Rattle.lvdc_map.specs.Place.{a9, operand_kind, with_data}
 use Rattle.lvdc_map.specs.declared.operand.OperandKind.TheVariants as kinds
 use Rattle.lvdc_map.proofs.HopLaws.{hop_of-word_of_hop}
 use Rattle.lvdc_isa.specs.declared.op.Op.{Op}
+use Rattle.lvdc_isa.specs.declared.op.Op.TheVariants.{Tra, Tnz, Tmi}
 use Rattle.lvdc_source.specs.declared.item.Constant.{Constant}
 use Rattle.lvdc_source.specs.declared.item.Constant.TheVariants.{Oct, Dec, HopOf}
 use Rattle.lvdc_place.specs.Slot.{IsSlot, is_slot, slot_of}
 use Rattle.lvdc_place.proofs.Tables.{is_slot-true}
 use Rattle.lvdc_asm.specs.DataPlace.{DataPlace}
 use Rattle.lvdc_asm.specs.Hop.{Plan, hop_at, hop_by, hop_to, target_of, start_of}
-use Rattle.lvdc_asm.specs.Operands.{pair_address, name_address, octal_word, decimal_word, hop_word, name_word, constant_word}
+use Rattle.lvdc_asm.specs.Operands.{is_transfer, pair_address, name_address, octal_word, decimal_word, hop_word, name_word, constant_word}
 use Rattle.lvdc_asm.specs.Target.{Target}
 use Rattle.lvdc_asm.specs.declared.fault.AsmFault.{AsmFault}
 use Rattle.lvdc_asm.specs.declared.fault.AsmFault.TheVariants.{OutOfRange, UndefinedName}
@@ -97,6 +98,19 @@ goes-to here syl assumed offset target address four near halves is =
       syllable = ap (λ (n : ℕ). Some n) half ∙ sym is.code;
     }
 
+-- three operations go on
+comes-on : (op : Op) (hop : HopConstant) (address : ℕ) (at : Spot) (syl : Option ℕ) → is_transfer op ≡ true → GoesTo hop address at syl → Comes op hop address at syl
+comes-on Tra hop address at syl is goes = goes
+comes-on Tnz hop address at syl is goes = goes
+comes-on Tmi hop address at syl is goes = goes
+comes-on _ hop address at syl is goes = absurd (true≢false (sym is))
+
+comes-at : (op : Op) (hop : HopConstant) (address : ℕ) (at : Spot) (syl : Option ℕ) → is_transfer op ≡ false → NamesWord hop address at → Comes op hop address at syl
+comes-at Tra hop address at syl is names = absurd (true≢false is)
+comes-at Tnz hop address at syl is names = absurd (true≢false is)
+comes-at Tmi hop address at syl is names = absurd (true≢false is)
+comes-at _ hop address at syl is names = names
+
 -- an address of a name comes to its place
 pub name-reaches : (plan : Plan) (line : ℕ) (op : Op) (here : Spot) (syl : ℕ) (assumed : DataPlace) (name : List ℕ) (offset address : ℕ) → here.pair < 4 → IsPlace assumed
     → ((target : Target) → target_of plan name ≡ Some target → IfSome target.syl (λ half. half < 2))
@@ -110,9 +124,9 @@ name-reaches plan line op here syl assumed name offset address four place halves
         target = found.0;
         named = found.1;
         comes = elim (reach-cases op here assumed found.0 offset address is.reach) [
-          | inl goes ↦ subst (λ (b : Bool). Comes b (hop_at here syl assumed) address (record found.0.at { loc = found.0.at.loc + offset }) found.0.syl) (sym goes.0)
+          | inl goes ↦ comes-on op (hop_at here syl assumed) address (record found.0.at { loc = found.0.at.loc + offset }) found.0.syl goes.0
               (goes-to here syl assumed offset found.0 address four is.near (halves found.0 found.1) goes.1)
-          | inr stands ↦ subst (λ (b : Bool). Comes b (hop_at here syl assumed) address (record found.0.at { loc = found.0.at.loc + offset }) found.0.syl) (sym stands.0)
+          | inr stands ↦ comes-at op (hop_at here syl assumed) address (record found.0.at { loc = found.0.at.loc + offset }) found.0.syl stands.0
               (names-word here syl assumed found.0.at offset address place is.near stands.1)
         ];
       }

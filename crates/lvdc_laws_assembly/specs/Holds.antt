@@ -1,12 +1,12 @@
 -- What the image of a source holds for a line: what a machine finds there.
-use Rattle.std.specs.Prelude.{◌≡◌, ◌≢◌, ℕ, ◌+◌, ◌*◌, ◌%◌, ◌^◌, Bool, true, false, List, Option, Some}
+use Rattle.std.specs.Prelude.{◌≡◌, ◌≢◌, ℕ, ◌+◌, ◌*◌, ◌%◌, ◌^◌, true, List, Option, Some}
 use Rattle.lvdc_word.specs.Word.{signed}
 use Rattle.lvdc_map.specs.Address.{Spot}
 use Rattle.lvdc_map.specs.Hop.{HopConstant, hop_of, fetch_of}
 use Rattle.lvdc_map.specs.Place.{operand_kind, data_spot, jumped, with_data}
 use Rattle.lvdc_map.specs.declared.operand.OperandKind.TheVariants.{Pq}
 use Rattle.lvdc_isa.specs.declared.op.Op.{Op}
-use Rattle.lvdc_isa.specs.declared.op.Op.TheVariants.{Shf}
+use Rattle.lvdc_isa.specs.declared.op.Op.TheVariants.{Tra, Tnz, Tmi, Shf}
 use Rattle.lvdc_source.specs.declared.item.Body.{Body}
 use Rattle.lvdc_source.specs.declared.item.Body.TheVariants as says
 use Rattle.lvdc_source.specs.declared.item.Constant.{Constant}
@@ -17,7 +17,6 @@ use Rattle.lvdc_place.specs.declared.spot.Spot.{Spot as Place}
 use Rattle.lvdc_asm.specs.Assembly.{Assembled}
 use Rattle.lvdc_asm.specs.DataPlace.{DataPlace}
 use Rattle.lvdc_asm.specs.Hop.{Plan, hop_at, target_of, start_of}
-use Rattle.lvdc_asm.specs.Operands.{is_transfer}
 use Rattle.lvdc_asm.specs.Target.{Target}
 use Rattle.lvdc_laws_assembly.specs.Images.{word_at, fetched}
 
@@ -47,16 +46,18 @@ pub record GoesTo (hop : HopConstant) (address : ℕ) (at : Spot) (syl : Option 
   pub spot : fetch_of 0 (jumped hop address) ≡ at
   pub syllable : Some (jumped hop address).syl ≡ syl
 
--- a transfer reaches code, and every other operation a word
-abbrev pub Comes : Bool → HopConstant → ℕ → Spot → Option ℕ → Type 0
-Comes true hop address at syl = GoesTo hop address at syl
-Comes false hop address at syl = NamesWord hop address at
+-- TRA, TNZ and TMI go on at a place, and every other operation names a word
+abbrev pub Comes : Op → HopConstant → ℕ → Spot → Option ℕ → Type 0
+Comes Tra hop address at syl = GoesTo hop address at syl
+Comes Tnz hop address at syl = GoesTo hop address at syl
+Comes Tmi hop address at syl = GoesTo hop address at syl
+Comes op hop address at syl = NamesWord hop address at
 
 -- it comes to a place so many locations after the line of a name
 pub record Reaches (plan : Plan) (hop : HopConstant) (op : Op) (name : List ℕ) (offset address : ℕ) : Type 0 where
   pub target : Target
   pub named : target_of plan name ≡ Some target
-  pub comes : Comes (is_transfer op) hop address (record target.at { loc = target.at.loc + offset }) target.syl
+  pub comes : Comes op hop address (record target.at { loc = target.at.loc + offset }) target.syl
 
 -- it names a word that is what a constant says
 pub record NamesLiteral (assembled : Assembled) (hop : HopConstant) (constant : Constant) (address : ℕ) : Type 0 where

@@ -1,3 +1,4 @@
 pub mod Holds
 pub mod Images
 pub mod Lines
+pub mod Shown

@@ -14,6 +14,8 @@ ghost use Rattle.lvdc_laws_assembly.specs.Holds.{Holds};
 ghost use Rattle.lvdc_laws_assembly.specs.Images.{word_at, half_of};
 ghost use Rattle.lvdc_asm.specs.Hop.{target_of};
 ghost use Rattle.lvdc_asm.specs.Target.{Target};
+ghost use Rattle.lvdc_listing.specs.Listing.{listing_text};
+ghost use Rattle.lvdc_laws_assembly.specs.Shown.{IsPrintable, ShowsImage};
 ghost use Rattle.lvdc_laws_assembly.specs.Lines.{IsLine, IsBare, IsDefined};
 
 /// Where a source is assembled its image holds each of its lines, and nothing else but the pooled words.
@@ -51,6 +53,18 @@ pub fn names_are_lines()
         → (name : List ℕ) (target : Target) → target_of assembled.plan name ≡ Some target → IsDefined assembled name target }
 {
     lvdc_source::sources_are_programs();
+    lvdc_place::placed_lines();
+    lvdc_place::pooled_places();
+}
+
+/// The listing of a source shows the image: what its octal fields say, read back by their columns, is each word that the image
+/// has, and no other one.
+pub fn listing_shows_image()
+    ensures { (lines : List NumberedLine) (assembled : Assembled) → assembly_of lines ≡ Ok assembled → IsPrintable assembled lines
+        → ShowsImage assembled (listing_text assembled lines) }
+{
+    lvdc_source::sources_are_programs();
+    lvdc_source::items_follow_lines();
     lvdc_place::placed_lines();
     lvdc_place::pooled_places();
 }

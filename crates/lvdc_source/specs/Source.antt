@@ -1,5 +1,5 @@
 -- What a source means: the items of its lines, or the first refusal.
-use Rattle.std.specs.Prelude.{◌≡◌, ◌≢◌, ℕ, ◌+◌, Bool, false, not, ◌||◌, List, [], ◌∷◌, if◌then◌else◌, Option, None, Some, Result, Ok, Err}
+use Rattle.std.specs.Prelude.{◌≡◌, ◌≢◌, ◌⊎◌, ℕ, ◌+◌, Bool, false, not, ◌||◌, List, [], ◌∷◌, if◌then◌else◌, Option, None, Some, Result, Ok, Err}
 use Rattle.lvdc_source.specs.declared.fault.SourceFault.{SourceFault}
 use Rattle.lvdc_source.specs.declared.fault.SourceFault.TheVariants.{NoMemory as WantsMemory, LineTooLong, BadLabel, UnknownOperation, ExecuteModified, BadDirective, BadOperand, MissingEnd, AfterEnd}
 use Rattle.lvdc_source.specs.declared.item.Body.{Body}
@@ -98,6 +98,12 @@ items_from block next (line ∷ lines) =
 -- the items that the lines of a source mean, or their first refusal
 abbrev pub source_of : List NumberedLine → Result (List Item) SourceFault
 source_of lines = items_from kind.Nowhere 1 lines
+
+-- each item is of one of these lines, in their order
+abbrev pub Follow : List Item → List NumberedLine → Type 0
+Follow [] lines = Unit {0}
+Follow (item ∷ items) [] = ⊥
+Follow (item ∷ items) (line ∷ lines) = ((item.line ≡ line.number) × Follow items lines) ⊎ Follow (item ∷ items) lines
 
 -- a call gave this meaning, or was refused by this fault, unless memory ran out
 abbrev pub Tells : Result Meaning SourceFault → Result Meaning SourceFault → Type 0

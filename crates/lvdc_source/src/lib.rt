@@ -19,7 +19,7 @@ mod read;
 pub use block::Block;
 pub use fault::SourceFault;
 pub use item::{Body, Constant, Item, Operand};
-pub use laws::{items_are_few, sources_are_programs};
+pub use laws::{items_are_few, items_follow_lines, sources_are_programs};
 pub use names::is_name;
 pub use operation::is_operation;
 pub use parts::{Parts, parts_by};
