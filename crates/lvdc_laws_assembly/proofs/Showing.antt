@@ -6,6 +6,7 @@ use Rattle.std.proofs.lemmas.Bool.{true≢false, and_parts, and_from, eqb-true, 
 use Rattle.std.proofs.lemmas.Option.{IfSome_then}
 use Rattle.lvdc_word.specs.Word.{upper, lower, joined}
 use Rattle.lvdc_isa.specs.Instr.{syllable_of}
+use Rattle.lvdc_isa.specs.declared.op.Op.{Op}
 use Rattle.lvdc_map.specs.Address.{Spot, is_same}
 use Rattle.lvdc_map.specs.Memory.{Memory, memory_of}
 use Rattle.lvdc_map.specs.Memory as memory
@@ -18,6 +19,7 @@ use Rattle.lvdc_source.specs.Source.{Follow}
 use Rattle.lvdc_source.specs.declared.item.Body.{Body}
 use Rattle.lvdc_source.specs.declared.item.Body.TheVariants as says
 use Rattle.lvdc_source.specs.declared.item.Item.{Item}
+use Rattle.lvdc_source.specs.declared.item.Operand.{Operand}
 use Rattle.lvdc_place.specs.Slot.{Slot, IsSlot, is_slot, slot_of}
 use Rattle.lvdc_place.specs.Apart.{is_in, line_slots, program_slots, StandsAs, StandAs}
 use Rattle.lvdc_place.specs.declared.spot.Spot.{Spot as Place}
@@ -40,7 +42,7 @@ use Rattle.lvdc_laws_assembly.proofs.Cutting.{front-rows, text-shown}
 use Rattle.lvdc_laws_assembly.proofs.Fields.{IsIn}
 use Rattle.lvdc_laws_assembly.proofs.Items.{LineStands, some-syl, pooled-at, bare-none, bare-half}
 use Rattle.lvdc_laws_assembly.proofs.Held.{held}
-use Rattle.lvdc_laws_assembly.proofs.Lines.{LineHolds, ItemHolds, AllHold}
+use Rattle.lvdc_laws_assembly.proofs.Lines.{CodeHolds, LineHolds, ItemHolds, AllHold}
 use Rattle.lvdc_laws_assembly.proofs.Words.{IsWord, half-is, word-is}
 use Rattle.lvdc_laws_assembly.proofs.Memories.{memory-is, memory-small}
 use Rattle.lvdc_laws_assembly.proofs.Pools.{in-one, in-word}
@@ -119,27 +121,32 @@ record IsSeen (words : List Placed) (m : Memory) (spot : Option Place) (body : B
 in-range : (at : Spot) (syl : ℕ) → is_slot (slot_of at syl) ≡ true → IsIn at
 in-range at syl inside = let slot : IsSlot (slot_of at syl) = is_slot-true (slot_of at syl) inside in record { pair = slot.pair; sector = slot.sector; loc = slot.loc }
 
-body-seen : (whole : List Slot) (plan : Plan) (done : Progress) (assumed : DataPlace) (line : ℕ) (here : Place) (body : Body) (m : Memory) → Sound whole done → IsOf (words_of done.locations) m
-    → LineStands body here → LineHolds plan done assumed line here body → IsSeen (words_of done.locations) m (Some here) body
-body-seen whole plan done assumed line here (says.Instruction op operand) m sound of stands holds =
-    let which = some-syl here.syl stands.form in
-    let inside : is_slot (slot_of here.at which.0) ≡ true = stands.inside (slot_of here.at which.0)
-    (ap (λ (o : Option ℕ). is_in (slot_of here.at which.0) (line_slots (says.Instruction op operand) (Some (record here { syl = o })))) which.1 ∙ in-one (slot_of here.at which.0)) in
-    let slot : IsSlot (slot_of here.at which.0) = is_slot-true (slot_of here.at which.0) inside in
+code-seen : (whole : List Slot) (plan : Plan) (done : Progress) (assumed : DataPlace) (line : ℕ) (op : Op) (operand : Operand) (here : Place) (syl : ℕ) (m : Memory) → Sound whole done
+    → IsOf (words_of done.locations) m → here.syl ≡ Some syl → is_slot (slot_of here.at syl) ≡ true → CodeHolds plan done line op here assumed operand
+    → IsSeen (words_of done.locations) m (Some here) (says.Instruction op operand)
+code-seen whole plan done assumed line op operand here syl m sound of stands inside holds =
+    let slot : IsSlot (slot_of here.at syl) = is_slot-true (slot_of here.at syl) inside in
     let zeroth : is_slot (slot_of here.at 0) ≡ true = is_slot-from (slot_of here.at 0) (record { pair = slot.pair; sector = slot.sector; syl = omega arith; loc = slot.loc }) in
-    let word : IsWord done.locations here.at which.0 (syllable_of (record { op = op; address = holds.address })) =
-    half-is done.locations here.at which.0 (syllable_of (record { op = op; address = holds.address })) sound.size sound.small inside zeroth slot.syl
-    (ap (λ (o : Option ℕ). held done.locations (slot_of here.at (unwrap_or o 0))) (sym which.1) ∙ holds.held) in
+    let word : IsWord done.locations here.at syl (syllable_of (record { op = op; address = holds.address })) =
+    half-is done.locations here.at syl (syllable_of (record { op = op; address = holds.address })) sound.size sound.small inside zeroth slot.syl
+    (ap (λ (o : Option ℕ). held done.locations (slot_of here.at (unwrap_or o 0))) (sym stands) ∙ holds.held) in
     record {
-      readable = record { syl = which.0; stands = which.1; half = slot.syl; near = in-range here.at which.0 inside; small = of.small here.at };
+      readable = record { syl = syl; stands = stands; half = slot.syl; near = in-range here.at syl inside; small = of.small here.at };
       entries = (
         (
-          subst (λ (o : Option ℕ). syllable_in (memory.word_at m here.at) o ≡ value_in o (memory.word_at m here.at)) (sym which.1) refl,
+          subst (λ (o : Option ℕ). syllable_in (memory.word_at m here.at) o ≡ value_in o (memory.word_at m here.at)) (sym stands) refl,
           word.there ∙ ap (λ (w : ℕ). Some w) (sym (of.same here.at word.word word.there)),
         ),
         tt,
       );
     }
+
+body-seen : (whole : List Slot) (plan : Plan) (done : Progress) (assumed : DataPlace) (line : ℕ) (here : Place) (body : Body) (m : Memory) → Sound whole done → IsOf (words_of done.locations) m
+    → LineStands body here → LineHolds plan done assumed line here body → IsSeen (words_of done.locations) m (Some here) body
+body-seen whole plan done assumed line here (says.Instruction op operand) m sound of stands holds =
+    let which = some-syl here.syl stands.form in
+    code-seen whole plan done assumed line op operand here which.0 m sound of which.1 (stands.inside (slot_of here.at which.0)
+    (ap (λ (o : Option ℕ). is_in (slot_of here.at which.0) (line_slots (says.Instruction op operand) (Some (record here { syl = o })))) which.1 ∙ in-one (slot_of here.at which.0))) holds
 body-seen whole plan done assumed line here (says.Constant constant) m sound of stands holds =
     let low : 0 < 2 = omega arith in
     let high : 1 < 2 = omega arith in
