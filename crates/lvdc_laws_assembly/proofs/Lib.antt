@@ -13,6 +13,7 @@ pub mod Operands
 pub mod Pools
 pub mod Ranges
 pub mod Reading
+mod Rows
 pub mod Showing
 pub mod Steps
 pub mod Words
