@@ -32,7 +32,8 @@ use Rattle.lvdc_asm.specs.Operands.{number_address}
 use Rattle.lvdc_asm.specs.Pool.{Progress, is_same_literal, literal_of}
 use Rattle.lvdc_laws_assembly.specs.Holds.{HoldsCode, Holds, NamesLiteral, IsAddressOf}
 use Rattle.lvdc_laws_assembly.specs.Images.{half_of, word_at}
-use Rattle.lvdc_laws_assembly.specs.Lines.{assumed_after, IsLine, fills, IsBare}
+use Rattle.lvdc_laws_assembly.specs.Lines.{IsLine, fills, IsBare}
+use Rattle.lvdc_laws_assembly.proofs.Uses.{after_all, same-after}
 use Rattle.lvdc_laws_assembly.proofs.Assemblies.{IsWalked}
 use Rattle.lvdc_laws_assembly.proofs.Held.{held, held-nothing}
 use Rattle.lvdc_laws_assembly.proofs.Lines.{IsStored, IsAddressOf as HasAddress, CodeHolds, ItemHolds, AllHold, fill_slots, program_fills}
@@ -46,7 +47,7 @@ use Rattle.lvdc_laws_assembly.proofs.Words.{IsWord, half-is, word-is, none-is, e
 -- ---- lines by their numbers
 
 held-at : (plan : Plan) (done : Progress) (assumed : DataPlace) (items : List Item) (spots : List (Option Place)) (number : ℕ) (item : Item) (here : Place) → AllHold plan done assumed items spots
-    → slice_get items number ≡ Some item → slice_get spots number ≡ Some (Some here) → ItemHolds plan done (assumed_after assumed (take number items)) item (Some here)
+    → slice_get items number ≡ Some item → slice_get spots number ≡ Some (Some here) → ItemHolds plan done (after_all assumed (take number items)) item (Some here)
 held-at plan done assumed [] spots number item here hold says stands = absurd (cc)
 held-at plan done assumed (first ∷ items) [] number item here hold says stands = absurd hold
 held-at plan done assumed (first ∷ items) (spot ∷ spots) zero item here hold says stands =
@@ -207,10 +208,10 @@ each-stands a is number item says takes = have-places a.items a.plan.spots numbe
 -- each line holds
 pub each-holds : (a : Assembled) → IsWalked a → (number : ℕ) (item : Item) (here : Place) (assumed : DataPlace) → IsLine a number item here assumed → Holds a here assumed item.body
 each-holds a is number item here assumed line =
-    let holds : ItemHolds a.plan is.parts.done (assumed_after first_data (take number a.items)) item (Some here) =
+    let holds : ItemHolds a.plan is.parts.done (after_all first_data (take number a.items)) item (Some here) =
     held-at a.plan is.parts.done first_data a.items a.plan.spots number item here is.walked.hold line.says line.stands in
-    subst (λ (place : DataPlace). Holds a here place item.body) line.uses
-    (line-holds a is item.line item.body here (assumed_after first_data (take number a.items)) (stands-at a.items a.plan.spots number item here is.forms is.apart.inside line.says line.stands)
+    subst (λ (place : DataPlace). Holds a here place item.body) (same-after first_data (take number a.items) ∙ line.uses)
+    (line-holds a is item.line item.body here (after_all first_data (take number a.items)) (stands-at a.items a.plan.spots number item here is.forms is.apart.inside line.says line.stands)
     (line-place a.items number is.program) (item-form kind.Nowhere a.items number item is.program line.says) holds)
 
 -- ---- pooled words

@@ -16,4 +16,5 @@ pub mod Reading
 mod Rows
 pub mod Showing
 pub mod Steps
+pub mod Uses
 pub mod Words

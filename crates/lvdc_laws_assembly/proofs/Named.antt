@@ -15,7 +15,8 @@ use Rattle.lvdc_asm.specs.DataPlace.{DataPlace, first_data}
 use Rattle.lvdc_asm.specs.Hop.{Plan, target_at, target_by, target_of}
 use Rattle.lvdc_asm.specs.Names.{entry_of, names_from, names_of, definition_of, unless_repeated, is_among, label_of, repeat_after}
 use Rattle.lvdc_asm.specs.Target.{Target}
-use Rattle.lvdc_laws_assembly.specs.Lines.{assumed_after, IsLine, IsDefined}
+use Rattle.lvdc_laws_assembly.specs.Lines.{IsLine, IsDefined}
+use Rattle.lvdc_laws_assembly.proofs.Uses.{after_all, same-after}
 use Rattle.lvdc_laws_assembly.proofs.Assemblies.{IsWalked, option-cases}
 use Rattle.lvdc_laws_assembly.proofs.Ranges.{some-at, names-are}
 
@@ -75,7 +76,7 @@ found-later (d ∷ ds) c cs n assumed later items other =
 
 found : (names : List (List ℕ)) (n : ℕ) (assumed : DataPlace) (items : List Item) (number : ℕ) (item : Item) (c : ℕ) (cs : List ℕ) → repeat_after names items ≡ None
     → slice_get items number ≡ Some item → item.label ≡ c ∷ cs
-    → lookup (bytes_eq (c ∷ cs)) (names_from n assumed items) ≡ Some (record { item = n + number; assumed = assumed_after assumed (take number items) })
+    → lookup (bytes_eq (c ∷ cs)) (names_from n assumed items) ≡ Some (record { item = n + number; assumed = after_all assumed (take number items) })
 found names n assumed [] number item c cs once says label = absurd (cc)
 found names n assumed (first ∷ items) zero item c cs once says label =
     let same : first ≡ item = cc in
@@ -90,7 +91,7 @@ found names n assumed (first ∷ items) (suc number) item c cs repeats says labe
     let more : n + 1 + number ≡ n + suc number = omega arith in
     found-later first.label c cs n assumed (data_after assumed first.body) items other
     ∙ found (names ++ label_of first.label) (n + 1) (data_after assumed first.body) items number item c cs parts.1 says label
-    ∙ ap (λ (k : ℕ). Some (record { item = k; assumed = assumed_after (data_after assumed first.body) (take number items) })) more
+    ∙ ap (λ (k : ℕ). Some (record { item = k; assumed = after_all (data_after assumed first.body) (take number items) })) more
 
 none-repeated : (items : List Item) (plan : Plan) (r : Option ℕ) → unless_repeated (names_of items) r ≡ Ok plan.names → r ≡ None
 none-repeated items plan None h = refl
@@ -102,8 +103,8 @@ line-found a is number item here assumed line c cs label =
     ap (target_by a.plan.spots)
     (ap (λ names. definition_of names (c ∷ cs)) (sym (names-are a.items a.plan is.parts.names_are))
     ∙ found [] 0 first_data a.items number item c cs (none-repeated a.items a.plan (repeat_after [] a.items) is.parts.names_are) line.says label)
-    ∙ ap (target_at (assumed_after first_data (take number a.items))) (ap (λ (k : ℕ). slice_index_or a.plan.spots k None) none ∙ get_or_from_slice_get a.plan.spots number (Some here) None line.stands)
-    ∙ ap (λ (place : DataPlace). Some (record { at = here.at; syl = here.syl; assumed = place })) line.uses
+    ∙ ap (target_at (after_all first_data (take number a.items))) (ap (λ (k : ℕ). slice_index_or a.plan.spots k None) none ∙ get_or_from_slice_get a.plan.spots number (Some here) None line.stands)
+    ∙ ap (λ (place : DataPlace). Some (record { at = here.at; syl = here.syl; assumed = place })) (same-after first_data (take number a.items) ∙ line.uses)
   where
     none : 0 + number ≡ number
     none = omega arith
@@ -125,7 +126,7 @@ record Defines (name : List ℕ) (n : ℕ) (assumed : DataPlace) (items : List I
   item : Item
   says : slice_get items number ≡ Some item
   is : index ≡ n + number
-  uses : assumed_after assumed (take number items) ≡ place
+  uses : after_all assumed (take number items) ≡ place
   label : item.label ≡ name
 
 later-defines : (name : List ℕ) (n : ℕ) (assumed : DataPlace) (first : Item) (items : List Item) (index : ℕ) (place : DataPlace)
@@ -184,7 +185,7 @@ target-line a name index place (Some here) target is d e =
       number = d.number;
       item = d.item;
       here = here;
-      line = record { says = d.says; stands = subst (λ (k : ℕ). slice_get a.plan.spots k ≡ Some (Some here)) number (spot-there a.plan.spots index here is); uses = d.uses };
+      line = record { says = d.says; stands = subst (λ (k : ℕ). slice_get a.plan.spots k ≡ Some (Some here)) number (spot-there a.plan.spots index here is); uses = sym (same-after first_data (take d.number a.items)) ∙ d.uses };
       label = d.label;
       at = refl;
       syl = refl;

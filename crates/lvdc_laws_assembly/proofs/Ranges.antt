@@ -14,7 +14,7 @@ use Rattle.lvdc_asm.specs.DataPlace.{DataPlace, first_data}
 use Rattle.lvdc_asm.specs.Names.{entry_of, names_from, names_of, names_in, definition_of, unless_repeated, repeat_after}
 use Rattle.lvdc_asm.specs.Target.{Target}
 use Rattle.lvdc_asm.specs.Hop.{Plan, target_at, target_by, target_of}
-use Rattle.lvdc_laws_assembly.specs.Lines.{assumed_after}
+use Rattle.lvdc_laws_assembly.proofs.Uses.{after_all}
 use Rattle.lvdc_laws_assembly.proofs.Assemblies.{option-cases}
 
 -- a pair and a sector
@@ -33,7 +33,7 @@ after-place block label assumed (says.Room count) h p = p
 after-place block label assumed (says.Constant constant) h p = p
 after-place block label assumed (says.Instruction op operand) h p = p
 
-assumed-place : (block : Block) (assumed : DataPlace) (items : List Item) (number : ℕ) → AreItems block items → IsPlace assumed → IsPlace (assumed_after assumed (take number items))
+assumed-place : (block : Block) (assumed : DataPlace) (items : List Item) (number : ℕ) → AreItems block items → IsPlace assumed → IsPlace (after_all assumed (take number items))
 unfolding AreItems
 assumed-place block assumed [] zero h p = p
 assumed-place block assumed [] (suc number) h p = p
@@ -41,7 +41,7 @@ assumed-place block assumed (item ∷ items) zero h p = p
 assumed-place block assumed (item ∷ items) (suc number) h p =
     assumed-place (block_after block item.body) (data_after assumed item.body) items number h.1 (after-place block item.label assumed item.body h.0 p)
 
-pub line-place : (items : List Item) (number : ℕ) → IsProgram items → IsPlace (assumed_after first_data (take number items))
+pub line-place : (items : List Item) (number : ℕ) → IsProgram items → IsPlace (after_all first_data (take number items))
 line-place items number h = assumed-place kind.Nowhere first_data items number h first-place
 
 -- ---- operands

@@ -2,24 +2,29 @@
 use Rattle.std.specs.Prelude.{◌≡◌, ℕ, ◌==◌, ◌&&◌, Bool, false, List, [], ◌∷◌, take, slice_get, IfSome, Some, unwrap_or}
 use Rattle.lvdc_map.specs.Address.{Spot, is_same}
 use Rattle.lvdc_source.specs.declared.item.Body.{Body}
-use Rattle.lvdc_source.specs.declared.item.Body.TheVariants.{Constant, Instruction}
+use Rattle.lvdc_source.specs.declared.item.Body.TheVariants.{Sector, Constant, Instruction}
 use Rattle.lvdc_source.specs.declared.item.Item.{Item}
 use Rattle.lvdc_place.specs.declared.spot.Spot.{Spot as Place}
 use Rattle.lvdc_asm.specs.Assembly.{Assembled}
-use Rattle.lvdc_asm.specs.Data.{data_after}
-use Rattle.lvdc_asm.specs.DataPlace.{DataPlace, first_data}
+use Rattle.lvdc_asm.specs.DataPlace.{DataPlace}
 use Rattle.lvdc_asm.specs.Target.{Target}
+
+-- the data place after a line: USE sets it
+abbrev pub set_by : DataPlace → Body → DataPlace
+set_by assumed (Sector pair sector) = record { pair = pair; sector = sector }
+set_by assumed body = assumed
 
 -- the data place that is assumed after these lines, where this one is assumed before them: that of the last USE
 abbrev pub assumed_after : DataPlace → List Item → DataPlace
 assumed_after assumed [] = assumed
-assumed_after assumed (item ∷ items) = assumed_after (data_after assumed item.body) items
+assumed_after assumed (item ∷ items) = assumed_after (set_by assumed item.body) items
 
--- the line of this number, counted from 0, is this item; it stands here, and this data place is assumed there
+-- the line of this number, counted from 0, is this item; it stands here, and this data place is assumed there: before the first USE
+-- sector 01 of pair 0
 pub record IsLine (assembled : Assembled) (number : ℕ) (item : Item) (here : Place) (assumed : DataPlace) : Type 0 where
   pub says : slice_get assembled.items number ≡ Some item
   pub stands : slice_get assembled.plan.spots number ≡ Some (Some here)
-  pub uses : assumed_after first_data (take number assembled.items) ≡ assumed
+  pub uses : assumed_after (record { pair = 0; sector = 1 }) (take number assembled.items) ≡ assumed
 
 -- whether a line that stands here fills a slot: an instruction that of its syllable, a constant both of its word
 abbrev pub fills : Body → Place → Spot → ℕ → Bool
