@@ -1,5 +1,5 @@
 -- The answer to each command, by the definitions of its crate: a command has one case in each of these.
-use Rattle.std.specs.Prelude.{◌≡◌, ◌≢◌, ℕ, nat_lt, List, [], length, map, if◌then◌else◌}
+use Rattle.std.specs.Prelude.{◌≡◌, ◌≢◌, ℕ, nat_lt, List, [], length, map, if◌then◌else◌, Ok}
 use Rattle.std.specs.declared.option.Option.{Option}
 use Rattle.std.specs.declared.option.Option.TheVariants.{None, Some}
 use Rattle.lvdc_port.specs.Device.{Device}
@@ -15,7 +15,8 @@ use Rattle.lvdc_command_run.specs.Runs.{HasRunThat}
 use Rattle.lvdc_command_run.specs.Replies.{FailsInRun, IsUnanswered}
 use Rattle.lvdc_command_asm.specs.Answers.{source_answer}
 use Rattle.lvdc_command_campaign.specs.Answers.{study_answer, AdmissibleAreSame}
-use Rattle.lvdc_command_uplink.specs.Answers.{uplink_answer}
+use Rattle.lvdc_command_uplink.specs.Answers.{uplink_answer, IsHeard}
+use Rattle.lvdc_command_uplink.specs.Input.{Request, request_of}
 use Rattle.lvdc_command_macro.specs.Answers.{macro_answer}
 use Rattle.lvdc_command_debug.specs.Answers.{session_answer, HasSessionThat}
 use Rattle.lvdc_command_debug.specs.Replies.{FailsInSession, IsUnanswered as IsSessionUnanswered}
@@ -94,7 +95,8 @@ room_of Campaign = ROOM
 room_of Uplink = ROOM
 room_of (Expand form) = ROOM
 
--- What is true of the input, the devices and the reply beside the answer. Each admissible row of a campaign comes to the same. From
+-- What is true of the input, the devices and the reply beside the answer. Each admissible row of a campaign comes to the same. The
+-- image that `uplink` patches is the one that whoever hears the messages and their answers makes of the acknowledgements. From
 -- what is saved the run can go on; and where such a text is resumed, over devices of the ports and kinds of those that were handed in
 -- to `save`, each in its kind's first state, the reply is that of `run` to the deck, unless a device fails.
 abbrev pub HoldsFor : Command → List ℕ → List Device → Answer → Type 0
@@ -107,7 +109,7 @@ HoldsFor Resume bytes devices reply =
     (times : ℕ) (deck : List ℕ) (before : List Device) → IsSaveOf times deck before bytes → AreAlike before devices → reply.status ≢ 10
     → reply ≡ job_answer (job.Deck Guarded) deck before
 HoldsFor Campaign bytes devices reply = AdmissibleAreSame bytes devices
-HoldsFor Uplink bytes devices reply = Unit {0}
+HoldsFor Uplink bytes devices reply = (request : Request) → request_of bytes ≡ Ok request → IsHeard request reply.text
 HoldsFor (Expand form) bytes devices reply = Unit {0}
 
 -- ---- of all commands

@@ -1,11 +1,12 @@
 -- The answer to bytes that hold an image and messages: the answers to the messages and the patched image, or the first refusal.
-use Rattle.std.specs.Prelude.{ℕ, List, ◌++◌, map, codes, decimal, Result, Ok, Err}
+use Rattle.std.specs.Prelude.{◌≡◌, ℕ, true, List, ◌∷◌, ◌++◌, length, map, All, codes, decimal, Result, Ok, Err}
 use Rattle.lvdc_text.specs.Numbers.{octal_text}
 use Rattle.lvdc_port.specs.Device.{Device}
 use Rattle.lvdc_image.specs.Image.{text_of as lines_text, image_text}
 use Rattle.lvdc_reply.specs.Answer.{Answer, answer_with, refusal_text}
-use Rattle.lvdc_uplink.specs.Link.{Link, link_to}
-use Rattle.lvdc_uplink.specs.History.{answers_from, link_after}
+use Rattle.lvdc_uplink.specs.Link.{Link, link_to, after_text, is_acknowledged}
+use Rattle.lvdc_uplink.specs.History.{answers_from, link_after, AreAbove}
+use Rattle.lvdc_uplink.specs.Heard.{nothing_heard, heard_from, changed, IsWhole, AreHeld}
 use Rattle.lvdc_uplink.specs.declared.answer.Answer.TheVariants as uplink
 use Rattle.lvdc_uplink.specs.declared.answer.Answer.{Answer as Reply}
 use Rattle.lvdc_command_uplink.specs.declared.fault.PatchFault.{PatchFault}
@@ -44,6 +45,20 @@ status_of (Err fault) = refusal_status fault
 abbrev pub text_of : Result Request PatchFault → List ℕ
 text_of (Ok request) = sent_text (link_to request.image) request.messages
 text_of (Err fault) = refusal_text (name_of fault) (line_of fault)
+
+-- What whoever hears the messages and their answers knows. The text is the lines of as many answers and the image that was asked
+-- for, changed by the loads that were committed by what is acknowledged alone: whole, each once, in their order. Each acknowledgement
+-- says what is so. And an acknowledged message could have been sent twice: what is held after all messages is the same.
+pub record IsHeard (request : Request) (text : List ℕ) : Type 0 where
+  pub answers : List Reply
+  pub each : length answers ≡ length request.messages
+  pub told : text ≡ answers_text answers ++ image_text (changed request.image (heard_from request.messages answers nothing_heard).done)
+  pub whole : All IsWhole (heard_from request.messages answers nothing_heard).done
+  pub once : AreAbove 0 (heard_from request.messages answers nothing_heard).done
+  pub held : AreHeld request.messages answers nothing_heard
+  pub doubled : (before after : List (List ℕ)) (message : List ℕ) → request.messages ≡ before ++ message ∷ after
+      → is_acknowledged (after_text (link_after (link_to request.image) before) message).answer ≡ true
+      → link_after (link_to request.image) (before ++ message ∷ message ∷ after) ≡ link_after (link_to request.image) request.messages
 
 -- the answer to the bytes, which has no use for devices
 abbrev pub uplink_answer : List ℕ → List Device → Answer

@@ -1,10 +1,10 @@
-ghost use Rattle.std.specs.Prelude.{◌≡◌, ◌^◌, ◌≤◌, length, map, All, IfOk};
+ghost use Rattle.std.specs.Prelude.{◌≡◌, ◌^◌, ◌≤◌, length, map, All, IfOk, Ok};
 ghost use Rattle.lvdc_text.specs.Lines.{IsWithin, part_of};
 ghost use Rattle.lvdc_reply.specs.Answer.{refusal_text};
 ghost use Rattle.lvdc_uplink.specs.Link.{link_to};
-ghost use Rattle.lvdc_command_uplink.specs.Input.{request_of};
+ghost use Rattle.lvdc_command_uplink.specs.Input.{Request, request_of};
 ghost use Rattle.lvdc_command_uplink.specs.Faults.{name_of, line_of, refusal_status};
-ghost use Rattle.lvdc_command_uplink.specs.Answers.{sent_text, status_of, text_of};
+ghost use Rattle.lvdc_command_uplink.specs.Answers.{IsHeard, sent_text, status_of, text_of};
 ghost use Rattle.lvdc_command_uplink.specs.declared.TheConstants.{LONGEST_TEXT};
 
 use crate::PatchFault;
@@ -13,7 +13,7 @@ use crate::send::send;
 use lvdc_image::{Image, ImageFault, print_image, read_image};
 use lvdc_reply::{Reply, refusal};
 use lvdc_text::{Line, lines};
-use lvdc_uplink::Uplink;
+use lvdc_uplink::{Uplink, doubled_changes_nothing, lines_are_heard};
 use lvdc_word::{NoMemory, Seq};
 use std::alloc::Global;
 
@@ -45,9 +45,8 @@ fn refuse(alloc: Global, fault: PatchFault) -> Result<Reply, NoMemory>
     refusal(alloc, fault.status(), fault.name(), fault.line())
 }
 
-/// The reply to bytes that hold an image and messages: 0 with the answers and the patched image, or 2 or 4 with the first refusal.
-/// It takes no device.
-pub fn patch_bytes(alloc: Global, bytes: &[u8]) -> Result<Reply, NoMemory>
+/// The reply to bytes that hold an image and messages, or are refused.
+fn patch(alloc: Global, bytes: &[u8]) -> Result<Reply, NoMemory>
     requires { length bytes.now ≤ 2 ^ 20 }
     ensures status { IfOk result (λ reply. reply.status ≡ status_of (request_of bytes.now)) }
     ensures text { IfOk result (λ reply. reply.text ≡ text_of (request_of bytes.now)) }
@@ -63,4 +62,19 @@ pub fn patch_bytes(alloc: Global, bytes: &[u8]) -> Result<Reply, NoMemory>
         Err(ImageFault::NoMemory) => Err(NoMemory),
         Err(fault) => refuse(alloc, PatchFault::Image(fault)),
     }
+}
+
+/// The reply to bytes that hold an image and messages: 0 with the answers and the patched image, or 2 or 4 with the first refusal.
+/// It takes no device.
+pub fn patch_bytes(alloc: Global, bytes: &[u8]) -> Result<Reply, NoMemory>
+    requires { length bytes.now ≤ 2 ^ 20 }
+    ensures status { IfOk result (λ reply. reply.status ≡ status_of (request_of bytes.now)) }
+    ensures text { IfOk result (λ reply. reply.text ≡ text_of (request_of bytes.now)) }
+    ensures short { IfOk result (λ reply. length reply.text ≤ LONGEST_TEXT) }
+    // The image is the first one changed by the committed loads, each once, in their order, as whoever hears the answers knows.
+    ensures heard { IfOk result (λ reply. (request : Request) → request_of bytes.now ≡ Ok request → IsHeard request reply.text) }
+{
+    lines_are_heard();
+    doubled_changes_nothing();
+    patch(alloc, bytes)
 }

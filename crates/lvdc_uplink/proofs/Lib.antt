@@ -9,3 +9,6 @@ pub mod Histories
 pub mod Ranged
 pub mod Sound
 pub mod Storing
+pub mod Hearing
+pub mod Holding
+pub mod AsHeard

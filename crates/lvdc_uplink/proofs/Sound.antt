@@ -1,5 +1,5 @@
 -- The load that may be open: its id is above the last, and each frame that is staged in it fits.
-use Rattle.std.proofs.Common.{◌≡◌, ℕ, ◌-◌, ◌<◌, zero, suc, Bool, true, false, not, ◌&&◌, nat_le, List, [], ◌∷◌, ◌++◌, length, set, Option, None, Some, refl, subst, arith, if◌then◌else◌, inl, inr}
+use Rattle.std.proofs.Common.{◌≡◌, ℕ, ◌-◌, zero, suc, Bool, true, false, not, ◌&&◌, nat_le, List, [], ◌∷◌, ◌++◌, length, set, Option, None, Some, refl, subst, arith, if◌then◌else◌, inl, inr}
 use Rattle.std.specs.Prelude.{◌==◌, All}
 use Rattle.std.proofs.lemmas.Bool.{leb-false, and_parts}
 use Rattle.std.proofs.lemmas.List.Elements.{All-replicate, All-cons, All-head, All-tail}
@@ -8,16 +8,13 @@ use Rattle.lvdc_uplink.specs.Frames.{Frame, Load, bare_load, stays, staged, miss
 use Rattle.lvdc_uplink.specs.Messages.{message_of}
 use Rattle.lvdc_uplink.specs.Link.{Link, says, named, stages, frames, refusal_by, applies, commits, abandons, after_message, by_message, after_text}
 use Rattle.lvdc_uplink.specs.History.{committed_by, committed_from, AreAbove}
+use Rattle.lvdc_uplink.specs.Heard.{IsSound}
 use Rattle.lvdc_uplink.specs.declared.answer.Answer.TheVariants.{Opened, Committed, Old, Range, Check}
 use Rattle.lvdc_uplink.specs.declared.message.Message.{Message}
 use Rattle.lvdc_uplink.specs.declared.message.Message.TheVariants as messages
 use Rattle.lvdc_uplink.proofs.Ranged.{IsPlace, IsRanged, message_of-ranged}
 use Rattle.lvdc_uplink.proofs.Outcomes.{outcome}
 use Rattle.lvdc_uplink.proofs.Histories.{committed_by-applied, committed_by-kept}
-
-abbrev pub IsSound : ℕ → Option Load → Type 0
-IsSound last None = Unit {0}
-IsSound last (Some load) = (last < load.id) × All FitsIfStaged load.frames
 
 abbrev pub IsSoundLink : Link → Type 0
 IsSoundLink link = IsSound link.last link.load
@@ -106,11 +103,11 @@ module _ (image : Contents) (last check : ℕ) where
 
   message_sound : (load : Option Load) (message : Message) → IsRanged (Some message) → IsSound last load → IsSoundLink (after_message (at load) message).link
   message_sound load (messages.Open id count) ranged sound = open_sound id count load sound
-  message_sound load (messages.Frame id number frame c) ranged sound = frame_sound id number frame c load ranged sound
+  message_sound load (messages.Frame id number frame c) ranged sound = frame_sound id number frame c load ranged.0 sound
   message_sound load (messages.Commit id c) ranged sound = commit_by id c load sound (last == id && check == c)
   message_sound load (messages.Abandon id) ranged sound = abandon_sound id load sound
 
-line_sound : (link : Link) (message : Option Message) → IsRanged message → IsSoundLink link → IsSoundLink (by_message link message).link
+pub line_sound : (link : Link) (message : Option Message) → IsRanged message → IsSoundLink link → IsSoundLink (by_message link message).link
 line_sound link None ranged sound = sound
 line_sound link (Some message) ranged sound = message_sound link.image link.last link.check link.load message ranged sound
 

@@ -3,3 +3,4 @@ pub mod Patching
 pub mod Messages
 pub mod Link
 pub mod History
+pub mod Heard

@@ -1,12 +1,13 @@
 //! What the definition of the uplink tells, as laws: functions that do nothing.
 
-ghost use Rattle.std.specs.Prelude.{◌≡◌, ℕ, List, true, false, All};
+ghost use Rattle.std.specs.Prelude.{◌≡◌, ◌++◌, ◌∷◌, ℕ, List, true, false, All};
 ghost use Rattle.lvdc_map.specs.Address.{Spot};
 ghost use Rattle.lvdc_map.specs.Memory.{are_rising, loaded, memory_of, word_at};
 ghost use Rattle.lvdc_image.specs.Image.{Contents, IsPlaced};
 ghost use Rattle.lvdc_uplink.specs.Patching.{with_words, placed_by};
 ghost use Rattle.lvdc_uplink.specs.Link.{Link, link_to, after_text, is_acknowledged, again};
-ghost use Rattle.lvdc_uplink.specs.History.{link_after, committed_from, AreAbove};
+ghost use Rattle.lvdc_uplink.specs.History.{answers_from, link_after, committed_from, AreAbove};
+ghost use Rattle.lvdc_uplink.specs.Heard.{IsAsHeard, AreHeld, nothing_heard, heard_from};
 
 /// A line that is not acknowledged changes nothing.
 pub fn refused_changes_nothing()
@@ -35,3 +36,19 @@ pub fn image_is_patched()
 pub fn committed_once()
     ensures { (image : Contents) (texts : List (List ℕ)) → AreAbove 0 (committed_from (link_to image) texts) }
 {}
+
+/// Whoever hears lines from the first one on, each with its answer, knows the image and the open load by what is acknowledged
+/// alone, and each acknowledgement says what is so.
+pub fn lines_are_heard()
+    ensures heard { (image : Contents) (texts : List (List ℕ)) →
+        IsAsHeard image (heard_from texts (answers_from (link_to image) texts) nothing_heard) (link_after (link_to image) texts) }
+    ensures held { (image : Contents) (texts : List (List ℕ)) → AreHeld texts (answers_from (link_to image) texts) nothing_heard }
+{}
+
+/// Of any lines one that is acknowledged may be sent twice: what is held after them all is the same.
+pub fn doubled_changes_nothing()
+    ensures { (link : Link) (before after : List (List ℕ)) (text : List ℕ) → is_acknowledged (after_text (link_after link before) text).answer ≡ true
+        → link_after link (before ++ text ∷ text ∷ after) ≡ link_after link (before ++ text ∷ after) }
+{
+    repeated_changes_nothing();
+}

@@ -14,6 +14,7 @@ mod uplink;
 
 pub use answer::Answer;
 pub use laws::{
-    committed_once, image_is_patched, refused_changes_nothing, repeated_changes_nothing,
+    committed_once, doubled_changes_nothing, image_is_patched, lines_are_heard,
+    refused_changes_nothing, repeated_changes_nothing,
 };
 pub use uplink::Uplink;

@@ -1,9 +1,12 @@
 ghost use Rattle.std.specs.Prelude.{◌≡◌, ◌≤◌, ◌⊎◌, true, false, IfOk, IsOkAnd, OnErr};
-ghost use Rattle.lvdc_uplink.specs.Messages.{IsMessage};
-ghost use Rattle.lvdc_uplink.specs.Link.{after_message, named, opens, frames, commits, recommits, abandons, after_text, is_acknowledged, is_opening, is_applying, link_to};
+ghost use Rattle.lvdc_image.specs.Image.{Contents};
+ghost use Rattle.lvdc_uplink.specs.Messages.{IsMessage, message_of};
+ghost use Rattle.lvdc_uplink.specs.Link.{after_message, named, opens, frames, commits, recommits, abandons, after_text, is_acknowledged, again, is_opening, is_applying, link_to};
+ghost use Rattle.lvdc_uplink.specs.Heard.{Heard, IsAsHeard, IsHeldIf, nothing_heard, hears};
 
 use crate::Answer;
 use crate::frame::Frame;
+use crate::laws::repeated_changes_nothing;
 use crate::load::Load;
 use crate::message::Message;
 use crate::parse::message_of;
@@ -46,7 +49,8 @@ impl Drop for Uplink {
 impl Uplink {
     /// An uplink to which nothing was sent yet. It takes no memory.
     pub fn new(alloc: Global, image: Image) -> Result<Uplink, NoMemory>
-        ensures { IsOkAnd result (λ uplink. uplink ≡ link_to image) }
+        ensures link { IsOkAnd result (λ uplink. uplink ≡ link_to image) }
+        ensures heard { IsOkAnd result (λ uplink. IsAsHeard image nothing_heard uplink) }
     {
         Ok(Uplink {
             alloc,
@@ -169,11 +173,20 @@ impl Uplink {
     pub fn message(&mut self, text: &[u8]) -> Result<Answer, NoMemory>
         // The answer and what is then held are those of the definition.
         ensures step { IfOk result (λ answer. after_text self.old text.now ≡ record { answer = answer; link = self.new }) }
+        // To whoever hears the lines and their answers the image is the first one changed by the loads that were committed, whole,
+        // each once and in their order, and the open load is the one that was heard of.
+        ensures heard { IfOk result (λ answer. (opening : Contents) (heard : Heard) → IsAsHeard opening heard self.old
+            → IsAsHeard opening (hears text.now answer heard) self.new) }
+        // What an acknowledgement says is so: of the load that is open, of its frame, of the load that was committed last.
+        ensures held { IfOk result (λ answer. IsHeldIf (message_of text.now) (is_acknowledged answer) self.new.load self.new.last self.new.check) }
+        // A line that is acknowledged, sent again directly, changes nothing. It is acknowledged again, but for ABANDON.
+        ensures again { IfOk result (λ answer. is_acknowledged answer ≡ true → after_text self.new text.now ≡ record { answer = again answer; link = self.new }) }
         // An answer that doesn't acknowledge, and the want of memory, change nothing.
         ensures refused { IfOk result (λ answer. is_acknowledged answer ≡ false → self.new ≡ self.old) }
         ensures unchanged { OnErr result (self.new ≡ self.old) }
         ensures no_memory { OnErr result ((is_opening self.old (after_text self.old text.now) ≡ true) ⊎ (is_applying self.old (after_text self.old text.now) ≡ true)) }
     {
+        repeated_changes_nothing();
         match message_of(text) {
             Some(message) => self.take(message),
             None => Ok(Answer::Form),

@@ -51,3 +51,6 @@ returns-in-Soak-clause-room g c = rw c.in-Soak.is c.run_job-in-Soak.ensures.room
 
 pub returns-in-Soak-clause-holds : goal.returns-in-Soak-clause-holds
 returns-in-Soak-clause-holds g c = rw c.in-Soak.is (whatever c.run_job-in-Soak.result (λ reply. tt))
+
+pub returns-in-Uplink-clause-holds : goal.returns-in-Uplink-clause-holds
+returns-in-Uplink-clause-holds g c = rw c.in-Uplink.is c.patch_bytes.ensures.heard
