@@ -1,6 +1,7 @@
 mod ReadingLines
 mod Tokens
 mod Soundness
+mod Fitting
 mod Splits
 mod Chains
 mod Following

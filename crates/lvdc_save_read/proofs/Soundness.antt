@@ -97,7 +97,7 @@ no_repairs banks steps [] e = record {
 }
 no_repairs banks steps (x ∷ xs) e = absurd cc
 
-none_of : {A : Type 0} (P : A → Type 0) (xs : List A) → xs ≡ [] → All P xs
+pub none_of : {A : Type 0} (P : A → Type 0) (xs : List A) → xs ≡ [] → All P xs
 none_of P [] e = All-nil P
 none_of P (x ∷ xs) e = absurd cc
 
@@ -152,7 +152,7 @@ cells_rise (k ∷ j ∷ cells) h rise below =
     rw (parts.0, cells_rise (j ∷ cells) h parts.1 (All-tail (λ k. slot_of k.twin k.at < slot_of h.twin h.at) k (j ∷ cells) below)) refl
 
 -- one item more, that all others stand in the relation to
-pairs_push : {X : Type 0} (R : X → X → Type 0) (xs : List X) (x : X) → All (λ y. R y x) xs → AllPairs R xs → AllPairs R (xs ++ x ∷ [])
+pub pairs_push : {X : Type 0} (R : X → X → Type 0) (xs : List X) (x : X) → All (λ y. R y x) xs → AllPairs R xs → AllPairs R (xs ++ x ∷ [])
 pairs_push R [] x last h = λ i j d less within. absurd (omega (arith, less, within))
 pairs_push R (y ∷ ys) x last h =
     AllPairs-cons R y (ys ++ x ∷ [])
@@ -160,7 +160,7 @@ pairs_push R (y ∷ ys) x last h =
     (pairs_push R ys x (λ k d less. last (suc k) d (omega (arith, less))) (λ i j d less within. h (suc i) (suc j) d (omega (arith, less)) (omega (arith, within))))
 
 -- what stands before the least place stands before a place from there on; in a new section nothing does
-before : {A : Type 0} (P Q : A → Type 0) (xs : List A) (this at least place : ℕ) (same : Bool) → (this == at) ≡ same → at ≤ this
+pub before : {A : Type 0} (P Q : A → Type 0) (xs : List A) (this at least place : ℕ) (same : Bool) → (this == at) ≡ same → at ≤ this
     → (if same then least else 0) ≤ place → (at < this → xs ≡ []) → (at ≡ this → All P xs) → (least ≤ place → (x : A) → P x → Q x) → All Q xs
 before P Q xs this at least place true is most from none below weaker =
     let had = below (sym (eqb-true this at is)) in λ k d less. weaker from _ (had k d less)
@@ -265,13 +265,13 @@ latest_low section.End = omega arith
 
 -- where an entry stands in the order of the sections, and that its numbers go with those before
 pub record Stands (r : Progress) (e : Entry) : Type 0 where
-  from : earliest (section_of e) ≤ rank r.section
-  to : rank r.section ≤ latest (section_of e)
-  later : rank r.section ≤ rank (section_of e)
-  place : least_in (section_of e) r ≤ place_of e
-  agreed : agrees r e ≡ true
+  pub from : earliest (section_of e) ≤ rank r.section
+  pub to : rank r.section ≤ latest (section_of e)
+  pub later : rank r.section ≤ rank (section_of e)
+  pub place : least_in (section_of e) r ≤ place_of e
+  pub agreed : agrees r e ≡ true
 
-stands : (r : Progress) (e : Entry) → fits r e ≡ true → Stands r e
+pub stands : (r : Progress) (e : Entry) → fits r e ≡ true → Stands r e
 stands r e is =
     let parts = both (follows (section_of e) r.section && nat_le (least_in (section_of e) r) (place_of e)) (agrees r e) is in
     let rest = both (follows (section_of e) r.section) (nat_le (least_in (section_of e) r) (place_of e)) parts.0 in

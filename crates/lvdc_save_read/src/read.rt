@@ -1,7 +1,8 @@
-ghost use Rattle.std.specs.Prelude.{◌≡◌, ◌≢◌, ◌-◌, ◌^◌, ◌*◌, ◌<◌, ◌≤◌, All, length, map, IfOk, IfErr, Ok, Err};
+ghost use Rattle.std.specs.Prelude.{◌≡◌, ◌≢◌, ◌-◌, ◌^◌, ◌*◌, ◌/◌, ◌<◌, ◌≤◌, All, length, map, IfOk, IfErr, Ok, Err};
 ghost use Rattle.lvdc_fault.specs.Events.{TIMES, EVENTS, IsEvent};
 ghost use Rattle.lvdc_machine.specs.Snapshot.{IsWhole};
 ghost use Rattle.lvdc_save.specs.Reading.{saved_of};
+ghost use Rattle.lvdc_save_read.specs.Accepted.{AreStates, AreUnplugs};
 ghost use Rattle.lvdc_save.specs.declared.fault.SaveFault.TheVariants.{NoMemory as WantsMemory};
 
 use crate::reading::Reading;
@@ -21,6 +22,10 @@ pub fn read_saved(
     ensures saved { IfOk result (λ saved. saved_of (map device_of devices.now.items) bytes.now ≡ Ok saved) }
     ensures refusal { IfErr result (λ fault. fault ≢ WantsMemory →
         saved_of (map device_of devices.now.items) bytes.now ≡ Err fault) }
+    // Each STATE line is of a device that holds words, by rising port, one alone for a latch. Each UNPLUG line takes away a device
+    // that is there and that no earlier line takes away, and one that was gone by then has no STATE line.
+    ensures fits { IfOk result (λ saved. AreStates (map device_of devices.now.items) saved.states
+        × AreUnplugs (map device_of devices.now.items) (saved.snapshot.steps / 3) saved.states saved.unplugs) }
     // A machine can go on from it.
     ensures whole { IfOk result (λ saved. IsWhole saved.snapshot) }
     ensures steps { IfOk result (λ saved. saved.snapshot.steps ≤ 3 * saved.count) }

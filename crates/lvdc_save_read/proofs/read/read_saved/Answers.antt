@@ -5,6 +5,7 @@ use Rattle.lvdc_save_read.specs.Sound.{IsSound}
 use Rattle.lvdc_save_read.proofs.Soundness.{sound_first}
 use Rattle.lvdc_save_read.proofs.Tokens.{no_line}
 use Rattle.lvdc_save_read.proofs.ReadingLines.{told-more, told-bad, told-done, saved-done, saved-bad, ok_of, err_of}
+use Rattle.lvdc_save_read.proofs.Fitting.{result-fits}
 use Rattle.lvdc_save_read.proofs.read.read_saved.Goals as goal
 
 pub loop-line-init : goal.loop-line-init
@@ -40,3 +41,7 @@ returns-clause-refusal g c =
     err_of c.into_saved.result _
     (saved-done (map (λ b. (goal.PortDevice-dyn g (b.vtable, b.value)).device_of b.value) c.args.devices.now.items) c.args.bytes.now c.as_slice-all.result.now _ c.loop-line.reading c.into_saved.result (c.as_slice-all.ensures.value ∙ c.in_ok-found.ensures.lines) refl
     (told-done (map (λ b. (goal.PortDevice-dyn g (b.vtable, b.value)).device_of b.value) c.args.devices.now.items) c.args.bytes.now c.loop-line.reading c.as_slice-all.result.now c.loop-line.line-index no_line _ c.loop-line.invariant.told c.loop-line-test.false) c.into_saved.ensures.saved)
+
+pub returns-clause-fits : goal.returns-clause-fits
+returns-clause-fits g c =
+    result-fits (map (λ b. (goal.PortDevice-dyn g (b.vtable, b.value)).device_of b.value) c.args.devices.now.items) c.args.bytes.now c.into_saved.result (returns-clause-saved g c)
