@@ -1,14 +1,15 @@
 -- Worked values of the definitions.
-use Rattle.std.proofs.Common.{◌≡◌, ℕ, List, [], ◌∷◌, None, refl, codes}
+use Rattle.std.proofs.Common.{◌≡◌, ℕ, List, [], ◌∷◌, None, Some, refl, codes}
 use Rattle.lvdc_map.specs.declared.placed.Placed.{Placed}
 use Rattle.lvdc_image.specs.Image.{Contents}
 use Rattle.lvdc_text.specs.Numbers.{word_in}
 use Rattle.lvdc_script_lines.specs.Fields.{pair_in, place_in}
-use Rattle.lvdc_uplink.specs.Frames.{frame_check}
+use Rattle.lvdc_uplink.specs.Frames.{bare_load, frame_check}
 use Rattle.lvdc_uplink.specs.Patching.{with_word}
 use Rattle.lvdc_uplink.specs.Messages.{id_in, count_in}
 use Rattle.lvdc_uplink.specs.Link.{link_to}
 use Rattle.lvdc_uplink.specs.History.{answers_from, link_after}
+use Rattle.lvdc_uplink.specs.Heard.{nothing_heard, heard_from}
 use Rattle.lvdc_uplink.specs.declared.answer.Answer.{Answer}
 use Rattle.lvdc_uplink.specs.declared.answer.Answer.TheVariants.{Opened, Framed, Committed, Abandoned, Form, Busy, Old, NoLoad, Range, Check, Differs, Missing}
 
@@ -75,3 +76,17 @@ out_of_order_answers = refl
 out_of_order_words : words_after out_of_order ≡ word 0 7 ∷ []
 unfolding words_after empty out_of_order word word_in pair_in place_in id_in count_in
 out_of_order_words = refl
+
+-- a load that was committed is committed again with its check word alone, and the open load is opened again with as many frames alone
+again_or_not : List (List ℕ)
+again_or_not = codes "OPEN 1 1" ∷ codes "OPEN 1 2" ∷ codes "FRAME 1 1 0 01 000 5 407" ∷ codes "COMMIT 1 406" ∷ codes "COMMIT 1 407" ∷ codes "COMMIT 1 406" ∷ codes "OPEN 2 1" ∷ codes "COMMIT 1 407" ∷ []
+
+again_answers : answers again_or_not ≡ Opened 1 ∷ Busy 1 ∷ Framed 1 1 ∷ Check 0o407 ∷ Committed 1 ∷ NoLoad ∷ Opened 2 ∷ Committed 1 ∷ []
+unfolding answers empty again_or_not word_in pair_in place_in id_in count_in
+again_answers = refl
+
+-- what is heard of those lines: one load was committed, and another is open
+again_heard : heard_from again_or_not (answers again_or_not) nothing_heard
+    ≡ record { load = Some (bare_load 2 1); done = record { id = 1; frames = Some (record { at = record { pair = 0; sector = 1; loc = 0 }; words = 5 ∷ [] }) ∷ [] } ∷ [] }
+unfolding answers empty again_or_not word_in pair_in place_in id_in count_in
+again_heard = refl
