@@ -214,6 +214,12 @@ refused-since device_of faults states given start e old mid new same h is r =
     refused-before device_of faults states start e old mid new h is
     (subst (λ (x : List Supply). HaveRefused device_of faults x (map device_of mid) e mid new) same r)
 
+-- the same of a list that is this one
+pub refused-given : {B : Type 0} (device_of : B → Device) (faults : B → ℕ) (states given : List Supply) (start : List Device) (e : Unrestored) (old new : List B)
+    → given ≡ states → HaveRefused device_of faults given start e old new → HaveRefused device_of faults states start e old new
+refused-given device_of faults states given start e old new same r =
+    subst (λ (x : List Supply). HaveRefused device_of faults x start e old new) same r
+
 -- the lines of a list that is this one leave the same devices
 pub left-same : (unplugs given : List Unplug) (times : ℕ) (start now : List Device) → given ≡ unplugs → now ≡ left_before given times start
     → now ≡ left_before unplugs times start

@@ -2,7 +2,7 @@
 use Rattle.std.specs.Prelude.{◌≡◌, ◌≢◌, ℕ, ◌/◌, nat_lt, if◌then◌else◌, List, [], ◌∷◌, map, take, slice_get}
 use Rattle.std.specs.declared.option.Option.{Option}
 use Rattle.std.specs.declared.option.Option.TheVariants.{Some}
-use Rattle.lvdc_port.specs.Device.{Device}
+use Rattle.lvdc_port.specs.Device.{Device, word_of_time}
 use Rattle.lvdc_port.specs.Devices.{after_exchange, without}
 use Rattle.lvdc_port.specs.Supplies.{kind_at, after_supply_of}
 use Rattle.lvdc_port.specs.declared.device.Kind.{Kind}
@@ -46,6 +46,10 @@ with_states (state ∷ states) devices = with_states states (after_state state d
 -- the devices in a saved state: those that are left of these, with the words that it names
 abbrev pub devices_of : Saved → List Device → List Device
 devices_of s devices = with_states s.states (left_of s devices)
+
+-- the time at which these words are written and the run goes on, as a device is told it
+abbrev pub time_of : Saved → ℕ
+time_of s = word_of_time (s.snapshot.steps / 3)
 
 -- ---- words that weren't taken
 

@@ -6,7 +6,7 @@ ghost use Rattle.lvdc_port.specs.Supplies.{kind_at};
 ghost use Rattle.lvdc_port.specs.declared.device.Kind.TheVariants.{Tape as TapeKind};
 ghost use Rattle.lvdc_plain.specs.Lists.{Since};
 ghost use Rattle.lvdc_command_resume.specs.declared.restore.Unrestored.TheVariants.{NoMemory as WantsMemory};
-ghost use Rattle.lvdc_command_resume.specs.Restore.{left_before, left_of, after_state, with_states, devices_of, HasRefused, HaveRefused};
+ghost use Rattle.lvdc_command_resume.specs.Restore.{left_before, left_of, after_state, with_states, time_of, devices_of, HasRefused, HaveRefused};
 
 use lvdc_plain::Unplug;
 use lvdc_port::{
@@ -108,17 +108,19 @@ fn give_word(
     }
 }
 
-/// Gives these words to the devices at their ports, in their order.
+/// Gives the words of a saved run to the devices at their ports, in their order, at the time at which that run goes on.
 fn give_words(
     devices: &mut Vec<Box<dyn PortDevice>>,
     time: Word,
-    states: &[Supply],
+    saved: &Saved,
 ) -> Result<(), Unrestored>
-    requires room { HasSpare spare (length states.now) devices.old.items }
-    ensures ok { OnOk result (map device_of devices.new.items ≡ with_states states.now (map device_of devices.old.items)) }
+    requires time { time ≡ time_of saved.now }
+    requires room { HasSpare spare (length saved.now.states) devices.old.items }
+    ensures ok { OnOk result (map device_of devices.new.items ≡ with_states saved.now.states (map device_of devices.old.items)) }
     ensures since { OnOk result (Since device_of faults devices.old.items devices.new.items) }
-    ensures refused { IfErr result (λ e. HaveRefused device_of faults states.now (map device_of devices.old.items) e devices.old.items devices.new.items) }
+    ensures refused { IfErr result (λ e. HaveRefused device_of faults saved.now.states (map device_of devices.old.items) e devices.old.items devices.new.items) }
 {
+    let states = saved.states.items();
     for state in states {
         match give_word(devices, time, state) {
             Ok(()) => {}
@@ -141,10 +143,9 @@ pub(crate) fn restore_devices(
     ensures refused { IfErr result (λ e. HaveRefused device_of faults saved.now.states (left_of saved.now (map device_of devices.old.items)) e devices.old.items devices.new.items) }
 {
     let times = saved.snapshot.steps / 3;
-    let states = saved.states.items();
     unplug_before(devices, saved.unplugs.items(), times);
-    match prepare_all(devices, states.len() as u64) {
-        Ok(()) => give_words(devices, word_of_time(times), states),
+    match prepare_all(devices, saved.states.items().len() as u64) {
+        Ok(()) => give_words(devices, word_of_time(times), saved),
         Err(NoMemory) => Err(Unrestored::NoMemory),
     }
 }

@@ -14,6 +14,8 @@ mod inputs;
 #[cfg(test)]
 mod limits;
 #[cfg(test)]
+mod punctual;
+#[cfg(test)]
 mod refusals;
 #[cfg(test)]
 mod rows;

@@ -260,3 +260,30 @@ fn devices_are_given_their_states(rt: HostRuntime) -> Result<(), Fail> {
     }
     Ok(())
 }
+
+#[test]
+fn states_are_written_at_the_time_of_the_state(rt: HostRuntime) -> Result<(), Fail> {
+    let alloc = rt.alloc();
+    let text = with_lines(alloc, "STATE 014 000000001\nSTATE 017 000000002\n")?;
+    let rows = [(1, "0|~|014: 1/017: 2/"), (0, "10|REFUSED Device 014\n|~")];
+    for (times, due) in rows {
+        let rack = Rack::Punctual(times);
+        let ended = told(alloc, "resume", text.as_bytes(), rack, NONE)?;
+        ends(&rt, alloc, &ended, due)?;
+    }
+    Ok(())
+}
+
+#[test]
+fn a_saved_run_goes_on_over_devices_in_another_order(rt: HostRuntime) -> Result<(), Fail> {
+    let alloc = rt.alloc();
+    let program = wandering(alloc, SOURCE)?;
+    let bytes = program.as_bytes();
+    let saved = told(alloc, "save 20", bytes, Rack::TapeAndRecorder, NONE)?;
+    let due = told(alloc, "run", bytes, Rack::TapeAndRecorder, NONE)?;
+    let text = saved.text.as_bytes();
+    let found = told(alloc, "resume", text, Rack::RecorderAndTape, NONE)?;
+    same(&rt, found.text.as_str(), due.text.as_str());
+    same(&rt, found.held.as_str(), "017: 4 14/000:/");
+    Ok(())
+}

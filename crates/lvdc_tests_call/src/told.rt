@@ -2,8 +2,9 @@
 ghost use Rattle.std.specs.Prelude.{map, IfOk};
 ghost use Rattle.lvdc_port.specs.Devices.{AreDistinct};
 
+use crate::punctual::Punctual;
 use lvdc_cli::{SESSION_ROOM, lvdc};
-use lvdc_port::{Failing, Latch, PortDevice, Recorder, Tape, Ticker};
+use lvdc_port::{Failing, Latch, PortDevice, Recorder, Tape, Ticker, word_of_time};
 use lvdc_text::{FaultySink, FaultySource, read_all};
 use std::alloc::Global;
 use std::test::Fail;
@@ -38,6 +39,8 @@ pub enum Rack {
     TapeLatchAndRecorder,
     /// The tape stands at port 001.
     OtherTape,
+    /// A latch and a recorder that take words at this time alone.
+    Punctual(u32),
 }
 
 /// A ticker.
@@ -112,6 +115,18 @@ fn other_tape(alloc: Global, fails: Fails) -> Result<Vec<Box<dyn PortDevice>>, F
     Ok(devices)
 }
 
+/// A latch and a recorder that take words after so many times alone.
+fn punctual(alloc: Global, times: u32) -> Result<Vec<Box<dyn PortDevice>>, Fail>
+    ensures { IfOk result (λ devices. AreDistinct (map device_of devices.items)) }
+{
+    let mut devices: Vec<Box<dyn PortDevice>> = Vec::new(alloc);
+    let latch = Punctual::new(Latch::new(0o14), word_of_time(u64::from(times)));
+    devices.push(Box::new(alloc, latch)?)?;
+    let recorder = Punctual::new(Recorder::new(alloc, 0o17), word_of_time(u64::from(times)));
+    devices.push(Box::new(alloc, recorder)?)?;
+    Ok(devices)
+}
+
 /// The devices of a rack.
 fn devices(alloc: Global, rack: Rack, fails: Fails) -> Result<Vec<Box<dyn PortDevice>>, Fail>
     ensures { IfOk result (λ devices. AreDistinct (map device_of devices.items)) }
@@ -124,6 +139,7 @@ fn devices(alloc: Global, rack: Rack, fails: Fails) -> Result<Vec<Box<dyn PortDe
         Rack::RecorderAndTape => recorder_and_tape(alloc, fails),
         Rack::TapeLatchAndRecorder => tape_latch_and_recorder(alloc, fails),
         Rack::OtherTape => other_tape(alloc, fails),
+        Rack::Punctual(times) => punctual(alloc, times),
     }
 }
 

@@ -1,4 +1,4 @@
-use Rattle.std.proofs.Common.{◌/◌, ap, ◌∙◌}
+use Rattle.std.proofs.Common.{◌/◌, refl, ap, ◌∙◌}
 use Rattle.std.proofs.lemmas.Result.{on_ok_weaker}
 use Rattle.lvdc_port.specs.Supplies.{ports_of}
 use Rattle.lvdc_command_resume.proofs.Unplugged.{distinct-left}
@@ -8,7 +8,7 @@ use Rattle.lvdc_command_resume.proofs.restore.restore_devices.Goals as goal
 pub returns-in-Ok-clause-distinct : goal.returns-in-Ok-clause-distinct
 returns-in-Ok-clause-distinct g c =
     on_ok_weaker c.give_words.result
-    (distinct-given _ c.items-states.result.now c.prepare_all.new.devices.items c.give_words.new.devices.items _
+    (distinct-given _ c.args.saved.now.states c.prepare_all.new.devices.items c.give_words.new.devices.items _
     (c.in-Ok.ensures.devices ∙ c.unplug_before.ensures.left) (distinct-left c.items.result.now (c.args.saved.now.snapshot.steps / 3) _ c.requires.distinct))
     c.give_words.ensures.ok
 
@@ -21,8 +21,8 @@ returns-in-Ok-clause-since g c =
 pub returns-in-Ok-clause-refused : goal.returns-in-Ok-clause-refused
 returns-in-Ok-clause-refused g c =
     if_err_weaker c.give_words.result _ _
-    (λ e. refused-since _ _ c.args.saved.now.states c.items-states.result.now _ e c.args.devices.now.items c.prepare_all.new.devices.items
-    c.give_words.new.devices.items c.items-states.ensures
+    (λ e. refused-since _ _ c.args.saved.now.states c.args.saved.now.states _ e c.args.devices.now.items c.prepare_all.new.devices.items
+    c.give_words.new.devices.items refl
     (since-both c.unplug_before.ensures.since (since-same _ _ _ _ (ap ports_of c.in-Ok.ensures.devices) c.in-Ok.ensures.faults))
     (left-same c.args.saved.now.unplugs _ (c.args.saved.now.snapshot.steps / 3) _ _ c.items.ensures (c.in-Ok.ensures.devices ∙ c.unplug_before.ensures.left)))
     c.give_words.ensures.refused
