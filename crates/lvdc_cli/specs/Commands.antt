@@ -27,7 +27,8 @@ use Rattle.lvdc_command_save.specs.Halves.{IsSaveOf}
 use Rattle.lvdc_command_resume.specs.Answers.{resume_answer}
 use Rattle.lvdc_command_resume.specs.Replies.{FailsInResume, IsUnresumed}
 use Rattle.lvdc_command_resume.specs.Statuses.{HasResumeThat}
-use Rattle.lvdc_laws_halves.specs.Alike.{AreAlike}
+use Rattle.lvdc_command_resume.specs.Reordered.{IsAnswerReordered}
+use Rattle.lvdc_laws_halves.specs.Alike.{AreAlike, AreAlikeInAnyOrder}
 use Rattle.lvdc_cli.specs.declared.TheConstants.{ROOM, SESSION_ROOM, SAVED_ROOM, RESUMED_ROOM}
 use Rattle.lvdc_cli.specs.declared.command.Command.{Command}
 use Rattle.lvdc_cli.specs.declared.command.Command.TheVariants.{Run, Soak, Assemble, Debug, Save, Resume, Campaign, Uplink, Expand}
@@ -98,7 +99,8 @@ room_of (Expand form) = ROOM
 -- What is true of the input, the devices and the reply beside the answer. Each admissible row of a campaign comes to the same. The
 -- image that `uplink` patches is the one that whoever hears the messages and their answers makes of the acknowledgements. From
 -- what is saved the run can go on; and where such a text is resumed, over devices of the ports and kinds of those that were handed in
--- to `save`, each in its kind's first state, the reply is that of `run` to the deck, unless a device fails.
+-- to `save`, each in its kind's first state, the reply is that of `run` to the deck, unless a device fails; and so it is, but for the
+-- order of the devices that are left, where they stand in another order.
 abbrev pub HoldsFor : Command → List ℕ → List Device → Answer → Type 0
 HoldsFor (Run engine) bytes devices reply = Unit {0}
 HoldsFor (Soak number) bytes devices reply = Unit {0}
@@ -106,8 +108,10 @@ HoldsFor (Assemble product) bytes devices reply = Unit {0}
 HoldsFor Debug bytes devices reply = Unit {0}
 HoldsFor (Save times) bytes devices reply = reply.status ≡ 0 → IsSaveOf times bytes devices reply.text
 HoldsFor Resume bytes devices reply =
-    (times : ℕ) (deck : List ℕ) (before : List Device) → IsSaveOf times deck before bytes → AreAlike before devices → reply.status ≢ 10
-    → reply ≡ job_answer (job.Deck Guarded) deck before
+    ((times : ℕ) (deck : List ℕ) (before : List Device) → IsSaveOf times deck before bytes → AreAlike before devices → reply.status ≢ 10
+    → reply ≡ job_answer (job.Deck Guarded) deck before)
+    × ((times : ℕ) (deck : List ℕ) (before : List Device) → IsSaveOf times deck before bytes → AreAlikeInAnyOrder before devices → reply.status ≢ 10
+    → IsAnswerReordered (job_answer (job.Deck Guarded) deck before) reply)
 HoldsFor Campaign bytes devices reply = AdmissibleAreSame bytes devices
 HoldsFor Uplink bytes devices reply = (request : Request) → request_of bytes ≡ Ok request → IsHeard request reply.text
 HoldsFor (Expand form) bytes devices reply = Unit {0}

@@ -5,5 +5,7 @@ pub mod Replied
 pub mod Consumed
 pub mod Went
 pub mod Onward
+pub mod InAnyOrder
+pub mod Reordering
 pub mod Statuses
 mod RestoreRows

@@ -1,9 +1,11 @@
 -- Worked devices of a run that goes on: which are left, and the words that they are given.
-use Rattle.std.proofs.Common.{◌≡◌, List, [], ◌∷◌, refl}
+use Rattle.std.proofs.Common.{◌≡◌, ℕ, List, [], ◌∷◌, None, Some, refl}
 use Rattle.lvdc_port.specs.Device.{Device}
 use Rattle.lvdc_port.specs.declared.device.Kind.TheVariants.{Tape, Latch, Recorder}
 use Rattle.lvdc_plain.specs.declared.records.Unplug.{Unplug}
-use Rattle.lvdc_command_resume.specs.Restore.{left_before, after_state, with_states}
+use Rattle.lvdc_save.specs.declared.saved.Saved.{Saved}
+use Rattle.lvdc_command_resume.specs.Restore.{left_before, after_state, with_states, time_of}
+use Rattle.lvdc_command_resume.specs.Reordered.{device_at}
 
 abbrev tape : Device
 tape = record { port = 0; kind = Tape; state = [] }
@@ -34,3 +36,22 @@ words_in_order : with_states (record { port = 0; word = 5 } ∷ record { port = 
     (tape ∷ latch ∷ recorder ∷ [])
     ≡ record tape { state = 5 ∷ 6 ∷ [] } ∷ record latch { state = 7 ∷ [] } ∷ record recorder { state = 8 ∷ 9 ∷ [] } ∷ []
 words_in_order = refl
+
+-- the time at which words are written is the number of times that were made
+abbrev saved_after : ℕ → Saved
+saved_after steps =
+    record {
+      snapshot = record { steps = steps; latches = []; differed = []; selected = []; cells = []; words = []; log = []; repairs = []; banks = 0 };
+      count = 9;
+      states = [];
+      unplugs = [];
+      script = [];
+      orders = [];
+    }
+
+time_told : (time_of (saved_after 0) ≡ 0) × (time_of (saved_after 3) ≡ 1) × (time_of (saved_after 27) ≡ 9)
+time_told = (refl, refl, refl)
+
+-- the device at a port is the same in any order
+at_a_port : (device_at 0o17 (tape ∷ recorder ∷ []) ≡ Some recorder) × (device_at 0o17 (recorder ∷ tape ∷ []) ≡ Some recorder) × (device_at 0o14 (tape ∷ recorder ∷ []) ≡ None)
+at_a_port = (refl, refl, refl)

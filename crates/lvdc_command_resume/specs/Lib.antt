@@ -5,3 +5,4 @@ pub mod Answers
 pub mod Replies
 pub mod GoesOn
 pub mod Statuses
+pub mod Reordered

@@ -17,6 +17,7 @@ ghost use Rattle.lvdc_save.specs.declared.saved.Saved.{Saved as SavedRun};
 ghost use Rattle.lvdc_save.specs.declared.fault.SaveFault.TheVariants.{NoMemory as WantsMemory};
 ghost use Rattle.lvdc_command_resume.specs.Answers.{device_text};
 ghost use Rattle.lvdc_command_resume.specs.GoesOn.{GoesOn};
+ghost use Rattle.lvdc_command_resume.specs.Reordered.{GoesOnReordered};
 ghost use Rattle.lvdc_command_resume.specs.Replies.{IsResumed, IsResumeReply, IsUnreported, IsUnresumed};
 ghost use Rattle.lvdc_command_resume.specs.Runs.{IsRunnable};
 
@@ -80,6 +81,8 @@ fn resume(
     ensures unreported { OnErr result (IsUnreported device_of faults saved devices.old.items devices.new.items) }
     ensures goes_on { IfOk result (λ reply. GoesOn saved (map device_of devices.old.items)
         (answer_with reply.status reply.text (map device_of devices.new.items))) }
+    ensures reordered { IfOk result (λ reply. GoesOnReordered saved (map device_of devices.old.items)
+        (answer_with reply.status reply.text (map device_of devices.new.items))) }
     ensures short { IfOk result (λ reply. length reply.text < LONGEST_REPORT + noted_size saved.snapshot.log saved.snapshot.repairs) }
 {
     resumed_goes_on();
@@ -123,6 +126,10 @@ pub fn resume_bytes(
     // A state of a run goes on as that run does.
     ensures goes_on { IfOk result (λ reply. (s : SavedRun) → saved_of (map device_of devices.old.items) bytes.now ≡ Ok s
         → GoesOn s (map device_of devices.old.items) (answer_with reply.status reply.text (map device_of devices.new.items))) }
+
+    // The same where the devices stand in another order than in that run: it leaves the same devices in some order.
+    ensures reordered { IfOk result (λ reply. (s : SavedRun) → saved_of (map device_of devices.old.items) bytes.now ≡ Ok s
+        → GoesOnReordered s (map device_of devices.old.items) (answer_with reply.status reply.text (map device_of devices.new.items))) }
 
     // The devices are as before, or unplugged and restored in part, or they are as after the run.
     ensures unanswered { OnErr result (IsUnresumed device_of faults bytes.now devices.old.items devices.new.items) }

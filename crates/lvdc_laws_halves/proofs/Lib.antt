@@ -5,5 +5,6 @@ pub mod Restoring
 pub mod KindsLeft
 pub mod HeldWords
 pub mod Telling
+pub mod AnyOrder
 pub mod Wholes
 mod DeviceRows

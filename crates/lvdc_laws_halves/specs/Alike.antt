@@ -3,6 +3,7 @@ use Rattle.std.specs.Prelude.{◌≡◌, ℕ, ◌^◌, ◌<◌, List, [], ◌∷
 use Rattle.lvdc_port.specs.Device.{Device}
 use Rattle.lvdc_port.specs.declared.device.Kind.{Kind}
 use Rattle.lvdc_port.specs.declared.device.Kind.TheVariants.{Tape, Latch, Ticker, Recorder}
+use Rattle.lvdc_command_resume.specs.Reordered.{AreReordered}
 
 -- the words that a device of this kind holds in its kind's first state
 abbrev pub first_words : Kind → List ℕ
@@ -31,3 +32,8 @@ pub record IsDevice (device : Device) : Type 0 where
 pub record AreAlike (old new : List Device) : Type 0 where
   pub devices : All IsDevice old
   pub first : new ≡ map renewed old
+
+-- the same in any order: at each port stands a device of the kind that stood there, in its kind's first state
+pub record AreAlikeInAnyOrder (old new : List Device) : Type 0 where
+  pub devices : All IsDevice old
+  pub first : AreReordered (map renewed old) new

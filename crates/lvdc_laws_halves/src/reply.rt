@@ -7,8 +7,9 @@ ghost use Rattle.lvdc_command_run.specs.declared.job.Engine.TheVariants.{Guarded
 ghost use Rattle.lvdc_command_run.specs.declared.job.Job.TheVariants.{Deck};
 ghost use Rattle.lvdc_command_save.specs.Halves.{IsSaveOf};
 ghost use Rattle.lvdc_command_resume.specs.Replies.{IsResumeReply, IsUnresumed};
+ghost use Rattle.lvdc_command_resume.specs.Reordered.{IsAnswerReordered};
 ghost use Rattle.lvdc_command_resume.specs.declared.reply.TheConstants.{LIMIT, ROOM};
-ghost use Rattle.lvdc_laws_halves.specs.Alike.{AreAlike};
+ghost use Rattle.lvdc_laws_halves.specs.Alike.{AreAlike, AreAlikeInAnyOrder};
 
 use crate::laws::saved_tells_run;
 use lvdc_command_resume::resume_bytes;
@@ -35,6 +36,11 @@ pub fn resume_saved(
     ensures halves { IfOk result (λ reply. (number : ℕ) (deck_bytes : List ℕ) (before : List Device) → IsSaveOf number deck_bytes before bytes.now
         → AreAlike before (map device_of devices.old.items) → reply.status ≢ 10
         → answer_with reply.status reply.text (map device_of devices.new.items) ≡ job_answer (Deck Guarded) deck_bytes before) }
+
+    // The same where the devices stand in another order than those that were handed in: then it leaves the same devices in some order.
+    ensures any_order { IfOk result (λ reply. (number : ℕ) (deck_bytes : List ℕ) (before : List Device) → IsSaveOf number deck_bytes before bytes.now
+        → AreAlikeInAnyOrder before (map device_of devices.old.items) → reply.status ≢ 10
+        → IsAnswerReordered (job_answer (Deck Guarded) deck_bytes before) (answer_with reply.status reply.text (map device_of devices.new.items))) }
 {
     saved_tells_run();
     let reply = resume_bytes(alloc, bytes, devices)?;

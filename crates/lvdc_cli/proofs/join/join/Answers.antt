@@ -5,6 +5,7 @@ use Rattle.lvdc_command_macro.specs.Answers as expand
 use Rattle.lvdc_command_uplink.specs.Input.{request_of}
 use Rattle.lvdc_cli.specs.Commands.{command_answer}
 use Rattle.lvdc_cli.proofs.Commands.{replied, study_replied, whatever, source_settled, patch_settled, expand_settled}
+use Rattle.lvdc_reply.proofs.Statuses.{if_ok_both}
 use Rattle.lvdc_cli.proofs.join.join.Goals as goal
 
 pub returns-in-Run-clause-reply : goal.returns-in-Run-clause-reply
@@ -54,3 +55,7 @@ returns-in-Soak-clause-holds g c = rw c.in-Soak.is (whatever c.run_job-in-Soak.r
 
 pub returns-in-Uplink-clause-holds : goal.returns-in-Uplink-clause-holds
 returns-in-Uplink-clause-holds g c = rw c.in-Uplink.is c.patch_bytes.ensures.heard
+
+pub returns-in-Resume-clause-holds : goal.returns-in-Resume-clause-holds
+returns-in-Resume-clause-holds g c =
+    rw c.in-Resume.is (if_ok_both c.resume_saved.result _ _ _ (λ reply halves reordered. (halves, reordered)) c.resume_saved.ensures.halves c.resume_saved.ensures.any_order)

@@ -4,7 +4,8 @@ use Rattle.lvdc_model.specs.Runs.{guarded}
 use Rattle.lvdc_command_resume.specs.Runs.{steps_left}
 use Rattle.lvdc_reply.proofs.Statuses.{on_err, if_ok_both}
 use Rattle.lvdc_command_resume.proofs.Resumed.{run-resumed, run-stands, run-unreported, failed-resumed, refused-unreported}
-use Rattle.lvdc_command_resume.proofs.Onward.{onward}
+use Rattle.lvdc_command_resume.proofs.Onward.{onward, onward-reordered}
+use Rattle.lvdc_command_resume.proofs.Reordering.{with_devices}
 use Rattle.lvdc_command_resume.proofs.reply.resume.Goals as goal
 
 pub returns-in-Ok-clause-run : goal.returns-in-Ok-clause-run
@@ -56,3 +57,18 @@ returns-in-Ok-clause-goes_on g c =
 pub returns-in-Err-Failed-clause-goes_on : goal.returns-in-Err-Failed-clause-goes_on
 returns-in-Err-Failed-clause-goes_on g c =
     IfOk-weaker c.refuse_device.result _ _ (λ reply status o opens means unfailed. absurd (unfailed status)) c.refuse_device.ensures.status
+
+pub returns-in-Ok-clause-reordered : goal.returns-in-Ok-clause-reordered
+returns-in-Ok-clause-reordered g c =
+    if_ok_both c.report.result _ _ _
+    (λ reply status text. λ o left opens means re unfailed.
+    onward-reordered _ _ c.args.saved c.args.devices.now.items c.run_saved.new.devices.items c.in-Ok.machine c.in-Ok.ensures.run o
+    (c.judges_alone.ensures o opens) c.requires.runnable.steps left means re reply.status reply.text unfailed status
+    (text o (with_devices (guarded o c.args.saved.snapshot.steps) left) (steps_left c.args.saved) _
+    (c.in-Ok.ensures.run.stands o (with_devices (guarded o c.args.saved.snapshot.steps) left) means))
+    _ (c.guarded_is_answered.ensures o c.args.saved.count opens))
+    c.report.ensures.status c.report.ensures.text
+
+pub returns-in-Err-Failed-clause-reordered : goal.returns-in-Err-Failed-clause-reordered
+returns-in-Err-Failed-clause-reordered g c =
+    IfOk-weaker c.refuse_device.result _ _ (λ reply status o left opens means re unfailed. absurd (unfailed status)) c.refuse_device.ensures.status

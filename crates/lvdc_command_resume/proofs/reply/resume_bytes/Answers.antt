@@ -1,7 +1,7 @@
 use Rattle.std.proofs.Common.{arith}
 use Rattle.lvdc_command_resume.specs.Replies.{begun}
 use Rattle.lvdc_command_resume.proofs.Consumed.{noted-fits}
-use Rattle.lvdc_command_resume.proofs.Onward.{goes-on-by, goes-on-refused}
+use Rattle.lvdc_command_resume.proofs.Onward.{goes-on-by, goes-on-refused, reordered-by, reordered-refused}
 use Rattle.lvdc_command_resume.proofs.Replied.{saved-reply, refused-reply}
 use Rattle.lvdc_reply.proofs.Statuses.{on_err}
 use Rattle.lvdc_command_resume.proofs.reply.resume_bytes.Goals as goal
@@ -29,3 +29,11 @@ returns-in_ok-reply-in-Ok-clause-goes_on g c =
 pub returns-in_ok-reply-in-Err-clause-goes_on : goal.returns-in_ok-reply-in-Err-clause-goes_on
 returns-in_ok-reply-in-Err-clause-goes_on g c =
     goes-on-refused _ _ c.in-Err.fault _ (c.in-Err.ensures.refusal c.in_ok-reply-in-Err.ensures.refused)
+
+pub returns-in_ok-reply-in-Ok-clause-reordered : goal.returns-in_ok-reply-in-Ok-clause-reordered
+returns-in_ok-reply-in-Ok-clause-reordered g c =
+    reordered-by _ _ c.in-Ok.saved _ c.in-Ok.ensures.saved c.in_ok-reply-in-Ok.ensures.reordered
+
+pub returns-in_ok-reply-in-Err-clause-reordered : goal.returns-in_ok-reply-in-Err-clause-reordered
+returns-in_ok-reply-in-Err-clause-reordered g c =
+    reordered-refused _ _ c.in-Err.fault _ (c.in-Err.ensures.refusal c.in_ok-reply-in-Err.ensures.refused)
