@@ -22,6 +22,10 @@ mod rows;
 #[cfg(test)]
 mod saves;
 #[cfg(test)]
+mod sixteen;
+#[cfg(test)]
 mod streams;
 #[cfg(test)]
 mod told;
+#[cfg(test)]
+mod whole;

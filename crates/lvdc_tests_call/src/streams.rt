@@ -14,7 +14,7 @@ const FIRST: &str = "000:/014: 0/017:/";
 
 /// Each read of an input fails in turn. Up to the one that finds its end each is told, unless the write of that fails too, and the
 /// devices stay; after it no read is made.
-fn reads_fail(rt: &impl Abort, alloc: Global, line: &str, input: &str) -> Result<(), Fail> {
+pub fn reads_fail(rt: &impl Abort, alloc: Global, line: &str, input: &str) -> Result<(), Fail> {
     let reads = (input.len().div_ceil(PIECE) as u64).saturating_add(1);
     for read in 1..=reads {
         let ended = tells(alloc, line, input, Fails { read, ..NONE })?;
@@ -35,7 +35,7 @@ fn reads_fail(rt: &impl Abort, alloc: Global, line: &str, input: &str) -> Result
 
 /// Each write of an answer fails in turn. What was taken before it is a front of the answer, and the devices are as the answer leaves
 /// them; after the last no write is made.
-fn writes_fail(rt: &impl Abort, alloc: Global, line: &str, input: &str) -> Result<(), Fail> {
+pub fn writes_fail(rt: &impl Abort, alloc: Global, line: &str, input: &str) -> Result<(), Fail> {
     let whole = tells(alloc, line, input, NONE)?;
     let writes = whole.text.len().div_ceil(PIECE) as u64;
     let mut taken = 0;
