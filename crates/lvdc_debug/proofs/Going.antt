@@ -6,6 +6,7 @@ use Rattle.std.proofs.lemmas.Bool.Decides.{nat_tests}
 use Rattle.lvdc_port.specs.Causes.{Rose}
 use Rattle.lvdc_port.specs.Device as device
 use Rattle.lvdc_port.specs.Devices.{has_port, count_at}
+use Rattle.lvdc_port.proofs.Lists.{rose-has}
 use Rattle.lvdc_model.specs.Runs.{guarded}
 use Rattle.lvdc_model.specs.Trial.{Trial}
 use Rattle.lvdc_model.specs.Voted.{Voted, voted_start}
@@ -130,24 +131,6 @@ subject_before o a b m after ds s forward limit goes is = record {
 
 -- ---- causes
 
--- a port that has no device has no count
-absent : {B : Type 0} (device_of : B → device.Device) (count : B → ℕ) (port : ℕ) (xs : List B) → has_port device_of port xs ≡ false
-    → count_at device_of count port xs ≡ 0
-absent device_of count port [] is = refl
-absent device_of count port (x ∷ xs) is = by ((device_of x).port == port) (absent device_of count port xs) is
-  where
-    by : (here : Bool) → (has_port device_of port xs ≡ false → count_at device_of count port xs ≡ 0)
-        → (if here then true else has_port device_of port xs) ≡ false → (if here then count x else count_at device_of count port xs) ≡ 0
-    by true rest f = absurd (cc)
-    by false rest f = rest f
-
--- a count that rose is that of a device that is there
-risen_there : {B : Type 0} (device_of : B → device.Device) (count : B → ℕ) (port before : ℕ) (xs : List B) (has : Bool) → has_port device_of port xs ≡ has
-    → Rose before (count_at device_of count port xs) → has ≡ true
-risen_there device_of count port before xs true is rose = refl
-risen_there device_of count port before xs false is rose =
-    let none = absent device_of count port xs is in absurd (omega (arith, none, rose))
-
 module _ {B : Type 0} (device_of : B → device.Device) (faults : B → ℕ) (first : ℕ → ℕ) (old new : List B)
     (left : (port : ℕ) → has_port device_of port new ≡ true → has_port device_of port old ≡ true)
     (quiet : (port : ℕ) → has_port device_of port old ≡ true → count_at device_of faults port old ≡ first port) where
@@ -158,7 +141,7 @@ module _ {B : Type 0} (device_of : B → device.Device) (faults : B → ℕ) (fi
   caused_on (Stopped step stop) c = λ port l. c port l ∙ quiet port (left port l)
   caused_on (Inadmissible verdict) c = λ port l. c port l ∙ quiet port (left port l)
   caused_on (Device step port) c =
-      let there = risen_there device_of faults port (count_at device_of faults port old) new (has_port device_of port new) refl c.rose in
+      let there = rose-has device_of faults port (count_at device_of faults port old) new c.rose in
       record {
         rose = subst (λ (k : ℕ). Rose k (count_at device_of faults port new)) (quiet port (left port there)) c.rose;
         others = λ other apart l. c.others other apart l ∙ quiet other (left other l);

@@ -5,9 +5,9 @@ use Rattle.std.proofs.lemmas.Bool.{true≢false}
 use Rattle.std.proofs.lemmas.List.Elements.{All-head, All-tail, All-cons}
 use borrow.Author.Tests.{ne_eqb}
 use Rattle.lvdc_port.proofs.Firsts.{request_port}
-use Rattle.lvdc_port.specs.Causes.{Rose}
+use Rattle.lvdc_port.specs.Causes.{never, Rose}
 use Rattle.lvdc_port.specs.Device.{Device}
-use Rattle.lvdc_port.specs.Devices.{port_of, after_request, after_exchange, without, has_port, count_at, HasSpare, RoomAt, AreDistinct}
+use Rattle.lvdc_port.specs.Devices.{port_of, after_request, after_exchange, without, has_port, count_at, HasSpare, NeverFail, RoomAt, AreDistinct}
 use Rattle.lvdc_port.specs.Supplies.{ports_of}
 use Rattle.lvdc_port.specs.declared.requests.PortRequest.{PortRequest}
 use Rattle.lvdc_port.specs.declared.requests.PortRequest.TheVariants.{Read, Write}
@@ -132,8 +132,8 @@ count-without device_of count p q (b ∷ bs) apart has =
 
 -- the counts by place, of records and counts apart
 abbrev pub count_in : ℕ → List Device → List ℕ → ℕ
-count_in port [] counts = 0
-count_in port (d ∷ ds) [] = 0
+count_in port [] counts = never
+count_in port (d ∷ ds) [] = never
 count_in port (d ∷ ds) (count ∷ counts) = if d.port == port then count else count_in port ds counts
 
 pub count-in : {B : Type 0} (device_of : B → Device) (count : B → ℕ) (port : ℕ) (bs : List B) →
@@ -147,7 +147,7 @@ pub count_in-exchange : (request : PortRequest) (port : ℕ) (ds : List Device) 
 count_in-exchange request port [] counts = refl
 count_in-exchange request port (d ∷ ds) [] =
     elim (d.port == port_of request) as (λ t. count_in port
-    (if t then after_request request d ∷ ds else d ∷ after_exchange request ds) [] ≡ 0)
+    (if t then after_request request d ∷ ds else d ∷ after_exchange request ds) [] ≡ never)
     [ true ↦ refl | false ↦ refl ]
 count_in-exchange request port (d ∷ ds) (count ∷ counts) =
     elim (d.port == port_of request) as (λ t. count_in port
@@ -169,22 +169,39 @@ count-exchange device_of count request olds news states counts port =
 
 -- a count that rose is that of a member
 pub count-lacking : {B : Type 0} (device_of : B → Device) (count : B → ℕ) (port : ℕ) (bs : List B) →
-    has_port device_of port bs ≡ false → count_at device_of count port bs ≡ 0
+    has_port device_of port bs ≡ false → count_at device_of count port bs ≡ never
 count-lacking device_of count port [] none = refl
 count-lacking device_of count port (b ∷ bs) none =
     (elim ((device_of b).port == port) as (λ t. (if t then true else has_port device_of port bs) ≡ false →
-    (if t then count b else count_at device_of count port bs) ≡ 0)
+    (if t then count b else count_at device_of count port bs) ≡ never)
     [ true ↦ λ e. absurd (true≢false e) | false ↦ λ e. count-lacking device_of count port bs e ]) none
 
 rose-has-at : {B : Type 0} (device_of : B → Device) (count : B → ℕ) (port before : ℕ) (bs : List B) (t : Bool) →
     has_port device_of port bs ≡ t → Rose before (count_at device_of count port bs) → t ≡ true
 rose-has-at device_of count port before bs true is rose = refl
 rose-has-at device_of count port before bs false is rose =
-    let none : count_at device_of count port bs ≡ 0 = count-lacking device_of count port bs is in absurd (omega arith)
+    let none : count_at device_of count port bs ≡ never = count-lacking device_of count port bs is in
+    absurd (omega (arith, none, rose.counted))
 
 pub rose-has : {B : Type 0} (device_of : B → Device) (count : B → ℕ) (port before : ℕ) (bs : List B) →
     Rose before (count_at device_of count port bs) → has_port device_of port bs ≡ true
 rose-has device_of count port before bs rose = rose-has-at device_of count port before bs (has_port device_of port bs) refl rose
+
+-- the count at a port, of devices that never fail, never rises
+never-at : {B : Type 0} (device_of : B → Device) (faults : B → ℕ) (port : ℕ) (bs : List B) →
+    NeverFail faults bs → count_at device_of faults port bs ≡ never
+never-at device_of faults port [] sound = refl
+never-at device_of faults port (b ∷ bs) sound =
+    elim ((device_of b).port == port) as (λ t. (if t then faults b else count_at device_of faults port bs) ≡ never) [
+      | true ↦ All-head (λ x. faults x ≡ never) b bs sound
+      | false ↦ never-at device_of faults port bs (All-tail (λ x. faults x ≡ never) b bs sound)
+    ]
+
+pub never-rose : {B : Type 0} (device_of : B → Device) (faults : B → ℕ) (port now : ℕ) (bs : List B) →
+    NeverFail faults bs → Rose (count_at device_of faults port bs) now → ⊥
+never-rose device_of faults port now bs sound rose =
+    let none : count_at device_of faults port bs ≡ never = never-at device_of faults port bs sound in
+    absurd (omega (arith, none, rose.may_fail))
 
 -- devices with the same ports and the same counts, one by one, have the same count at each port
 pub count-same : {B : Type 0} (device_of : B → Device) (count : B → ℕ) (port : ℕ) (xs ys : List B)

@@ -4,7 +4,7 @@ use Rattle.std.specs.List.{remove}
 use Rattle.std.proofs.Math.ListN.{set}
 use Rattle.std.proofs.Math.Seq.{map-set_same}
 use Rattle.lvdc_port.specs.Device.{Device}
-use Rattle.lvdc_port.specs.Causes.{Rose}
+use Rattle.lvdc_port.specs.Causes.{Rose, IsSaidOf}
 use Rattle.lvdc_port.specs.Devices.{port_of, answer_of, after_request, exchange_word, after_exchange, without, has_port, count_at, OthersKept, HasSpare}
 use Rattle.lvdc_port.specs.Places.{NoneHas, Lacks, IsFirstAt}
 use Rattle.lvdc_port.specs.declared.requests.PortRequest.{PortRequest}
@@ -129,12 +129,12 @@ pub kept_first : {B C : Type 0} (f : B → C) (bs : List B) (at : ℕ) (old new 
     old ≡ get_or bs at old → f new ≡ f old → map f (set bs at new) ≡ map f bs
 kept_first f bs at old new is same = map-set_same f bs at new old (same ∙ ap f is)
 
--- the count that is told of a device that failed
+-- the count that a device which failed says
 pub fault_first : {B : Type 0} {device_of : B → Device} (faults : B → ℕ) {port : ℕ} {bs : List B} {at : ℕ} (old new : B) (told : ℕ) →
-    IsFirstAt device_of port bs at → old ≡ get_or bs at old → device_of new ≡ device_of old → told ≡ faults new →
+    IsFirstAt device_of port bs at → old ≡ get_or bs at old → device_of new ≡ device_of old → IsSaidOf (faults new) told →
     Rose (faults old) (faults new) →
     (told ≡ count_at device_of faults port (set bs at new)) × Rose (count_at device_of faults port bs) told
-fault_first {device_of = device_of} faults {port = port} {bs = bs} {at = at} old new told h is same tells rose = (
-  tells ∙ sym (count_first_set faults old new h is same),
-  rw (count_first faults old h is, tells) rose,
+fault_first {device_of = device_of} faults {port = port} {bs = bs} {at = at} old new told h is same said rose = (
+  said.counted rose.counted ∙ sym (count_first_set faults old new h is same),
+  rw (count_first faults old h is, said.counted rose.counted) rose,
 )

@@ -1,7 +1,8 @@
 -- Worked values of the definitions.
-use Rattle.std.proofs.Common.{◌≡◌, [], ◌∷◌, Some, None, true, false, refl}
+use Rattle.std.proofs.Common.{◌≡◌, ◌-◌, ◌^◌, [], ◌∷◌, Some, None, true, false, refl, arith}
+use Rattle.lvdc_port.specs.Causes.{Rose}
 use Rattle.lvdc_port.specs.Device.{Device, read_word, after_read, after_write, after_supply}
-use Rattle.lvdc_port.specs.Devices.{exchange_word, after_exchange, without, has_port}
+use Rattle.lvdc_port.specs.Devices.{exchange_word, after_exchange, without, has_port, count_at}
 use Rattle.lvdc_port.specs.Supplies.{kind_at, supplied, IsSuppliedInPart}
 use Rattle.lvdc_port.specs.declared.device.Kind.TheVariants.{Tape, Latch, Ticker, Recorder}
 use Rattle.lvdc_port.specs.declared.requests.PortRequest.TheVariants.{Read, Write}
@@ -60,6 +61,26 @@ the_first_of_two_words_is_supplied = record { count = 1; next = _; is_next = ref
 whether_one_is_there :
     (has_port (λ d. d) 0o14 (tape ∷ latch ∷ []) ≡ true) × (has_port (λ d. d) 0o14 (tape ∷ ticker ∷ []) ≡ false)
 whether_one_is_there = (refl, refl)
+
+-- a count rises by one, or stands at its greatest value; that of a device which never fails doesn't, and neither does one become it
+a_count_rises : Rose 0 1 × Rose (2 ^ 64 - 1) (2 ^ 64 - 1)
+a_count_rises = (
+  record { may_fail = omega arith; counted = omega arith; grew = omega arith },
+  record { may_fail = omega arith; counted = omega arith; grew = omega arith },
+)
+
+a_count_that_stands_has_not_risen : Rose 3 3 → ⊥
+a_count_that_stands_has_not_risen rose = let grew = rose.grew in absurd (omega (arith, grew))
+
+what_never_fails_has_no_count_that_rises : (Rose (2 ^ 64) 1 → ⊥) × (Rose 0 (2 ^ 64) → ⊥)
+what_never_fails_has_no_count_that_rises = (
+  λ rose. let old = rose.may_fail in absurd (omega (arith, old)),
+  λ rose. let new = rose.counted in absurd (omega (arith, new)),
+)
+
+-- where no device stands none ever fails
+counts_by_port : (count_at (λ d. d) (λ d. 2) 0o14 (tape ∷ latch ∷ []) ≡ 2) × (count_at (λ d. d) (λ d. 2) 0o15 (tape ∷ latch ∷ []) ≡ 2 ^ 64)
+counts_by_port = (refl, refl)
 
 words_are_supplied_in_order : supplied (record { port = 0; word = 0o3 } ∷ record { port = 0o14; word = 0o4 } ∷ record { port = 0o15; word = 0o4 } ∷ record { port = 0; word = 0o2 } ∷ [])
     (latch ∷ tape ∷ []) ≡ latch ∷ record tape { state = 0o5 ∷ 0o7 ∷ 0o3 ∷ 0o2 ∷ [] } ∷ []

@@ -1,5 +1,6 @@
 -- Lists of devices. The definitions serve lists of boxes, each seen as a device by `device_of`, and lists of plain devices.
 use Rattle.std.specs.Prelude.{◌≡◌, ◌≢◌, ℕ, ◌≤◌, ◌<◌, ◌^◌, ◌==◌, if◌then◌else◌, List, [], ◌∷◌, All, Bool, true, false}
+use Rattle.lvdc_port.specs.Causes.{never}
 use Rattle.lvdc_port.specs.Device.{Device, AreWords, read_word, after_read, after_write}
 use Rattle.lvdc_port.specs.declared.requests.PortRequest.{PortRequest}
 use Rattle.lvdc_port.specs.declared.requests.PortRequest.TheVariants.{Read, Write}
@@ -44,9 +45,9 @@ has_port device_of port [] = false
 has_port device_of port (device ∷ devices) =
     if (device_of device).port == port then true else has_port device_of port devices
 
--- a number of the device at this port, such as its count of faults; 0 where there is no device
+-- a number of the device at this port, such as its count of faults; where there is no device, the one that no count reaches
 abbrev pub count_at : {B : Type 0} → (B → Device) → (B → ℕ) → ℕ → List B → ℕ
-count_at device_of count port [] = 0
+count_at device_of count port [] = never
 count_at device_of count port (device ∷ devices) =
     if (device_of device).port == port then count device else count_at device_of count port devices
 
@@ -75,6 +76,10 @@ HoldWords devices = All (λ device. AreWords device.state) devices
 abbrev pub RoomFor : PortRequest → ℕ → Type 0
 RoomFor (Read port) spare = Unit {0}
 RoomFor (Write port word) spare = 1 ≤ spare
+
+-- no device ever fails
+abbrev pub NeverFail : {B : Type 0} → (B → ℕ) → List B → Type 0
+NeverFail faults devices = All (λ device. faults device ≡ never) devices
 
 -- the device at the port of the request, where there is one, has the room that the request needs
 abbrev pub RoomAt : {B : Type 0} → (B → Device) → (B → ℕ) → PortRequest → List B → Type 0

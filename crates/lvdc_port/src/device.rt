@@ -1,5 +1,5 @@
 ghost use Rattle.std.specs.Prelude.{◌≡◌, ℕ, ◌+◌, ◌≤◌, IfOk, OnOk, OnErr, slice_get};
-ghost use Rattle.lvdc_port.specs.Causes.{HasCause};
+ghost use Rattle.lvdc_port.specs.Causes.{HasCause, IsSaidOf};
 ghost use Rattle.lvdc_port.specs.Device.{Device, word_of_time, read_word, after_read, after_write, after_supply, AreWords};
 ghost use Rattle.lvdc_port.specs.declared.device.Kind.TheVariants.{Tape as TapeKind, Recorder as RecorderKind};
 
@@ -39,7 +39,7 @@ pub trait PortDevice: Drop {
     // For how many writes it has room.
     ghost spare: { Self → ℕ };
 
-    // How often it has failed.
+    // How often it has failed; `never` for a device that never fails.
     ghost faults: { Self → ℕ };
 
     /// The port at which the device stands, 000 to 377 octal.
@@ -50,9 +50,9 @@ pub trait PortDevice: Drop {
     fn kind(&self) -> Kind
         ensures { result ≡ (device_of self.now).kind };
 
-    /// How often a read or a write has failed; the greatest count stays.
+    /// How often a read or a write has failed; the greatest count stays. A device that never fails says 0.
     fn faults(&self) -> u64
-        ensures { result ≡ faults self.now };
+        ensures { IsSaidOf (faults self.now) result };
 
     /// Puts a word behind those that a tape still has. Every other device ignores it.
     fn supply(&mut self, word: Word) -> Result<(), NoMemory>

@@ -1,5 +1,5 @@
 ghost use Rattle.std.specs.Prelude.{◌≡◌, ◌+◌, ◌-◌, ◌^◌, ◌≤◌, ◌<◌, ◌↔◌, min, IsTrue, IsErr, IfOk, OnOk, OnErr, Contains};
-ghost use Rattle.lvdc_port.specs.Causes.{HasCause};
+ghost use Rattle.lvdc_port.specs.Causes.{HasCause, Rose};
 ghost use Rattle.lvdc_port.specs.Device.{read_word, after_read, after_write, after_supply, AreWords};
 ghost use Rattle.lvdc_port.specs.declared.device.Kind.TheVariants.{Tape as TapeKind, Recorder as RecorderKind};
 
@@ -50,6 +50,7 @@ impl<D: PortDevice> Failing<D> {
         ensures fails { self.new.fails ≡ self.old.fails }
         ensures calls { self.new.calls ≡ self.old.calls }
         ensures faults { self.new.faults ≡ min (self.old.faults + 1) (2 ^ 64 - 1) }
+        ensures rose { Rose self.old.faults self.new.faults }
     {
         self.faults = self.faults.saturating_add(1);
         Failed

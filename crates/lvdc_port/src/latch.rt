@@ -1,4 +1,5 @@
 ghost use Rattle.std.specs.Prelude.{◌≡◌, ◌-◌, ◌^◌, ◌<◌, ◌∷◌, []};
+ghost use Rattle.lvdc_port.specs.Causes.{never};
 ghost use Rattle.lvdc_port.specs.declared.device.Kind.TheVariants.{Latch as LatchKind};
 
 use crate::device::{Failed, Kind, PortDevice};
@@ -30,7 +31,7 @@ impl PortDevice for Latch {
 
     ghost spare = { λ l. 2 ^ 64 - 1 };
 
-    ghost faults = { λ l. 0 };
+    ghost faults = { λ l. never };
 
     fn port(&self) -> u8 {
         self.port

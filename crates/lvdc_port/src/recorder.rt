@@ -1,5 +1,6 @@
 ghost use Rattle.std.specs.Prelude.{◌≡◌, ◌-◌, [], vec_len, vec_capacity};
 ghost use Rattle.lvdc_port.specs.Device.{AreWords};
+ghost use Rattle.lvdc_port.specs.Causes.{never};
 ghost use Rattle.lvdc_port.specs.declared.device.Kind.TheVariants.{Recorder as RecorderKind};
 
 use crate::device::{Failed, Kind, PortDevice};
@@ -39,7 +40,7 @@ impl PortDevice for Recorder {
 
     ghost spare = { λ r. vec_capacity r.words - vec_len r.words };
 
-    ghost faults = { λ r. 0 };
+    ghost faults = { λ r. never };
 
     fn port(&self) -> u8 {
         self.port

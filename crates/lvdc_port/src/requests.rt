@@ -1,5 +1,5 @@
 ghost use Rattle.std.specs.Prelude.{◌≡◌, ◌+◌, ◌≤◌, ◌<◌, ◌^◌, ℕ, ◌↔◌, List, All, IsTrue, map, OnOk, OnErr, IfOk, IfErr, MatchOption};
-ghost use Rattle.lvdc_port.specs.Causes.{HasCause, Rose};
+ghost use Rattle.lvdc_port.specs.Causes.{HasCause, Rose, IsSaidOf};
 ghost use Rattle.lvdc_port.specs.Device.{Device, AreWords};
 ghost use Rattle.lvdc_port.specs.declared.device.Kind.TheVariants.{Recorder};
 ghost use Rattle.lvdc_port.specs.declared.requests.PortRequest.{PortRequest};
@@ -53,7 +53,7 @@ fn is_at(device: &Box<dyn PortDevice>, port: u8) -> bool
 }
 
 fn faults_of(device: &Box<dyn PortDevice>) -> u64
-    ensures { result ≡ faults device.now }
+    ensures { IsSaidOf (faults device.now) result }
 {
     device.faults()
 }

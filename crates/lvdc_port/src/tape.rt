@@ -1,5 +1,6 @@
 ghost use Rattle.std.specs.Prelude.{◌≡◌, ◌-◌, ◌^◌, ◌≤◌, [], drop, vec_len};
 ghost use Rattle.lvdc_port.specs.Device.{AreWords};
+ghost use Rattle.lvdc_port.specs.Causes.{never};
 ghost use Rattle.lvdc_port.specs.declared.device.Kind.TheVariants.{Tape as TapeKind};
 
 use crate::device::{Failed, Kind, PortDevice};
@@ -42,7 +43,7 @@ impl PortDevice for Tape {
 
     ghost spare = { λ t. 2 ^ 64 - 1 };
 
-    ghost faults = { λ t. 0 };
+    ghost faults = { λ t. never };
 
     fn port(&self) -> u8 {
         self.port

@@ -1,4 +1,5 @@
 ghost use Rattle.std.specs.Prelude.{◌≡◌, ◌-◌, ◌^◌, []};
+ghost use Rattle.lvdc_port.specs.Causes.{never};
 ghost use Rattle.lvdc_port.specs.declared.device.Kind.TheVariants.{Ticker as TickerKind};
 
 use crate::device::{Failed, Kind, PortDevice};
@@ -25,7 +26,7 @@ impl PortDevice for Ticker {
 
     ghost spare = { λ t. 2 ^ 64 - 1 };
 
-    ghost faults = { λ t. 0 };
+    ghost faults = { λ t. never };
 
     fn port(&self) -> u8 {
         self.port

@@ -1,6 +1,6 @@
 -- How a command is answered over devices that may fail.
 use Rattle.std.specs.Prelude.{◌≡◌, ℕ, ◌≢◌, ◌⊎◌, true, List}
-use Rattle.lvdc_text.specs.Causes.{Rose}
+use Rattle.lvdc_port.specs.Causes.{Rose}
 use Rattle.lvdc_port.specs.Device.{Device}
 use Rattle.lvdc_port.specs.Devices.{has_port, count_at}
 use Rattle.lvdc_reply.specs.Answer.{Answer}
