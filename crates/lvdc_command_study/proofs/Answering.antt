@@ -1,5 +1,5 @@
 -- How a study is answered, by what is told of it.
-use Rattle.std.proofs.Common.{◌≡◌, ◌≢◌, ℕ, List, Result, Ok, Err, IfOk, OnOk, sym, ap, ◌∙◌, subst, All}
+use Rattle.std.proofs.Common.{◌≡◌, ◌≢◌, ℕ, List, Result, Ok, Err, IfOk, OnOk, sym, ap, ◌∙◌, subst, All, arith}
 use Rattle.lvdc_plain.specs.Run.{Opening}
 use Rattle.lvdc_port.specs.Device.{Device}
 use Rattle.lvdc_port.specs.Devices.{HoldWords}
@@ -9,9 +9,10 @@ use Rattle.lvdc_reply.specs.Answer.{answer_with, answer_of, refusal_text}
 use Rattle.lvdc_reply.specs.declared.reply.Reply.{Reply}
 use Rattle.lvdc_word.specs.declared.memory.NoMemory.{NoMemory}
 use Rattle.lvdc_command_run.specs.Trials.{trial_of}
+use Rattle.lvdc_command_run.proofs.Statuses.{refusal_is}
 use Rattle.lvdc_campaign_deck.specs.Faults.{name_of, line_of}
 use Rattle.lvdc_campaign_deck.specs.declared.fault.CampaignFault.{CampaignFault}
-use Rattle.lvdc_campaign_deck.specs.declared.fault.CampaignFault.TheVariants.{NoMemory as WantsMemory}
+use Rattle.lvdc_campaign_deck.specs.declared.fault.CampaignFault.TheVariants.{Deck, NoMemory as WantsMemory}
 use Rattle.lvdc_command_campaign.specs.Answers.{fault_status}
 use Rattle.lvdc_study_deck.specs.Study.{study_of}
 use Rattle.lvdc_study_deck.specs.declared.deck.StudyDeck.{StudyDeck}
@@ -26,6 +27,11 @@ use Rattle.lvdc_command_study.specs.Studied.{IsStudied, made, failed as failed_a
 pub on_each : {A E P : Type 0} (result : Result A E) → P → IfOk result (λ a. P)
 on_each (Ok a) fact = fact
 on_each (Err e) fact = tt
+
+-- no refusal has the status of a failure
+pub refusal-unfailed : (fault : CampaignFault) → fault_status fault ≢ 10
+refusal-unfailed (Deck fault) = λ e. let refused = refusal_is fault in absurd (omega (arith, refused, e))
+refusal-unfailed _ = λ e. absurd (omega (arith, e))
 
 -- the failure of a device that left no rows is told
 pub failure-told : (devices : List Device) (study : StudyDeck) (port : ℕ)

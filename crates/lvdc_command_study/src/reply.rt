@@ -1,6 +1,6 @@
 //! The reply to a study.
 
-ghost use Rattle.std.specs.Prelude.{◌≡◌, ◌<◌, ◌≤◌, ◌-◌, ◌^◌, length, map, true, All, List, IfOk, IfErr};
+ghost use Rattle.std.specs.Prelude.{◌≡◌, ◌≢◌, ◌<◌, ◌≤◌, ◌-◌, ◌^◌, length, map, true, false, All, List, IfOk, IfErr};
 ghost use Rattle.lvdc_map.specs.Memory.{are_rising, AllThere};
 ghost use Rattle.lvdc_port.specs.Device.{Device};
 ghost use Rattle.lvdc_reply.specs.Answer.{answer_of};
@@ -10,6 +10,7 @@ ghost use Rattle.lvdc_study_deck.specs.declared.TheConstants.{MOST_SCRIPTS};
 ghost use Rattle.lvdc_fault.specs.declared.TheConstants.{MOST_TIMES};
 ghost use Rattle.lvdc_study.specs.Failures.{FailsInRuns};
 ghost use Rattle.lvdc_study.specs.Study.{opening_over, IsProgram};
+ghost use Rattle.lvdc_study.specs.declared.fault.Unstudied.TheVariants.{NoMemory as WantsMemory};
 ghost use Rattle.lvdc_command_study.specs.Answers.{rows_in, failed_text, RowsKeepLaws};
 ghost use Rattle.lvdc_command_study.specs.Replies.{IsStudyReply};
 ghost use Rattle.lvdc_command_study.specs.Texts.{study_text};
@@ -52,6 +53,7 @@ fn make_rows<B: Bench>(alloc: Global, study: StudyDeck, bench: &B) -> Result<Vec
     requires { IsRunnable study }
     ensures rows { IfOk result (λ rows. rows.items ≡ rows_in (B.devices bench.now) study) }
     ensures failed { IfErr result (λ e. FailsInRuns (trial_of (B.devices bench.now) study.deck).opening study.deck.count study.scripts e) }
+    ensures unfailed { IfErr result (λ e. B.may_fail bench.now ≡ false → e ≡ WantsMemory) }
 {
     let StudyDeck { deck, scripts } = study;
     let program = program_of(&deck);
@@ -93,6 +95,7 @@ fn tell_failure(alloc: Global, port: u8) -> Result<Reply, NoMemory>
 fn tell_study<B: Bench>(alloc: Global, study: StudyDeck, bench: &B) -> Result<Reply, NoMemory>
     requires { IsRunnable study }
     ensures studied { IfOk result (λ reply. IsStudied (B.devices bench.now) study reply) }
+    ensures unfailed { IfOk result (λ reply. B.may_fail bench.now ≡ false → reply.status ≢ 10) }
     ensures short { IfOk result (λ reply. length reply.text ≤ LONGEST_REPORT) }
 {
     match make_rows(alloc, study, bench) {
@@ -116,6 +119,9 @@ pub fn study_bytes<B: Bench>(
     // 0 and the rows of the definition with their total, or the first refusal and its status, or a device of a run that failed.
     ensures reply { IfOk result (λ reply. IsStudyReply bytes.now (map device_of devices.now.items)
         (answer_of reply (map device_of devices.now.items))) }
+
+    // Where no device of the bench may fail, 10 never comes.
+    ensures unfailed { IfOk result (λ reply. B.may_fail bench.now ≡ false → reply.status ≢ 10) }
 
     // Each row whose script is admissible is the same, and each whose script masks by form is admissible.
     ensures laws { IfOk result (λ reply. RowsKeepLaws bytes.now (map device_of devices.now.items)) }

@@ -1,11 +1,12 @@
 //! Who runs a program over devices of its own.
 
-ghost use Rattle.std.specs.Prelude.{◌≡◌, List, IfOk, IfErr};
+ghost use Rattle.std.specs.Prelude.{◌≡◌, Bool, false, List, IfOk, IfErr};
 ghost use Rattle.lvdc_port.specs.Device.{Device};
 ghost use Rattle.lvdc_campaign.specs.Campaign.{trial_under, IsScript};
 ghost use Rattle.lvdc_campaign.specs.Ran.{HasRunPlainly};
 ghost use Rattle.lvdc_study.specs.Failures.{FailsUnder, FailsPlainly};
 ghost use Rattle.lvdc_study.specs.Study.{opening_over, IsProgram, row_of};
+ghost use Rattle.lvdc_study.specs.declared.fault.Unstudied.TheVariants.{NoMemory as WantsMemory};
 
 use crate::{Program, Row, Unstudied};
 use lvdc_fault::Named;
@@ -17,11 +18,17 @@ pub trait Bench {
     // The devices in their first states.
     ghost devices: { Self → List Device };
 
+    // Whether one of them may fail.
+    ghost may_fail: { Self → Bool };
+
     /// The plain machine after the times of a program.
     fn run_plain(&self, alloc: Global, program: &Program<'_>) -> Result<Plain, Unstudied>
         requires { IsProgram program.now }
         ensures run { IfOk result (λ plain. HasRunPlainly (opening_over program.now (devices self.now)) program.now.count plain) }
-        ensures failed { IfErr result (λ e. FailsPlainly (opening_over program.now (devices self.now)) program.now.count e) };
+        ensures failed { IfErr result (λ e. FailsPlainly (opening_over program.now (devices self.now)) program.now.count e) }
+
+        // Where none may fail, only memory is wanting.
+        ensures unfailed { IfErr result (λ e. may_fail self.now ≡ false → e ≡ WantsMemory) };
 
     /// The row of a script, beside the plain run of the same program.
     fn study_script(
@@ -35,5 +42,6 @@ pub trait Bench {
         requires plain { HasRunPlainly (opening_over program.now (devices self.now)) program.now.count plain.now }
         requires script { IsScript named }
         ensures row { IfOk result (λ row. row ≡ row_of (opening_over program.now (devices self.now)) program.now.count named) }
-        ensures failed { IfErr result (λ e. FailsUnder (trial_under (opening_over program.now (devices self.now)) named.script) program.now.count e) };
+        ensures failed { IfErr result (λ e. FailsUnder (trial_under (opening_over program.now (devices self.now)) named.script) program.now.count e) }
+        ensures unfailed { IfErr result (λ e. may_fail self.now ≡ false → e ≡ WantsMemory) };
 }

@@ -1,9 +1,10 @@
 //! The rows of a study.
 
-ghost use Rattle.std.specs.Prelude.{◌≡◌, All, IfOk, IfErr};
+ghost use Rattle.std.specs.Prelude.{◌≡◌, false, All, IfOk, IfErr};
 ghost use Rattle.lvdc_campaign.specs.Campaign.{IsScript};
 ghost use Rattle.lvdc_study.specs.Failures.{FailsInRuns};
 ghost use Rattle.lvdc_study.specs.Study.{opening_over, rows_of, IsProgram};
+ghost use Rattle.lvdc_study.specs.declared.fault.Unstudied.TheVariants.{NoMemory as WantsMemory};
 
 use crate::{Bench, Program, Row, Unstudied};
 use lvdc_fault::Named;
@@ -22,6 +23,9 @@ pub fn study_scripts<B: Bench>(
     // The rows of the scripts, in their order. The orders of latching don't matter.
     ensures rows { IfOk result (λ rows. rows.items ≡ rows_of (opening_over program.now (B.devices bench.now)) program.now.count scripts.items) }
     ensures failed { IfErr result (λ e. FailsInRuns (opening_over program.now (B.devices bench.now)) program.now.count scripts.items e) }
+
+    // Over devices that never fail, only memory is wanting.
+    ensures unfailed { IfErr result (λ e. B.may_fail bench.now ≡ false → e ≡ WantsMemory) }
 {
     let plain = match bench.run_plain(alloc, program) {
         Ok(plain) => plain,

@@ -32,10 +32,12 @@ fn one_tape(alloc: Global, fails: u64) -> Result<Vec<Box<dyn PortDevice>>, NoMem
 }
 
 impl Bench for OneTape {
-    ghost use Rattle.std.specs.Prelude.{[], ◌∷◌};
+    ghost use Rattle.std.specs.Prelude.{true, [], ◌∷◌};
     ghost use Rattle.lvdc_port.specs.declared.device.Kind.TheVariants.{Tape as TapeKind};
 
     ghost devices = { λ _. record { port = 0; kind = TapeKind; state = [] } ∷ [] };
+
+    ghost may_fail = { λ _. true };
 
     fn run_plain(&self, alloc: Global, program: &Program<'_>) -> Result<Plain, Unstudied> {
         let mut devices = one_tape(alloc, self.fails)?;

@@ -1,8 +1,8 @@
-use Rattle.std.proofs.Common.{List, sym, subst}
+use Rattle.std.proofs.Common.{List, sym, subst, ◌∙◌}
 use Rattle.std.proofs.lemmas.Result.{IfOk-weaker}
 use Rattle.lvdc_port.specs.Device.{Device}
 use Rattle.lvdc_command_study.specs.Studied.{IsStudied}
-use Rattle.lvdc_command_study.proofs.Answering.{on_each, of_study, of_refusal, rows-keep, no-rows}
+use Rattle.lvdc_command_study.proofs.Answering.{on_each, of_study, of_refusal, refusal-unfailed, rows-keep, no-rows}
 use Rattle.lvdc_command_study.proofs.reply.study_bytes.Goals as goal
 
 pub tell_study-requires : goal.tell_study-requires
@@ -26,3 +26,7 @@ returns-in-Err-clause-reply g c =
 
 pub returns-in-Err-clause-laws : goal.returns-in-Err-clause-laws
 returns-in-Err-clause-laws g c = no-rows c.args.bytes.now _ c.in-Err.fault c.in-Err.ensures.refusal c.refuse.result c.refuse.ensures.refused
+
+pub returns-in-Err-clause-unfailed : goal.returns-in-Err-clause-unfailed
+returns-in-Err-clause-unfailed g c =
+    IfOk-weaker c.refuse.result _ _ (λ reply is sound ten. refusal-unfailed c.in-Err.fault (sym is ∙ ten)) c.refuse.ensures.status

@@ -1,4 +1,5 @@
 use Rattle.std.proofs.Common.{◌≤◌, List, length, All, ap, sym, subst, ◌∙◌, arith}
+use Rattle.std.proofs.lemmas.Result.{IfOk-weaker}
 use Rattle.lvdc_reply.proofs.Statuses.{if_ok_both}
 use Rattle.lvdc_command_run.specs.Trials.{trial_of}
 use Rattle.lvdc_study.specs.declared.row.Row.{Row}
@@ -29,3 +30,12 @@ returns-in-Err-Device-clause-studied g c =
     let fails = rw c.in-Err-Device.field-0-is at c.in-Err-Device.ensures.failed in
     if_ok_both c.tell_failure.result _ _ _ (failure-told (g.B.Bench.devices c.args.bench.now) c.args.study c.in-Err-Device.port fails)
     c.tell_failure.ensures.status c.tell_failure.ensures.text
+
+pub returns-in-Ok-clause-unfailed : goal.returns-in-Ok-clause-unfailed
+returns-in-Ok-clause-unfailed g c =
+    IfOk-weaker c.tell_rows.result _ _ (λ reply zero sound ten. absurd (omega (arith, zero, ten))) c.tell_rows.ensures.status
+
+pub returns-in-Err-Device-clause-unfailed : goal.returns-in-Err-Device-clause-unfailed
+returns-in-Err-Device-clause-unfailed g c =
+    let only = rw c.in-Err-Device.field-0-is at c.in-Err-Device.ensures.unfailed in
+    IfOk-weaker c.tell_failure.result _ _ (λ reply is sound. absurd (cc (only sound))) c.tell_failure.ensures.status
