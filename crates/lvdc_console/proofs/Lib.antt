@@ -2,3 +2,4 @@ mod Over
 mod Rows
 mod Inquiring
 mod Held
+mod Benched

@@ -1,4 +1,4 @@
--- How the program answers: as the top call does over devices of which only the start is known outside.
+-- How the program answers: as the top call does over devices that never fail and of which only the start is known outside.
 use Rattle.std.specs.Prelude.{◌≡◌, ◌≢◌, ℕ, ◌+◌, true, false, List, [], IsSome, Ok}
 use Rattle.std.specs.declared.option.Option.TheVariants.{None, Some}
 use Rattle.lvdc_text.specs.Causes.{Rose}
@@ -7,7 +7,7 @@ use Rattle.lvdc_text.specs.Transfer.{TookCount, TookAtMost}
 use Rattle.lvdc_port.specs.Device.{Device}
 use Rattle.lvdc_deck.specs.Deck.{deck_of}
 use Rattle.lvdc_deck.specs.declared.deck.Deck.{Deck}
-use Rattle.lvdc_reply.specs.Answer.{Answer, answer_with}
+use Rattle.lvdc_reply.specs.Answer.{answer_with}
 use Rattle.lvdc_command_run.specs.declared.job.Engine.TheVariants.{Guarded}
 use Rattle.lvdc_command_run.specs.Headline.{Headline}
 use Rattle.lvdc_command_run.specs.Trials.{trial_of}
@@ -15,27 +15,21 @@ use Rattle.lvdc_cli.specs.declared.command.Command.{Command}
 use Rattle.lvdc_cli.specs.declared.command.Command.TheVariants.{Run}
 use Rattle.lvdc_cli.specs.Words.{command_of, reads, limit_for}
 use Rattle.lvdc_cli.specs.Texts.{usage_text, read_fault_text, too_long_text}
-use Rattle.lvdc_cli.specs.Commands.{command_answer, FailsInCommand, HoldsFor}
+use Rattle.lvdc_cli.specs.Commands.{command_answer, HoldsFor}
 use Rattle.lvdc_cli.specs.Outside.{outside}
 use Rattle.lvdc_cli.specs.Top.{HasRead, IsTold, CarriesHeadline}
 
--- A command's reply over these bytes and devices: the answer of the definition; or a device failed in an exchange, and the reply is
--- what is due then.
-pub data IsReplyOver (devices : List Device) (command : Command) (bytes : List ℕ) (reply : Answer) : Type 0 where
-  answered : reply ≡ command_answer command bytes devices → IsReplyOver devices command bytes reply
-  failed : (step port : ℕ) → FailsInCommand command bytes devices step port reply → reply.status ≡ 10
-      → IsReplyOver devices command bytes reply
-
--- A command's reply over these bytes and devices, by its status and text: what holds of a reply holds of it with some devices that
--- are left; and where no device fails, the headline does too.
+-- A command's reply over these bytes and devices, none of which ever fails, by its status and text: with some devices that are left it
+-- is the answer of the definition, and the command's law and the headline hold of it.
 pub record IsReplied (devices : List Device) (command : Command) (bytes : List ℕ) (status : ℕ) (text : List ℕ) : Type 0 where
   pub left : List Device
-  pub is_reply : IsReplyOver devices command bytes (answer_with status text left)
+  pub is_reply : answer_with status text left ≡ command_answer command bytes devices
   pub holds : HoldsFor command bytes devices (answer_with status text left)
-  pub headline : status ≢ 10 → (deck : Deck) → command ≡ Run Guarded → deck_of bytes devices false ≡ Ok deck
+  pub headline : (deck : Deck) → command ≡ Run Guarded → deck_of bytes devices false ≡ Ok deck
       → Headline (trial_of devices deck) deck.count (answer_with status text left)
 
--- The status and the text that are due over these devices, by the words and by the source before and after: the cases of the top call.
+-- The status and the text that are due over these devices, none of which ever fails, by the words and by the source before and after:
+-- the cases of the top call.
 pub data IsDueOver (devices : List Device) (words : List (List ℕ)) (before after : SourceState) : ℕ → List ℕ → Type 0 where
   -- the words are no command
   usage : command_of words ≡ None → after ≡ before → IsDueOver devices words before after 1 usage_text
@@ -46,9 +40,9 @@ pub data IsDueOver (devices : List Device) (words : List (List ℕ)) (before aft
   too_long : reads (command_of words) ≡ true → after.faults ≡ before.faults
       → TookCount before.left after.left (limit_for (command_of words) + 1) → IsDueOver devices words before after 11 too_long_text
   -- all bytes that the command asks for were taken, and this is the reply to them
-  replied : (command : Command) (bytes : List ℕ) (reply : Answer) → command_of words ≡ Some command → after.faults ≡ before.faults
-      → HasRead command before after bytes → IsReplyOver devices command bytes reply → HoldsFor command bytes devices reply
-      → IsDueOver devices words before after reply.status reply.text
+  replied : (command : Command) (bytes : List ℕ) → command_of words ≡ Some command → after.faults ≡ before.faults
+      → HasRead command before after bytes → HoldsFor command bytes devices (command_answer command bytes devices)
+      → IsDueOver devices words before after (command_answer command bytes devices).status (command_answer command bytes devices).text
   -- memory is wanting
   wants_memory : IsSome (command_of words) → after.faults ≡ before.faults
       → TookAtMost before.left after.left (limit_for (command_of words)) → IsDueOver devices words before after 9 []
@@ -61,6 +55,12 @@ pub record IsAnswerOver (devices : List Device) (words : List (List ℕ)) (sourc
   pub due_text : List ℕ
   pub is_due : IsDueOver devices words source rest due_status due_text
   pub told : IsTold sink now due_status due_text status
+
+-- no fault of the source or the sink and no want of memory is told
+pub record IsUntroubled (status : ℕ) : Type 0 where
+  pub no_read_fault : status ≢ 7
+  pub no_write_fault : status ≢ 8
+  pub memory : status ≢ 9
 
 -- the headline holds of the run over these devices, and of some devices that are left
 pub record CarriesHeadlineOver (devices : List Device) (source rest : SourceState) (sink now : SinkState) (status : ℕ) : Type 0 where

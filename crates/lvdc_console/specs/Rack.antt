@@ -1,6 +1,8 @@
 -- The devices that the program has at its ports.
 use Rattle.std.specs.Prelude.{◌≡◌, ◌≤◌, map, ℕ, zero, suc, nat_lt, if◌then◌else◌, List, [], ◌∷◌, ◌++◌}
+use Rattle.lvdc_port.specs.Causes.{never}
 use Rattle.lvdc_port.specs.Device.{Device}
+use Rattle.lvdc_port.specs.Devices.{NeverFail}
 use Rattle.lvdc_port.specs.declared.device.Kind.TheVariants.{Tape, Latch, Ticker, Recorder}
 
 -- ---- one device of each kind, as it is before a run
@@ -38,8 +40,14 @@ devices_below (suc port) = devices_below port ++ device_at port ∷ []
 abbrev pub rack : List Device
 rack = devices_below 16
 
--- the list has the devices at the ports below this one, each as it is before a run, and it has room for all sixteen
-pub record IsFilled {B : Type 0} (device_of : B → Device) (port : ℕ) (devices : List B) (length capacity : ℕ) : Type 0 where
+-- what stands here is this device, and it never fails
+abbrev pub IsSound : {B : Type 0} → (B → Device) → (B → ℕ) → B → Device → Type 0
+IsSound device_of faults box device = (device_of box ≡ device) × (faults box ≡ never)
+
+-- the list has the devices at the ports below this one, each as it is before a run, none of which ever fails, and it has room for
+-- all sixteen
+pub record IsFilled {B : Type 0} (device_of : B → Device) (faults : B → ℕ) (port : ℕ) (devices : List B) (length capacity : ℕ) : Type 0 where
   pub devices_are : map device_of devices ≡ devices_below port
+  pub never_fail : NeverFail faults devices
   pub length_is : length ≡ port
   pub room : 16 ≤ capacity

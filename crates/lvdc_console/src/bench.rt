@@ -11,7 +11,11 @@ use std::alloc::Global;
 pub(crate) struct Rack;
 
 impl Bench for Rack {
+    ghost use Rattle.std.specs.Prelude.{false};
+
     ghost devices = { λ _. rack };
+
+    ghost may_fail = { λ _. false };
 
     fn run_plain(&self, alloc: Global, program: &Program<'_>) -> Result<Plain, Unstudied> {
         let mut devices = sixteen_devices!(alloc);

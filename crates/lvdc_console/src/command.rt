@@ -6,8 +6,8 @@ ghost use Rattle.lvdc_command_run.specs.declared.job.Engine.TheVariants.{Guarded
 ghost use Rattle.lvdc_cli.specs.declared.command.Command.TheVariants.{Run};
 ghost use Rattle.lvdc_cli.specs.Words.{texts, command_of};
 ghost use Rattle.lvdc_cli.specs.Commands.{answer, room_for};
-ghost use Rattle.lvdc_cli.specs.Top.{IsInput, IsUnhindered};
-ghost use Rattle.lvdc_console.specs.Over.{IsAnswerOver, CarriesHeadlineOver};
+ghost use Rattle.lvdc_cli.specs.Top.{IsInput};
+ghost use Rattle.lvdc_console.specs.Over.{IsAnswerOver, IsUntroubled, CarriesHeadlineOver};
 
 use crate::devices::{four_tapes, other_devices, plug_in_four, sixteen_devices};
 use crate::rack::is_whole;
@@ -30,13 +30,17 @@ pub fn run<S: Source, K: Sink>(
     ensures ends { IfOk result (λ status. IsAnswerOver rack (texts words.now)
         (S.state source.old) (S.state source.new) (K.state sink.old) (K.state sink.new) status) }
 
-    // Where the bytes of the source are told, or the command reads none, and nothing fails: they are those of the definition.
-    ensures answer { IfOk result (λ status. (bytes : List ℕ) → IsInput (texts words.now) (S.state source.old).left bytes → IsUnhindered status →
+    // The sixteen devices never fail, so 10 never comes.
+    ensures never_fails { IfOk result (λ status. status ≢ 10) }
+
+    // Where the bytes of the source are told, or the command reads none, and no read and no write fails: they are those of the
+    // definition.
+    ensures answer { IfOk result (λ status. (bytes : List ℕ) → IsInput (texts words.now) (S.state source.old).left bytes → IsUntroubled status →
         (status ≡ (answer (texts words.now) bytes rack).status)
         × Appends (K.state sink.old).written (K.state sink.new).written (answer (texts words.now) bytes rack).text) }
 
     // The headline, of the program.
-    ensures headline { IfOk result (λ status. command_of (texts words.now) ≡ Some (Run Guarded) → IsUnhindered status → status ≢ 11 →
+    ensures headline { IfOk result (λ status. command_of (texts words.now) ≡ Some (Run Guarded) → IsUntroubled status → status ≢ 11 →
         CarriesHeadlineOver rack
         (S.state source.old) (S.state source.new) (K.state sink.old) (K.state sink.new) status) }
 

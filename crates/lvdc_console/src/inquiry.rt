@@ -1,4 +1,4 @@
-ghost use Rattle.std.specs.Prelude.{◌≤◌, length, IfOk};
+ghost use Rattle.std.specs.Prelude.{◌≢◌, ◌≤◌, length, IfOk};
 ghost use Rattle.lvdc_inquiries.specs.Words.{most_bytes, IsInquiry};
 ghost use Rattle.lvdc_console.specs.Inquired.{IsInquired};
 ghost use Rattle.lvdc_console.specs.Rack.{rack};
@@ -17,6 +17,9 @@ use std::alloc::Global;
 pub fn inquire_over_rack(alloc: Global, inquiry: Inquiry, bytes: &[u8]) -> Result<Reply, NoMemory>
     requires ranges { IsInquiry inquiry }
     requires few { length bytes.now ≤ most_bytes inquiry }
+
+    // The sixteen devices never fail, and neither do those of a study's runs, so 10 never comes.
+    ensures never_fails { IfOk result (λ reply. reply.status ≢ 10) }
 
     // What holds of a reply of `inquire` over the sixteen devices of `rack`.
     ensures inquired { IfOk result (λ reply. IsInquired rack inquiry bytes.now reply.status reply.text) }

@@ -16,11 +16,14 @@ use std::alloc::Global;
 pub fn reply_over_rack(alloc: Global, command: Command, bytes: &[u8]) -> Result<Reply, NoMemory>
     requires { length bytes.now ≤ limit_of command }
 
-    // Where no device fails the status and the text are those of the definition.
-    ensures answer { IfOk result (λ reply. reply.status ≢ 10 → (reply.status ≡ (command_answer command bytes.now rack).status)
+    // The sixteen devices never fail, so 10 never comes.
+    ensures never_fails { IfOk result (λ reply. reply.status ≢ 10) }
+
+    // The status and the text are those of the definition.
+    ensures answer { IfOk result (λ reply. (reply.status ≡ (command_answer command bytes.now rack).status)
         × (reply.text ≡ (command_answer command bytes.now rack).text)) }
 
-    // In every case: what holds of a reply of `reply` over the sixteen devices of `rack`, and the headline where no device fails.
+    // What holds of a reply of `reply` over the sixteen devices of `rack`, and the headline.
     ensures replied { IfOk result (λ reply. IsReplied rack command bytes.now reply.status reply.text) }
     ensures room { IfOk result (λ reply. length reply.text ≤ room_of command) }
 {

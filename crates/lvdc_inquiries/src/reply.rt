@@ -1,6 +1,7 @@
-ghost use Rattle.std.specs.Prelude.{◌≡◌, ◌≤◌, length, map, IfOk};
+ghost use Rattle.std.specs.Prelude.{◌≡◌, ◌≢◌, ◌≤◌, false, length, map, IfOk};
 ghost use Rattle.lvdc_port.specs.Devices.{AreDistinct};
 ghost use Rattle.lvdc_reply.specs.Answer.{answer_with};
+ghost use Rattle.lvdc_inquiries.specs.declared.inquiry.Inquiry.TheVariants.{Study};
 ghost use Rattle.lvdc_inquiries.specs.Words.{most_bytes, IsInquiry};
 ghost use Rattle.lvdc_inquiries.specs.Replies.{HoldsFor, IsReplyTo};
 
@@ -31,6 +32,9 @@ pub fn inquire<B: Bench>(
     // Status, text and devices are those of the definition, or those that are due where a device failed in an exchange.
     ensures reply { IfOk result (λ reply. IsReplyTo device_of faults inquiry bytes.now devices.old.items devices.new.items
         (answer_with reply.status reply.text (map device_of devices.new.items))) }
+
+    // A study's runs have devices of the bench. Where none of them may fail, 10 never comes.
+    ensures unfailed { IfOk result (λ reply. inquiry ≡ Study → B.may_fail bench.now ≡ false → reply.status ≢ 10) }
     ensures holds { IfOk result (λ reply. HoldsFor inquiry bytes.now (map device_of devices.old.items)) }
     ensures room { IfOk result (λ reply. length reply.text ≤ LONGEST_REPORT) }
 {

@@ -1,17 +1,13 @@
--- A reply that tells no want of memory and no device that failed is the one that is due.
-use Rattle.std.proofs.Common.{◌≡◌, ◌≢◌, ℕ, true, false, List, [], ◌∷◌, length, map, None, Some, refl, sym, ap, ◌∙◌, arith, if◌then◌else◌}
+-- A reply that tells no want of memory is the one that is due.
+use Rattle.std.proofs.Common.{◌≡◌, true, false, List, [], ◌∷◌, length, map, None, Some, refl, sym, ap, ◌∙◌, arith, if◌then◌else◌}
 use Rattle.std.specs.Prelude.{nat_lt}
 use Rattle.std.specs.declared.option.Option.{Option}
 use Rattle.std.proofs.lemmas.Bool.Decides.{nat_tests}
-use Rattle.lvdc_reply.specs.Answer.{Answer, answer_with}
 use Rattle.lvdc_cli.specs.declared.command.Command.{Command}
 use Rattle.lvdc_cli.specs.Words.{command_of, limit_of}
 use Rattle.lvdc_cli.specs.Commands.{answer_by, too_long_answer, command_answer, input_of}
 use Rattle.lvdc_console.specs.Rack.{rack}
-use Rattle.lvdc_console.specs.Over.{IsReplyOver, answered, failed}
 use Rattle.lvdc_frames.specs.Frames.{Request}
-use Rattle.lvdc_console.specs.Inquired as over
-use Rattle.lvdc_console.specs.Inquired.{IsInquiryOver}
 use Rattle.lvdc_inquiries.specs.Replies.{inquiry_answer}
 use Rattle.lvdc_inquiries.specs.Words.{inquiry_of, most_bytes}
 use Rattle.lvdc_inquiries.specs.declared.inquiry.Inquiry.{Inquiry}
@@ -25,10 +21,6 @@ by_length request command long asked is =
     ∙ ap (λ (c : Option Command). reply_of (answer_by c request.input rack)) asked
     ∙ ap (λ l. reply_of (if l then too_long_answer rack else command_answer command (input_of command request.input) rack)) is
 
-of_answer : (command : Command) (bytes : List ℕ) (reply : Answer) → reply.status ≢ 10 → IsReplyOver rack command bytes reply → reply_of reply ≡ reply_of (command_answer command bytes rack)
-of_answer command bytes reply free (answered is) = ap reply_of is
-of_answer command bytes reply free (failed step port fails ten) = absurd (free ten)
-
 -- what an inquiry's request is answered, by whether its input is too long
 by_inquiry : (request : Request) (inquiry : Inquiry) (long : _) → command_of request.words ≡ None → inquiry_of request.words ≡ Some inquiry
     → nat_lt (most_bytes inquiry) (length request.input) ≡ long
@@ -38,11 +30,6 @@ by_inquiry request inquiry long none asked is =
     ∙ ap (λ (q : Option Inquiry). other_reply q request) asked
     ∙ ap (λ l. if l then too_long_reply else reply_of (inquiry_answer inquiry request.input rack)) is
 
-of_inquiry : (inquiry : Inquiry) (bytes : List ℕ) (reply : Answer) → reply.status ≢ 10 → IsInquiryOver rack inquiry bytes reply
-    → reply_of reply ≡ reply_of (inquiry_answer inquiry bytes rack)
-of_inquiry inquiry bytes reply free (over.answered is) = ap reply_of is
-of_inquiry inquiry bytes reply free (over.failed step port fails ten) = absurd (free ten)
-
 one_due : (request : Request) (reply : Reply) → IsUnhindered reply → IsReplyTo request reply → reply ≡ reply_to request
 one_due request reply free (usage none other) =
     sym (ap (λ (c : Option Command). reply_by c request) none ∙ ap (λ (q : Option Inquiry). other_reply q request) other)
@@ -51,14 +38,14 @@ one_due request reply free (inquiry_too_long inquiry none asked l) =
     sym (by_inquiry request inquiry true none asked long)
 one_due request reply free (inquired inquiry status text none asked few r) =
     let short : nat_lt (most_bytes inquiry) (length request.input) ≡ false = grind (arith, nat_tests) in
-    of_inquiry inquiry request.input (answer_with status text r.left) free.no_device_fault r.is_reply ∙ sym (by_inquiry request inquiry false none asked short)
+    ap reply_of r.is_reply ∙ sym (by_inquiry request inquiry false none asked short)
 one_due request reply free (too_long command asked l) =
     let long : nat_lt (limit_of command) (length (input_of command request.input)) ≡ true = grind (arith, nat_tests) in
     sym (by_length request command true asked long)
 one_due request reply free (replied command status text asked few r) =
     let short : nat_lt (limit_of command) (length (input_of command request.input)) ≡ false = grind (arith, nat_tests) in
-    of_answer command (input_of command request.input) (answer_with status text r.left) free.no_device_fault r.is_reply ∙ sym (by_length request command false asked short)
-one_due request reply free wants_memory = absurd (free.memory refl)
+    ap reply_of r.is_reply ∙ sym (by_length request command false asked short)
+one_due request reply free wants_memory = absurd (free refl)
 
 both : (reply due : Reply) (replies all : List Reply) → reply ≡ due → replies ≡ all → reply ∷ replies ≡ due ∷ all
 both reply due replies all e f = rw (e, f) refl

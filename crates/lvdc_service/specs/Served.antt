@@ -123,10 +123,9 @@ AreReplies [] (reply ∷ replies) = ⊥
 AreReplies (request ∷ requests) [] = ⊥
 AreReplies (request ∷ requests) (reply ∷ replies) = IsReplyTo request reply × AreReplies requests replies
 
--- a reply tells neither a want of memory nor a device that failed
-pub record IsUnhindered (reply : Reply) : Type 0 where
-  pub memory : reply.status ≢ 9
-  pub no_device_fault : reply.status ≢ 10
+-- a reply tells no want of memory
+abbrev pub IsUnhindered : Reply → Type 0
+IsUnhindered reply = reply.status ≢ 9
 
 -- none of the replies does
 abbrev pub AreUnhindered : List Reply → Type 0

@@ -27,3 +27,12 @@ returns-in-Study-clause-reply g c = rw c.in-Study.is (IfOk-weaker c.study_bytes.
 
 pub returns-in-Study-clause-holds : goal.returns-in-Study-clause-holds
 returns-in-Study-clause-holds g c = rw c.in-Study.is c.study_bytes.ensures.laws
+
+pub returns-in-Trace-clause-unfailed : goal.returns-in-Trace-clause-unfailed
+returns-in-Trace-clause-unfailed g c = rw c.in-Trace.is (IfOk-weaker c.trace_bytes.result _ _ (λ reply is study. absurd (cc (study))) c.trace_bytes.ensures.reply)
+
+pub returns-in-Form-clause-unfailed : goal.returns-in-Form-clause-unfailed
+returns-in-Form-clause-unfailed g c = rw c.in-Form.is (IfOk-weaker c.form_bytes.result _ _ (λ reply is study. absurd (cc (study))) c.form_bytes.ensures.answer)
+
+pub returns-in-Study-clause-unfailed : goal.returns-in-Study-clause-unfailed
+returns-in-Study-clause-unfailed g c = IfOk-weaker c.study_bytes.result _ _ (λ reply free study. free) c.study_bytes.ensures.unfailed

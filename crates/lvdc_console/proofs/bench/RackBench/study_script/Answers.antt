@@ -1,9 +1,12 @@
 use Rattle.std.proofs.Common.{◌≡◌, List, IfOk, IfErr, sym, subst, ◌∙◌}
+use Rattle.std.proofs.lemmas.Result.{IfErr-weaker}
 use Rattle.lvdc_port.specs.Device.{Device}
 use Rattle.lvdc_campaign.specs.Campaign.{trial_under}
 use Rattle.lvdc_campaign.specs.Ran.{HasRunPlainly}
 use Rattle.lvdc_study.specs.Failures.{FailsUnder}
 use Rattle.lvdc_study.specs.Study.{opening_over, row_of}
+use Rattle.lvdc_console.specs.Rack.{rack}
+use Rattle.lvdc_console.proofs.Benched.{either_wants_memory}
 use Rattle.lvdc_console.proofs.bench.RackBench.study_script.Goals as goal
 
 pub study_script-requires-clause-plain : goal.study_script-requires-clause-plain
@@ -23,3 +26,8 @@ pub returns-clause-failed : goal.returns-clause-failed
 returns-clause-failed c =
     subst (λ (ds : List Device). IfErr c.study_script.result (λ e. FailsUnder (trial_under (opening_over c.args.program.now ds) c.args.named.script) c.args.program.now.count e))
     c.is_whole.ensures.rack c.study_script.ensures.fails
+
+pub returns-clause-unfailed : goal.returns-clause-unfailed
+returns-clause-unfailed c =
+    IfErr-weaker c.study_script.result _ _
+    (λ e failed sound. either_wants_memory _ _ e _ _ _ _ rack c.is_whole.ensures.rack c.is_whole.ensures.never_fail c.is_whole-2.ensures.never_fail failed) c.study_script.ensures.failed
