@@ -1,5 +1,5 @@
 -- What holds of an inquiry's reply over boxes that never fail holds of it over the devices that the boxes are.
-use Rattle.std.proofs.Common.{◌≡◌, ◌≢◌, ℕ, List, map, true, Ok, Err, Result, IfOk, refl, sym, subst, ◌∙◌}
+use Rattle.std.proofs.Common.{◌≡◌, ◌≢◌, ℕ, List, map, Ok, Err, Result, IfOk, refl, subst}
 use Rattle.lvdc_word.specs.declared.memory.NoMemory.{NoMemory}
 use Rattle.lvdc_port.specs.Device.{Device}
 use Rattle.lvdc_port.specs.Devices.{NeverFail}

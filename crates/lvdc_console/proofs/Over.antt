@@ -1,5 +1,5 @@
 -- What the top call promises over boxes is what it promises over the devices that the boxes are.
-use Rattle.std.proofs.Common.{◌≡◌, ◌≢◌, ℕ, List, map, false, Ok, Err, Result, IfOk, refl, sym, ap, subst, ◌∙◌, arith}
+use Rattle.std.proofs.Common.{◌≡◌, ◌≢◌, ℕ, List, map, false, Ok, Err, Result, IfOk, sym, ap, subst, ◌∙◌, arith}
 use Rattle.std.proofs.lemmas.List.{map-id}
 use Rattle.std.specs.declared.option.Option.{Option}
 use Rattle.std.specs.Io.KnownBytes.{Appends}
