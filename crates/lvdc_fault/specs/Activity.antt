@@ -56,8 +56,10 @@ pub record Lasts (a : Activity) (step : ℕ) : Type 0 where
   pub next : IsSomeAnd a.last (λ before. suc before ≡ step)
   pub until : step < a.until
 
--- what is held for the step before this one is active at this one too: the same events as before
+-- what is held for the step before this one is active at this one too, which comes before others may have to be held: the same events
+-- as before
 pub record Stays (script : List Event) (a : Activity) (step : ℕ) : Type 0 where
+  pub lasts : Lasts a step
   pub held : a.held ≡ active_at script step
   pub same : IsSomeAnd a.last (λ before. (suc before ≡ step) × (active_at script step ≡ active_at script before))
 

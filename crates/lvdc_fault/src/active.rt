@@ -77,10 +77,22 @@ impl Active {
         ensures last { self.new.last ≡ Some step }
     {
         if self.lasts(step) {
-            self.last = Some(step);
+            self.note(script, step);
         } else {
             self.change(script, step);
         }
+    }
+
+    /// Notes a step at which what is held is active too.
+    pub(crate) fn note(&mut self, script: &Script, step: u64)
+        requires fits { Fits script.now self.old }
+        requires lasts { Lasts self.old step }
+        ensures fits { Fits script.now self.new }
+        ensures held { self.new.held ≡ active_at script.now step }
+        ensures same { self.new.held ≡ self.old.held }
+        ensures last { self.new.last ≡ Some step }
+    {
+        self.last = Some(step);
     }
 
     /// Does what is held, for the step before this one, last up to this one?

@@ -78,6 +78,17 @@ impl Script {
         active.lasts(step)
     }
 
+    /// Notes a step at which the events are active that are held, for the step before.
+    pub fn stay(&self, step: u64, active: &mut Active)
+        requires fits { Fits self.now active.old }
+        requires stays { Stays self.now active.old step }
+        ensures fits { Fits self.now active.new }
+        ensures held { active.new.held ≡ active.old.held }
+        ensures last { active.new.last ≡ Some step }
+    {
+        active.note(self, step);
+    }
+
     /// The events, in their order.
     pub(crate) fn events(&self) -> &[Event]
         ensures { result.now ≡ self.now }

@@ -1,8 +1,7 @@
 -- Where all 21 copies that are named have latched, the next copies are those of the script, in whatever order.
-use Rattle.std.proofs.Common.{◌≡◌, ℕ, ◌+◌, ◌/◌, ◌%◌, ◌<◌, Bool, true, false, ◌&&◌, List, refl, ◌∙◌, arith, None, Option}
+use Rattle.std.proofs.Common.{◌≡◌, ℕ, ◌+◌, ◌/◌, ◌%◌, ◌<◌, Bool, true, false, List, refl, ◌∙◌, arith, None, Option}
 use Rattle.std.specs.Prelude.{◌==◌, if◌then◌else◌, unwrap_or}
 use Rattle.std.specs.List.{list_any}
-use Rattle.std.proofs.Math.Bool.{and-false}
 use Rattle.lvdc_vote.specs.Copies.{Copies, after_settle, settled, IsFresh}
 use Rattle.lvdc_modules.specs.Rows.{rows}
 use Rattle.lvdc_modules.specs.Timer.{timer_row}
@@ -15,11 +14,9 @@ use Rattle.lvdc_modules.specs.Exchange.{exchange_row}
 use Rattle.lvdc_modules.specs.declared.bus.Bus.{Bus}
 use Rattle.lvdc_fault.specs.declared.event.Event.{Event}
 use Rattle.lvdc_model.specs.Voted.{next_copy, next_copies}
-use Rattle.lvdc_logic.specs.declared.in_force.InForce.{InForce}
 use Rattle.lvdc_logic.specs.declared.triples.Triples.{Triples}
-use Rattle.lvdc_logic.specs.HitModules.{IsUntouched}
-use Rattle.lvdc_logic.specs.InForce.{is_alone, mark_at}
-use Rattle.lvdc_logic.specs.Latching.{copies_in, latches_in, row_of, new_latches, latched_named, after_named, after_numbers, after_steps, AllFresh, AllSettle}
+use Rattle.lvdc_logic.specs.Untouched.{IsUntouched}
+use Rattle.lvdc_logic.specs.Latching.{copies_in, latches_in, row_of, new_latches, latched_named, after_named, after_numbers, after_steps, AllFresh}
 
 -- a list has each of the 21 numbers that is named
 abbrev HasNamed : (ℕ → Bool) → List ℕ → Type 0
@@ -83,29 +80,6 @@ steps_are script step t named order voted words fresh are all others =
       module_steps t.multiplier named order 15 words (multiplier_row voted) (latched 15) (latched 16) (latched 17) fresh.multiplier all (omega arith) (each 15 (omega arith)) (each 16 (omega arith)) (each 17 (omega arith)),
       module_steps t.exchange named order 18 words (exchange_row voted) (latched 18) (latched 19) (latched 20) fresh.exchange all (omega arith) (each 18 (omega arith)) (each 19 (omega arith)) (each 20 (omega arith)),
     ) refl
-
--- no copy of a module has latched where none is named
-settle_fresh : (t : Copies) (named : ℕ → Bool) (order : List ℕ) (first : ℕ) (words : ℕ → List ℕ) → IsFresh t → named first ≡ false → named (first + 1) ≡ false → named (first + 2) ≡ false
-    → IsFresh (after_named t named order first words)
-settle_fresh t named order first words fresh one two three =
-    record { one = rw one fresh.one; two = rw two fresh.two; three = rw three fresh.three }
-
-unhit : (mark hit : Bool) → hit ≡ false → (mark && hit) ≡ false
-unhit mark hit off = rw off (and-false mark)
-
-pub all_settle : (t : Triples) (force : InForce) (order : List ℕ) (words : ℕ → List ℕ) → AllFresh t → AllSettle force.hit (after_numbers t (is_alone force) order words)
-all_settle t force order words fresh =
-    let mark = mark_at force.marks in
-    let named = is_alone force in
-    record {
-      timer = λ off. settle_fresh t.timer named order 0 words fresh.timer (unhit (mark 0) force.hit.timer off) (unhit (mark 1) force.hit.timer off) (unhit (mark 2) force.hit.timer off);
-      locator = λ off. settle_fresh t.locator named order 3 words fresh.locator (unhit (mark 3) force.hit.locator off) (unhit (mark 4) force.hit.locator off) (unhit (mark 5) force.hit.locator off);
-      decoder = λ off. settle_fresh t.decoder named order 6 words fresh.decoder (unhit (mark 6) force.hit.decoder off) (unhit (mark 7) force.hit.decoder off) (unhit (mark 8) force.hit.decoder off);
-      selector = λ off. settle_fresh t.selector named order 9 words fresh.selector (unhit (mark 9) force.hit.selector off) (unhit (mark 10) force.hit.selector off) (unhit (mark 11) force.hit.selector off);
-      accumulator = λ off. settle_fresh t.accumulator named order 12 words fresh.accumulator (unhit (mark 12) force.hit.accumulator off) (unhit (mark 13) force.hit.accumulator off) (unhit (mark 14) force.hit.accumulator off);
-      multiplier = λ off. settle_fresh t.multiplier named order 15 words fresh.multiplier (unhit (mark 15) force.hit.multiplier off) (unhit (mark 16) force.hit.multiplier off) (unhit (mark 17) force.hit.multiplier off);
-      exchange = λ off. settle_fresh t.exchange named order 18 words fresh.exchange (unhit (mark 18) force.hit.exchange off) (unhit (mark 19) force.hit.exchange off) (unhit (mark 20) force.hit.exchange off);
-    }
 
 -- and after it no copy of a module has latched
 step_fresh : (t : Copies) (next : List ℕ) → IsFresh (after_settle t next)

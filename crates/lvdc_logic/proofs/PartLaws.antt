@@ -1,5 +1,6 @@
 -- What is told of the parts of a script is what the script does.
-use Rattle.std.proofs.Common.{◌≡◌, ℕ, zero, suc, ◌+◌, ◌-◌, ◌*◌, ◌/◌, ◌%◌, ◌<◌, ◌≤◌, Bool, true, false, cond, if◌then◌else◌, ◌&&◌, ◌||◌, ◌==◌, List, [], ◌∷◌, ◌++◌, length, take, drop, min, refl, sym, ◌∙◌, ap, subst, arith, add-zero, Some, find, ltb, length-drop, get_or, get_or-drop, set, replicate}
+use Rattle.std.proofs.Common.{◌≡◌, ℕ, zero, suc, ◌+◌, ◌-◌, ◌*◌, ◌/◌, ◌%◌, ◌<◌, ◌≤◌, Bool, true, false, cond, ◌&&◌, ◌||◌, ◌==◌, List, [], ◌∷◌, ◌++◌, length, take, drop, min, refl, sym, ◌∙◌, ap, subst, arith, Some, find, ltb, length-drop, get_or, get_or-drop, set, replicate}
+use Rattle.std.specs.List.{list_any}
 use Rattle.std.specs.Prelude.{All, slice_get}
 use Rattle.std.proofs.Math.Bool.{or-false}
 use Rattle.std.proofs.Math.Seq.{take-add}
@@ -14,18 +15,15 @@ use Rattle.lvdc_fault.specs.declared.event.Event.{Event}
 use Rattle.lvdc_fault.specs.declared.event.Event.TheVariants.{Flip, Force, Lag, Deaf, Damage, Stick, Dead}
 use Rattle.lvdc_fault.proofs.Lowest.{find_same}
 use Rattle.lvdc_model.specs.Voted.{hurts_by, hurts_on}
-use Rattle.lvdc_logic.specs.HitModules.{is_hit, IsUntouched}
-use Rattle.lvdc_vote.specs.Copies.{chosen}
+use Rattle.lvdc_logic.specs.Untouched.{IsUntouched}
 use Rattle.lvdc_logic.specs.InForce.{faults_at, mark_at, no_faults}
 use Rattle.lvdc_logic.specs.Parts.{StaysUntil, faults_in, no_part, part_at, events_of, IsRight, total_of, share_then, IsKnown}
 use Rattle.lvdc_logic.specs.Shares.{no_share, share_at, share_with, share_on, share_of, share_next, share_join}
-use Rattle.lvdc_logic.specs.declared.hit_modules.HitModules.{HitModules}
 use Rattle.lvdc_logic.specs.declared.in_force.Faults.{Faults}
 use Rattle.lvdc_logic.specs.declared.known.Known.{Known}
 use Rattle.lvdc_logic.specs.declared.parts.Part.{Part}
 use Rattle.lvdc_logic.specs.declared.shares.Share.{Share}
 use Rattle.lvdc_logic.proofs.Joins.{idle, idle_next, joined_none, join_shares}
-use Rattle.lvdc_logic.proofs.Numbers.{seven}
 
 -- ---- the same at two steps
 
@@ -113,72 +111,18 @@ unwrong_unhurt t m c (e ∷ es) h =
 abbrev AreMarks : List Event → ℕ → List Bool → Type 0
 AreMarks script t marks = (n : ℕ) → n < 21 → mark_at marks n ≡ is_wrong script t (n / 3 + 1) (n % 3 + 1)
 
--- the modules that have a marked copy
-abbrev pub hit_by_marks : List Bool → HitModules
-hit_by_marks marks =
-    record {
-      timer = mark_at marks 0 || mark_at marks 1 || mark_at marks 2;
-      locator = mark_at marks 3 || mark_at marks 4 || mark_at marks 5;
-      decoder = mark_at marks 6 || mark_at marks 7 || mark_at marks 8;
-      selector = mark_at marks 9 || mark_at marks 10 || mark_at marks 11;
-      accumulator = mark_at marks 12 || mark_at marks 13 || mark_at marks 14;
-      multiplier = mark_at marks 15 || mark_at marks 16 || mark_at marks 17;
-      exchange = mark_at marks 18 || mark_at marks 19 || mark_at marks 20;
-    }
-
--- each of three marks hits their module
-first_true : (a b : Bool) → a ≡ true → (a || b) ≡ true
-first_true a b e = rw e refl
-
-second_true : (a b : Bool) → b ≡ true → (a || b) ≡ true
-second_true true b e = refl
-second_true false b e = e
-
-one_of_three : (a b c : Bool) (copy : ℕ) → chosen a b c copy ≡ true → (a || b || c) ≡ true
-one_of_three a b c copy = by (copy == 0) (copy == 1) where
-  by : (x y : Bool) → (if x then a else (if y then b else c)) ≡ true → (a || b || c) ≡ true
-  by true y e = first_true (a || b) c (first_true a b e)
-  by false true e = first_true (a || b) c (second_true a b e)
-  by false false e = second_true (a || b) c e
-
--- so a copy that is marked is one of a module that is hit
-marked_hits : (marks : List Bool) (n : ℕ) → n < 21 → mark_at marks n ≡ true → is_hit (hit_by_marks marks) (n / 3) ≡ true
-marked_hits marks n h e =
-    let three = λ (k : ℕ). chosen (mark_at marks (3 * k)) (mark_at marks (3 * k + 1)) (mark_at marks (3 * k + 2)) (n % 3) in
-    seven (λ (k : ℕ). three k ≡ true → is_hit (hit_by_marks marks) k ≡ true)
-    (one_of_three (mark_at marks 0) (mark_at marks 1) (mark_at marks 2) (n % 3))
-    (one_of_three (mark_at marks 3) (mark_at marks 4) (mark_at marks 5) (n % 3))
-    (one_of_three (mark_at marks 6) (mark_at marks 7) (mark_at marks 8) (n % 3))
-    (one_of_three (mark_at marks 9) (mark_at marks 10) (mark_at marks 11) (n % 3))
-    (one_of_three (mark_at marks 12) (mark_at marks 13) (mark_at marks 14) (n % 3))
-    (one_of_three (mark_at marks 15) (mark_at marks 16) (mark_at marks 17) (n % 3))
-    (one_of_three (mark_at marks 18) (mark_at marks 19) (mark_at marks 20) (n % 3))
-    (n / 3) (omega (arith, h)) (by (n % 3) (omega arith) (omega arith))
-  where
-    by : (copy : ℕ) → copy < 3 → n ≡ 3 * (n / 3) + copy
-        → chosen (mark_at marks (3 * (n / 3))) (mark_at marks (3 * (n / 3) + 1)) (mark_at marks (3 * (n / 3) + 2)) copy ≡ true
-    by zero below is = sym (ap (mark_at marks) (is ∙ add-zero (3 * (n / 3)))) ∙ e
-    by (suc zero) below is = sym (ap (mark_at marks) is) ∙ e
-    by (suc (suc zero)) below is = sym (ap (mark_at marks) is) ∙ e
-    by (suc (suc (suc copy))) below is = absurd (omega (arith, below))
-
--- where a module is hit, some copy is named
-any_hit : (h : HitModules) (k : ℕ) → k < 7 → is_hit h k ≡ true → (h.timer || h.locator || h.decoder || h.selector || h.accumulator || h.multiplier || h.exchange) ≡ true
-any_hit h =
-    seven (λ (k : ℕ). is_hit h k ≡ true → (h.timer || h.locator || h.decoder || h.selector || h.accumulator || h.multiplier || h.exchange) ≡ true)
-    (λ e. first_true (h.timer || h.locator || h.decoder || h.selector || h.accumulator || h.multiplier) h.exchange (first_true (h.timer || h.locator || h.decoder || h.selector || h.accumulator) h.multiplier (first_true (h.timer || h.locator || h.decoder || h.selector) h.accumulator (first_true (h.timer || h.locator || h.decoder) h.selector (first_true (h.timer || h.locator) h.decoder (first_true h.timer h.locator e))))))
-    (λ e. first_true (h.timer || h.locator || h.decoder || h.selector || h.accumulator || h.multiplier) h.exchange (first_true (h.timer || h.locator || h.decoder || h.selector || h.accumulator) h.multiplier (first_true (h.timer || h.locator || h.decoder || h.selector) h.accumulator (first_true (h.timer || h.locator || h.decoder) h.selector (first_true (h.timer || h.locator) h.decoder (second_true h.timer h.locator e))))))
-    (λ e. first_true (h.timer || h.locator || h.decoder || h.selector || h.accumulator || h.multiplier) h.exchange (first_true (h.timer || h.locator || h.decoder || h.selector || h.accumulator) h.multiplier (first_true (h.timer || h.locator || h.decoder || h.selector) h.accumulator (first_true (h.timer || h.locator || h.decoder) h.selector (second_true (h.timer || h.locator) h.decoder e)))))
-    (λ e. first_true (h.timer || h.locator || h.decoder || h.selector || h.accumulator || h.multiplier) h.exchange (first_true (h.timer || h.locator || h.decoder || h.selector || h.accumulator) h.multiplier (first_true (h.timer || h.locator || h.decoder || h.selector) h.accumulator (second_true (h.timer || h.locator || h.decoder) h.selector e))))
-    (λ e. first_true (h.timer || h.locator || h.decoder || h.selector || h.accumulator || h.multiplier) h.exchange (first_true (h.timer || h.locator || h.decoder || h.selector || h.accumulator) h.multiplier (second_true (h.timer || h.locator || h.decoder || h.selector) h.accumulator e)))
-    (λ e. first_true (h.timer || h.locator || h.decoder || h.selector || h.accumulator || h.multiplier) h.exchange (second_true (h.timer || h.locator || h.decoder || h.selector || h.accumulator) h.multiplier e))
-    (λ e. second_true (h.timer || h.locator || h.decoder || h.selector || h.accumulator || h.multiplier) h.exchange e)
+-- where a copy is marked any is
+any_marked : (marks : List Bool) (n : ℕ) → mark_at marks n ≡ true → list_any (λ (mark : Bool). mark) marks ≡ true
+any_marked (mark ∷ marks) zero e = rw e refl
+any_marked (true ∷ marks) (suc n) e = refl
+any_marked (false ∷ marks) (suc n) e = any_marked marks n e
+any_marked [] n e = absurd (false≢true e)
 
 -- and a copy that isn't named isn't marked
-unnamed : (any mark hit : Bool) → (mark ≡ true → hit ≡ true) → (hit ≡ true → any ≡ true) → (any && (mark && hit)) ≡ false → mark ≡ false
-unnamed any false hit h some off = refl
-unnamed true true hit h some off = absurd (false≢true (sym off ∙ h refl))
-unnamed false true hit h some off = absurd (false≢true (some (h refl)))
+unnamed : (any mark : Bool) → (mark ≡ true → any ≡ true) → (any && mark) ≡ false → mark ≡ false
+unnamed any false some off = refl
+unnamed true true some off = absurd (false≢true (sym off))
+unnamed false true some off = absurd (false≢true (some refl))
 
 -- the lowest module with two marked copies is that with two wrong ones
 abbrev pub two_marked : List Bool → ℕ → Bool
@@ -216,16 +160,15 @@ faults_are script t m c = by (is_wrong script t m c) refl where
 pub known_by : (script : List Event) (t : ℕ) (k : Known) (shares : List Share) → ((n : ℕ) → n < 21 → share_at shares n ≡ share_of script t n)
     → ((n : ℕ) → n < 21 → mark_at k.force.marks n ≡ (share_at shares n).named)
     → ((n : ℕ) → n < 21 → faults_at k.force.copies n ≡ faults_in (share_at shares n))
-    → k.force.hit ≡ hit_by_marks k.force.marks
-    → k.force.any ≡ (k.force.hit.timer || k.force.hit.locator || k.force.hit.decoder || k.force.hit.selector || k.force.hit.accumulator || k.force.hit.multiplier || k.force.hit.exchange)
+    → k.force.any ≡ list_any (λ (mark : Bool). mark) k.force.marks
     → k.wrong ≡ find (two_marked k.force.marks) (1 ∷ 2 ∷ 3 ∷ 4 ∷ 5 ∷ 6 ∷ 7 ∷ [])
     → IsKnown script t k
-known_by script t k shares right marks copies hit any wrong =
+known_by script t k shares right marks copies any wrong =
     record {
       force =
           record {
             copies = λ n h. copies n h ∙ ap faults_in (right n h) ∙ faults_are script t (n / 3 + 1) (n % 3 + 1);
-            others = λ n h off. untouched n (sym (are n h) ∙ unnamed k.force.any (mark_at k.force.marks n) (is_hit k.force.hit (n / 3)) (hits n h) (λ e. any ∙ any_hit k.force.hit (n / 3) (omega (arith, h)) e) off);
+            others = λ n h off. untouched n (sym (are n h) ∙ unnamed k.force.any (mark_at k.force.marks n) (λ e. any ∙ any_marked k.force.marks n e) off);
           };
       marks = are;
       wrong = wrong ∙ find_same (two_marked k.force.marks) (two_wrong script t) (marked_two script t k.force.marks are);
@@ -233,9 +176,6 @@ known_by script t k shares right marks copies hit any wrong =
   where
     are : AreMarks script t k.force.marks
     are n h = marks n h ∙ ap (λ (s : Share). s.named) (right n h)
-
-    hits : (n : ℕ) → n < 21 → mark_at k.force.marks n ≡ true → is_hit k.force.hit (n / 3) ≡ true
-    hits n h e = subst (λ (x : HitModules). is_hit x (n / 3) ≡ true) (sym hit) (marked_hits k.force.marks n h e)
 
     untouched : (n : ℕ) → is_wrong script t (n / 3 + 1) (n % 3 + 1) ≡ false → IsUntouched script t (n / 3 + 1) (n % 3 + 1)
     untouched n off = record { heard = unwrong_hears t (n / 3 + 1) (n % 3 + 1) script off; unhurt = unwrong_unhurt t (n / 3 + 1) (n % 3 + 1) script off }

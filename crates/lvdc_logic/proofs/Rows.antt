@@ -4,7 +4,6 @@ use Rattle.lvdc_vote.specs.Harms.{harm_of}
 use Rattle.lvdc_vote.specs.declared.hurt.Hurt.TheVariants as hurts
 use Rattle.lvdc_fault.specs.declared.event.Event.TheVariants.{Deaf, Flip}
 use Rattle.lvdc_logic.specs.InForce.{faults_on, is_named, no_faults}
-use Rattle.lvdc_logic.specs.HitModules.{no_module}
 use Rattle.lvdc_logic.specs.declared.in_force.InForce.{InForce}
 use Rattle.lvdc_logic.specs.Listing.{copies_of, counts_of}
 use Rattle.lvdc_logic.specs.Logic.{latch_of, count_of}
@@ -31,10 +30,9 @@ two_events_of_one_copy :
     (faults_on script 4 14 ≡ record { deaf = true; harm = harm_of (hurts.Flip 1 4 ∷ []) }) × (faults_on script 4 13 ≡ no_faults)
 two_events_of_one_copy = (refl, refl)
 
--- copy 2 of DECODER, number 7, is named where it is marked, its module is hit, and any copy is named at all
+-- copy 2 of DECODER, number 7, is named where it is marked and any copy is named at all
 named_copy :
     let marks = false ∷ false ∷ false ∷ false ∷ false ∷ false ∷ false ∷ true ∷ replicate 13 false in
-    let force : InForce = record { any = true; hit = record no_module { decoder = true }; marks = marks; copies = replicate 21 no_faults } in
-    (is_named force 7 ≡ true) × (is_named force 6 ≡ false) × (is_named (record force { hit = no_module }) 7 ≡ false)
-    × (is_named (record force { any = false }) 7 ≡ false)
-named_copy = (refl, refl, refl, refl)
+    let force : InForce = record { any = true; marks = marks; copies = replicate 21 no_faults } in
+    (is_named force 7 ≡ true) × (is_named force 6 ≡ false) × (is_named (record force { any = false }) 7 ≡ false)
+named_copy = (refl, refl, refl)

@@ -6,7 +6,7 @@ use Rattle.lvdc_modules.specs.declared.bus.Bus.{Bus}
 use Rattle.lvdc_fault.specs.Script.{is_deaf}
 use Rattle.lvdc_fault.specs.declared.event.Event.{Event}
 use Rattle.lvdc_model.specs.Voted.{inputs, hurts_on}
-use Rattle.lvdc_logic.specs.HitModules.{no_module, is_hit, IsUntouched}
+use Rattle.lvdc_logic.specs.Untouched.{IsUntouched}
 use Rattle.lvdc_logic.specs.Latching.{copies_in, latches_in, row_of}
 use Rattle.lvdc_logic.specs.declared.in_force.Faults.{Faults}
 use Rattle.lvdc_logic.specs.declared.in_force.InForce.{InForce}
@@ -22,19 +22,15 @@ faults_at copies n = slice_index_or copies n no_faults
 
 -- nothing is in force
 abbrev pub nothing_in_force : InForce
-nothing_in_force = record { any = false; hit = no_module; marks = replicate 21 false; copies = replicate 21 no_faults }
+nothing_in_force = record { any = false; marks = replicate 21 false; copies = replicate 21 no_faults }
 
 -- whether a copy is marked, by its number
 abbrev pub mark_at : List Bool → ℕ → Bool
 mark_at marks n = slice_index_or marks n false
 
--- whether a copy is one that latches by itself: it is marked, and its module is hit
-abbrev pub is_alone : InForce → ℕ → Bool
-is_alone f n = mark_at f.marks n && is_hit f.hit (n / 3)
-
--- whether it is named by what is in force
+-- whether a copy is named by what is in force: any is, and it is marked
 abbrev pub is_named : InForce → ℕ → Bool
-is_named f n = f.any && is_alone f n
+is_named f n = f.any && mark_at f.marks n
 
 -- what a script has in force on a copy in a step
 abbrev pub faults_on : List Event → ℕ → ℕ → Faults

@@ -12,7 +12,6 @@ use Rattle.lvdc_modules.specs.declared.bus.Bus.{Bus}
 use Rattle.lvdc_fault.specs.declared.event.Event.{Event}
 use Rattle.lvdc_model.specs.Voted.{next_copy}
 use Rattle.lvdc_logic.specs.Seven.{of_seven}
-use Rattle.lvdc_logic.specs.declared.hit_modules.HitModules.{HitModules}
 use Rattle.lvdc_logic.specs.declared.triples.Triples.{Triples}
 
 -- the copies of the modules, in order
@@ -119,20 +118,6 @@ pub record AllAgree (t : Triples) : Type 0 where
   pub accumulator : (copy : ℕ) → differs_of t.accumulator copy ≡ false
   pub multiplier : (copy : ℕ) → differs_of t.multiplier copy ≡ false
   pub exchange : (copy : ℕ) → differs_of t.exchange copy ≡ false
-
--- no copy of a module has latched where it isn't hit
-abbrev pub Settles : Bool → Copies → Type 0
-Settles hit t = hit ≡ false → IsFresh t
-
--- so it is in all modules
-pub record AllSettle (hit : HitModules) (t : Triples) : Type 0 where
-  pub timer : Settles hit.timer t.timer
-  pub locator : Settles hit.locator t.locator
-  pub decoder : Settles hit.decoder t.decoder
-  pub selector : Settles hit.selector t.selector
-  pub accumulator : Settles hit.accumulator t.accumulator
-  pub multiplier : Settles hit.multiplier t.multiplier
-  pub exchange : Settles hit.exchange t.exchange
 
 -- each copy has as many latches as its module
 pub record AllSized (t : Triples) : Type 0 where

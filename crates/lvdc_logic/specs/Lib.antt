@@ -1,5 +1,5 @@
 pub mod Counts
-pub mod HitModules
+pub mod Untouched
 pub mod InForce
 pub mod Latching
 pub mod Listing

@@ -1,9 +1,8 @@
 //! What is in force on each copy of the logic: what the active events come to, however many they are.
 
 ghost use Rattle.std.specs.Prelude.{◌≡◌, ℕ, ◌<◌};
-ghost use Rattle.lvdc_logic.specs.InForce.{faults_at, is_alone, no_faults, nothing_in_force};
+ghost use Rattle.lvdc_logic.specs.InForce.{faults_at, mark_at, no_faults, nothing_in_force};
 
-use crate::hit_modules::HitModules;
 use lvdc_vote::Harm;
 
 /// What is in force on one copy: whether it reads the copies of its own number in place of the votes, and what is wrong with it as
@@ -26,13 +25,11 @@ impl Faults {
     }
 }
 
-/// What is in force on all copies, in as much room for a thousand events as for one: whether an event names any, which modules have
-/// one that is named, which copies these are, and what is in force on each. Copy `n` is copy `n % 3` of module `n / 3`, both counted
-/// from 0.
+/// What is in force on all copies, in as much room for a thousand events as for one: whether an event names any, which copies these
+/// are, and what is in force on each. Copy `n` is copy `n % 3` of module `n / 3`, both counted from 0.
 #[derive(Clone, Copy, Debug)]
 pub struct InForce {
     pub(crate) any: bool,
-    pub(crate) hit: HitModules,
     pub(crate) marks: [bool; 21],
     pub(crate) copies: [Faults; 21],
 }
@@ -44,18 +41,17 @@ impl InForce {
     {
         InForce {
             any: false,
-            hit: HitModules::none(),
             marks: [false; 21],
             copies: [Faults::none(); 21],
         }
     }
 
-    /// Does the copy of this number latch by itself?
-    pub(crate) fn is_alone(&self, number: u8) -> bool
+    /// Is the copy of this number marked?
+    pub(crate) fn is_marked(&self, number: u8) -> bool
         requires { number < 21 }
-        ensures { result ≡ is_alone self.now number }
+        ensures { result ≡ mark_at self.now.marks number }
     {
-        self.marks[usize::from(number)] && self.hit.has(number / 3)
+        self.marks[usize::from(number)]
     }
 
     /// What is in force on the copy of this number.

@@ -1,6 +1,7 @@
 //! What is known of all copies by what the parts of a script do to them.
 
 ghost use Rattle.std.specs.Prelude.{◌≡◌, ℕ, ◌+◌, ◌-◌, ◌*◌, ◌≤◌, ◌<◌, ◌||◌, ◌&&◌, length, All, List, find, [], ◌∷◌};
+ghost use Rattle.std.specs.List.{list_any};
 ghost use Rattle.lvdc_fault.specs.Events.{IsEvent};
 ghost use Rattle.lvdc_fault.specs.Script.{are_two};
 ghost use Rattle.lvdc_fault.specs.declared.event.Event.{Event};
@@ -8,7 +9,6 @@ ghost use Rattle.lvdc_logic.specs.InForce.{faults_at, mark_at};
 ghost use Rattle.lvdc_logic.specs.Parts.{faults_in, total_of, IsKnown};
 ghost use Rattle.lvdc_logic.specs.Shares.{share_at, share_of};
 
-use crate::hit_modules::HitModules;
 use crate::in_force::{Faults, InForce};
 use crate::parts::{Part, total};
 use crate::shares::Share;
@@ -36,11 +36,9 @@ impl Known {
     {
         let shares = totals(parts);
         let marks = marks_of(&shares);
-        let hit = hit_of(&marks);
         Known {
             force: InForce {
-                any: hit.any(),
-                hit,
+                any: any_of(&marks),
                 marks,
                 copies: copies_of(&shares),
             },
@@ -96,42 +94,11 @@ fn faults_of(share: &Share) -> Faults
     }
 }
 
-/// Which modules have a copy that is marked.
-fn hit_of(marks: &[bool; 21]) -> HitModules
-    ensures { result ≡ record {
-      timer = mark_at marks.now 0 || mark_at marks.now 1 || mark_at marks.now 2;
-      locator = mark_at marks.now 3 || mark_at marks.now 4 || mark_at marks.now 5;
-      decoder = mark_at marks.now 6 || mark_at marks.now 7 || mark_at marks.now 8;
-      selector = mark_at marks.now 9 || mark_at marks.now 10 || mark_at marks.now 11;
-      accumulator = mark_at marks.now 12 || mark_at marks.now 13 || mark_at marks.now 14;
-      multiplier = mark_at marks.now 15 || mark_at marks.now 16 || mark_at marks.now 17;
-      exchange = mark_at marks.now 18 || mark_at marks.now 19 || mark_at marks.now 20;
-    } }
+/// Is any copy marked?
+fn any_of(marks: &[bool; 21]) -> bool
+    ensures { result ≡ list_any (λ mark. mark) marks.now }
 {
-    HitModules {
-        timer: is_marked(marks, 0),
-        locator: is_marked(marks, 3),
-        decoder: is_marked(marks, 6),
-        selector: is_marked(marks, 9),
-        accumulator: is_marked(marks, 12),
-        multiplier: is_marked(marks, 15),
-        exchange: is_marked(marks, 18),
-    }
-}
-
-/// Is one of three copies marked, from this number on?
-fn is_marked(marks: &[bool; 21], first: usize) -> bool
-    requires { first ≤ 18 }
-    ensures { result ≡ (mark_at marks.now first || mark_at marks.now (first + 1) || mark_at marks.now (first + 2)) }
-{
-    one_of(marks[first], marks[first + 1], marks[first + 2])
-}
-
-/// Does one of the three hold?
-fn one_of(one: bool, two: bool, three: bool) -> bool
-    ensures { result ≡ (one || two || three) }
-{
-    one || two || three
+    marks.iter().any(|mark| *mark)
 }
 
 /// The lowest module with two marked copies.

@@ -4,7 +4,6 @@
 
 mod counts;
 mod forces;
-mod hit_modules;
 mod in_force;
 mod known;
 mod listing;

@@ -71,7 +71,7 @@ impl Logic {
         harm_suffices();
         if force.any {
             self.triples.latch_named(order, force, voted);
-            self.triples.settle(force.hit, voted, &mut self.counts);
+            self.triples.settle(voted, &mut self.counts);
         } else {
             self.triples.renew(voted);
         }

@@ -4,12 +4,11 @@ ghost use Rattle.lvdc_vote.specs.Harms.{harmed};
 ghost use Rattle.lvdc_modules.specs.Rows.{bus_of, start_latches};
 ghost use Rattle.lvdc_model.specs.Voted.{counted, counted_three, thrice};
 ghost use Rattle.lvdc_logic.specs.Counts.{counts_in};
-ghost use Rattle.lvdc_logic.specs.InForce.{faults_at, is_alone, latched_under};
-ghost use Rattle.lvdc_logic.specs.Latching.{copies_in, row_of, latches_in, triple_in, after_number, after_numbers, after_steps, AllAgree, AllFresh, AllSettle, AllSized, Settles};
+ghost use Rattle.lvdc_logic.specs.InForce.{faults_at, latched_under, mark_at};
+ghost use Rattle.lvdc_logic.specs.Latching.{copies_in, row_of, latches_in, triple_in, after_number, after_numbers, after_steps, AllAgree, AllFresh, AllSized};
 ghost use Rattle.lvdc_logic.specs.Logic.{DifferedAtMost};
 
 use crate::counts::Counts;
-use crate::hit_modules::HitModules;
 use crate::in_force::{Faults, InForce};
 use lvdc_map::Hop;
 use lvdc_modules::{
@@ -140,16 +139,16 @@ impl Triples {
         }
     }
 
-    /// The copies that latch by themselves do so in this order, each with what is in force on it. What comes of it doesn't depend on the
+    /// The copies that are marked latch by themselves in this order, each with what is in force on it. What comes of it doesn't depend on the
     /// order.
     pub fn latch_named(&mut self, order: &Order, force: &InForce, voted: &Bus)
         requires fresh { AllFresh self.old }
-        ensures value { self.new ≡ after_numbers self.old (is_alone force.now) order.now
+        ensures value { self.new ≡ after_numbers self.old (mark_at force.now.marks) order.now
             (λ n. latched_under (faults_at force.now.copies n) self.old voted.now n) }
         ensures full { IsFullOrder 21 order.now }
     {
         for number in order.copies() {
-            if force.is_alone(*number) {
+            if force.is_marked(*number) {
                 self.latch_next(*number, force.on_copy(*number), voted);
             }
         }
@@ -172,61 +171,32 @@ impl Triples {
     }
 
     /// What each copy latched takes its place, and that of a copy that hasn't latched what follows from the votes, which is worked
-    /// out once for a module. Each copy of a module that is hit is counted where it differs from the new vote; of another module none
-    /// differs.
-    pub fn settle(&mut self, hit: HitModules, voted: &Bus, counts: &mut Counts)
-        requires latched { AllSettle hit self.old }
+    /// out once for a module. Each copy that differs from the new vote is counted.
+    pub fn settle(&mut self, voted: &Bus, counts: &mut Counts)
         requires differed { DifferedAtMost (2 ^ 63) (counts_in counts.old) }
         ensures value { self.new ≡ after_steps self.old voted.now }
         ensures counts { counts_in counts.new ≡ counted (copies_in self.new) (counts_in counts.old) }
         ensures sized { AllSized self.new }
     {
-        settle(&mut self.timer, &mut counts.timer, hit.timer, voted);
-        settle(&mut self.locator, &mut counts.locator, hit.locator, voted);
-        settle(&mut self.decoder, &mut counts.decoder, hit.decoder, voted);
-        settle(
-            &mut self.selector,
-            &mut counts.selector,
-            hit.selector,
-            voted,
-        );
-        settle(
-            &mut self.accumulator,
-            &mut counts.accumulator,
-            hit.accumulator,
-            voted,
-        );
-        settle(
-            &mut self.multiplier,
-            &mut counts.multiplier,
-            hit.multiplier,
-            voted,
-        );
-        settle(
-            &mut self.exchange,
-            &mut counts.exchange,
-            hit.exchange,
-            voted,
-        );
+        settle(&mut self.timer, &mut counts.timer, voted);
+        settle(&mut self.locator, &mut counts.locator, voted);
+        settle(&mut self.decoder, &mut counts.decoder, voted);
+        settle(&mut self.selector, &mut counts.selector, voted);
+        settle(&mut self.accumulator, &mut counts.accumulator, voted);
+        settle(&mut self.multiplier, &mut counts.multiplier, voted);
+        settle(&mut self.exchange, &mut counts.exchange, voted);
     }
 }
 
-/// The next copies of a module: what each latched, or the state that follows from the votes. Only where the module is hit has one
-/// latched, and can one differ from the vote.
-fn settle<M: LogicModule>(triple: &mut Triple<M>, counts: &mut [u64; 3], hit: bool, voted: &M::Bus)
-    requires latched { Settles hit triple.old }
+/// The next copies of a module: what each latched, or the state that follows from the votes; and their counts.
+fn settle<M: LogicModule>(triple: &mut Triple<M>, counts: &mut [u64; 3], voted: &M::Bus)
     requires differed { (c : ℕ) → slice_index counts.old c ≤ 2 ^ 63 }
     ensures value { triple.new ≡ after_settle triple.old (M.next_of voted.now) }
     ensures counts { counts.new ≡ counted_three triple.new counts.old }
     ensures sized { IsSized M.State.LATCHES triple.new }
 {
-    let next = M::next(voted);
-    if hit {
-        triple.settle(next);
-        *counts = counted_three(triple, *counts);
-    } else {
-        triple.renew(next);
-    }
+    triple.settle(M::next(voted));
+    *counts = counted_three(triple, *counts);
 }
 
 /// The counts of the copies of a module, with one more for each that differs from the vote.

@@ -16,11 +16,6 @@ use Rattle.lvdc_machine.specs.Room.{IsInTime}
 use Rattle.lvdc_machine.specs.Snapshot.{IsWhole}
 use Rattle.lvdc_machine.specs.View.{bus_of_votes}
 
--- the last step made is the one before
-pub made-last : (steps : ℕ) → 0 < steps → last_made steps ≡ Some (steps - 1)
-made-last zero some = absurd (omega (arith, some))
-made-last (suc step) some = ap Some (omega arith)
-
 -- of steps that rise from one on there are no more than are left
 few-from : (low steps : ℕ) (repairs : List Repair) → low ≤ steps → All (λ r. low ≤ r.step) repairs → All (λ r. r.step < steps) repairs
     → AllPairs (λ before after. before.step < after.step) repairs → length repairs + low ≤ steps

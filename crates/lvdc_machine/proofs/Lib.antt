@@ -1,5 +1,4 @@
 pub mod Timer
-pub mod Begun
 pub mod Judging
 pub mod Making
 pub mod Arms
@@ -15,4 +14,3 @@ pub mod Telling
 pub mod Starting
 pub mod Calls
 mod Rows
-pub mod OnMemory

@@ -9,5 +9,4 @@ pub mod Resumed
 pub mod Snapshot
 pub mod Made
 pub mod Notes
-pub mod OnMemory
 pub mod Calls

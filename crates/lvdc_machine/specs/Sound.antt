@@ -11,7 +11,7 @@ use Rattle.lvdc_logic.specs.declared.known.Known.{Known}
 use Rattle.lvdc_machine.specs.declared.machine.Machine.TheInside.{Inside}
 use Rattle.lvdc_machine.specs.declared.mode.Mode.TheVariants.{Guarded}
 use Rattle.lvdc_machine.specs.declared.mode.Pace.TheVariants.{ByTime}
-use Rattle.lvdc_machine.specs.OnMemory.{on_memory}
+use Rattle.lvdc_memory.specs.OnMemory.{on_memory}
 use Rattle.lvdc_machine.specs.Room.{pace_of, exchanges_left, repairs_left, IsInTime}
 use Rattle.lvdc_machine.specs.Notes.{IsLog, AreRepairs}
 use Rattle.lvdc_machine.specs.View.{bus_of_votes, end_seen}

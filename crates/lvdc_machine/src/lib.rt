@@ -6,7 +6,6 @@ mod answers;
 mod kept_end;
 mod machine;
 mod made;
-mod memory_events;
 mod mode;
 mod notes;
 mod resumed;

@@ -16,13 +16,12 @@ ghost use Rattle.lvdc_machine.specs.View.{answer_of_end};
 
 use crate::kept_end::KeptEnd;
 use crate::made::Made;
-use crate::memory_events::memory_events;
 use crate::start::Start;
 use crate::{Mode, Order, Orders, Pace};
 use lvdc_fault::{Active, Script};
 use lvdc_logic::{Forces, Logic};
 use lvdc_map::{Banks, Hop, Placed, is_hop_constant};
-use lvdc_memory::VotedMemory;
+use lvdc_memory::{VotedMemory, memory_events};
 use lvdc_model::{Outcome, Repair};
 use lvdc_modules::Bus;
 use lvdc_plain::{Exchange, Unplug};

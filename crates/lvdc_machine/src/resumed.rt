@@ -1,14 +1,12 @@
 //! A machine that goes on from a snapshot.
 
 ghost use Rattle.std.specs.Prelude.{◌≡◌, ℕ, ◌+◌, ◌-◌, ◌*◌, ◌≤◌, ◌<◌, ◌^◌, List, All, length, map, IfOk, None, vec_len, vec_capacity};
-ghost use Rattle.lvdc_map.specs.Memory.{Memory};
 ghost use Rattle.lvdc_port.specs.Device as device;
 ghost use Rattle.lvdc_port.specs.Devices.{AreDistinct};
 ghost use Rattle.lvdc_plain.specs.Lists.{AreFit};
 ghost use Rattle.lvdc_fault.specs.Activity.{Fits};
 ghost use Rattle.lvdc_model.specs.Known.{last_made};
 ghost use Rattle.lvdc_model.specs.Trial.{Trial};
-ghost use Rattle.lvdc_model.specs.Twins.{Twins};
 ghost use Rattle.lvdc_model.specs.Voted.{Voted, voted_start};
 ghost use Rattle.lvdc_fault.specs.Events.{IsEvent};
 ghost use Rattle.lvdc_memory.specs.Holds.{Holds};
@@ -25,11 +23,10 @@ ghost use Rattle.lvdc_machine.specs.Steps.{run_of};
 ghost use Rattle.lvdc_machine.specs.declared.snapshot.Snapshot.{Snapshot};
 ghost use Rattle.lvdc_machine.specs.View.{View};
 
-use crate::memory_events::memory_events;
 use crate::{Machine, Mode, Pace, Snapshot};
 use lvdc_fault::{Active, Script};
 use lvdc_logic::{Forces, Logic};
-use lvdc_memory::VotedMemory;
+use lvdc_memory::{VotedMemory, memory_events, put_last_in_force};
 use lvdc_model::Repair;
 use lvdc_plain::{Exchange, Unplug};
 use lvdc_port::{PortDevice, prepare_all};
@@ -162,25 +159,6 @@ fn memory_of(
     )?;
     put_last_in_force(script, snapshot.steps, &mut active, &mut memory);
     Ok((active, memory))
-}
-
-/// Puts in force what the script sticks and kills in the step before this one, if there is one.
-fn put_last_in_force(script: &Script, steps: u64, active: &mut Active, memory: &mut VotedMemory)
-    requires events { All IsEvent script.now }
-    requires fits { Fits script.now active.old }
-    requires none { active.old.last ≡ None }
-    requires within { All (λ position. position < length script.now) active.old.held }
-    ensures fits { Fits script.now active.new }
-    ensures within { All (λ position. position < length script.now) active.new.held }
-    ensures last { active.new.last ≡ last_made steps }
-    ensures forced { (o : Trial) (t : Twins) (i : Memory) → o.script ≡ script.now → Holds o None memory.old t i
-        → Holds o (last_made steps) memory.new t i }
-    ensures banks { memory.new.twins.banks ≡ memory.old.twins.banks }
-{
-    if steps > 0 {
-        script.active(steps - 1, active);
-        memory.put_in_force(script, active, steps - 1);
-    }
 }
 
 /// What is in force on the copies in the step before this one, if there is one.

@@ -31,13 +31,13 @@ ghost use Rattle.lvdc_machine.specs.View.{bus_of_votes, answer_of_end, outcome_o
 use crate::answers::answer;
 use crate::kept_end::KeptEnd;
 use crate::made::Made;
-use crate::memory_events::begin_memory;
 use crate::notes::note;
 use crate::{Machine, Mode, Order};
 use lvdc_fault::{Verdict, none_wrong};
 use lvdc_map::Address;
+use lvdc_memory::begin_memory;
 use lvdc_model::{Outcome, Repair};
-use lvdc_modules::{Bus, Wanted, wish};
+use lvdc_modules::{Wanted, wish};
 use lvdc_plain::{Exchange, Stop, unplug_all};
 use lvdc_port::{PortDevice, PortRequest};
 use lvdc_twin::ReadOut;
@@ -214,12 +214,10 @@ impl Machine {
     {
         note(&mut self.log, brought.line);
         note(&mut self.repairs, brought.repair);
-        let voted = Bus {
-            memory: brought.memory,
-            port: brought.port,
-            ..self.bus
-        };
-        self.logic.step_under(order, self.forces.in_force(), &voted);
+        self.bus.memory = brought.memory;
+        self.bus.port = brought.port;
+        self.logic
+            .step_under(order, self.forces.in_force(), &self.bus);
         self.bus = self.logic.bus(Word::ZERO, Word::ZERO);
         self.end = stop_of(self.bus.exchange.stop, self.steps);
         self.steps += 1;

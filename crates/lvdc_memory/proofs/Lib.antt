@@ -1,5 +1,7 @@
 mod Begins
+pub mod Begun
 mod Carrying
+pub mod OnMemory
 mod Positions
 mod Releasing
 mod Rows

@@ -2,6 +2,8 @@
 #![tactic(auto)]
 
 mod memory;
+mod own_events;
 mod resume;
 
 pub use memory::VotedMemory;
+pub use own_events::{begin_memory, memory_events, put_last_in_force};

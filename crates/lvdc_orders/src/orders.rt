@@ -75,6 +75,10 @@ impl Orders {
     pub fn at_step(&self, step: u64) -> &Order
         ensures { result.now ≡ order_at self.now step }
     {
-        self.order((step % self.count() as u64) as usize)
+        let count = self.count();
+        if count == 1 {
+            return self.order(0);
+        }
+        self.order((step % count as u64) as usize)
     }
 }

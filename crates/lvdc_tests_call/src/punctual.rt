@@ -1,5 +1,6 @@
 //! A device that looks at the time.
-ghost use Rattle.std.specs.Prelude.{◌≡◌, ◌+◌, ◌-◌, ◌^◌, min};
+ghost use Rattle.std.specs.Prelude.{◌≡◌};
+ghost use Rattle.lvdc_port.specs.Causes.{Rose};
 
 use lvdc_port::{Failed, Kind, PortDevice};
 use lvdc_word::{NoMemory, Word};
@@ -26,7 +27,7 @@ impl<D: PortDevice> Punctual<D> {
 
     fn fail(&mut self) -> Failed
         ensures inner { self.new.inner ≡ self.old.inner }
-        ensures faults { self.new.faults ≡ min (self.old.faults + 1) (2 ^ 64 - 1) }
+        ensures rose { Rose self.old.faults self.new.faults }
     {
         self.faults = self.faults.saturating_add(1);
         Failed

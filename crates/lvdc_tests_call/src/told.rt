@@ -2,6 +2,7 @@
 ghost use Rattle.std.specs.Prelude.{map, IfOk};
 ghost use Rattle.lvdc_port.specs.Devices.{AreDistinct};
 
+use crate::punctual::Punctual;
 use crate::sixteen::sixteen;
 use lvdc_cli::{SESSION_ROOM, lvdc};
 use lvdc_port::{Failing, Latch, PortDevice, Recorder, Tape, Ticker, word_of_time};
@@ -39,6 +40,8 @@ pub enum Rack {
     TapeLatchAndRecorder,
     /// The tape stands at port 001.
     OtherTape,
+    /// A latch and a recorder that take words at this time alone.
+    Punctual(u32),
     /// One device at each of the ports 000 to 017, as the program has them.
     Sixteen,
 }
@@ -139,6 +142,7 @@ fn devices(alloc: Global, rack: Rack, fails: Fails) -> Result<Vec<Box<dyn PortDe
         Rack::RecorderAndTape => recorder_and_tape(alloc, fails),
         Rack::TapeLatchAndRecorder => tape_latch_and_recorder(alloc, fails),
         Rack::OtherTape => other_tape(alloc, fails),
+        Rack::Punctual(times) => punctual(alloc, times),
         Rack::Sixteen => sixteen(alloc),
     }
 }

@@ -1,14 +1,13 @@
 -- What is kept of the differences gives the three whole copies back.
-use Rattle.std.proofs.Common.{◌≡◌, ◌⊎◌, inl, inr, ℕ, List, [], length, refl, sym, ◌∙◌, ap, Bool, true, false, not, ◌&&◌, ◌||◌, Some, None, Option}
+use Rattle.std.proofs.Common.{◌≡◌, ℕ, List, [], length, refl, sym, ◌∙◌, ap, Bool, true, false, not, Some, None, Option}
 use Rattle.std.specs.Prelude.{if◌then◌else◌, ◌==◌, is_some, unwrap_or, IsSome}
 use Rattle.std.specs.Bool.{Decides}
 use Rattle.std.proofs.lemmas.Bool.{false≢true}
 use Rattle.lvdc_vote.specs.Latches.{same_words, majority_of}
-use Rattle.lvdc_vote.specs.Bits.{TwoAre}
-use Rattle.lvdc_vote.proofs.Votes.{same_words-Decides, same_tests, majority_of-first, two_vote}
+use Rattle.lvdc_vote.proofs.Votes.{same_words-Decides, same_tests, majority_of-first, majority_of-ends, majority_of-last}
 use Rattle.std.specs.Option.{option_map}
 use Rattle.lvdc_vote.specs.Copies.{differs_of, after_latch, settled}
-use Rattle.lvdc_vote.specs.Differences.{Kept, kept_of, shadow_by, copies_by, OnlyDifferent, IsSound}
+use Rattle.lvdc_vote.specs.Differences.{Kept, kept_of, shadow_by, copies_by, OnlyDifferent, IsSound, IsKept}
 
 -- what is kept, by any test that decides whether the lists are equal
 pub kept_by : (test : Bool) (words base : List ℕ) → Decides test (words ≡ base) → kept_of words base ≡ (if test then None else Some words)
@@ -45,7 +44,7 @@ sized_own f n h None v = h v
 sized_own f n h (Some s) v = h s
 
 -- what is kept of a list gives that list back, and is kept only where it differs
-meant_kept : (words base : List ℕ) → unwrap_or (kept_of words base) base ≡ words
+pub meant_kept : (words base : List ℕ) → unwrap_or (kept_of words base) base ≡ words
 meant_kept words base = at (same_words words base) (same_words-Decides words base) where
   at : (b : Bool) → Decides b (words ≡ base) → unwrap_or (if b then None else Some words) base ≡ words
   at true d = sym (d.0 refl)
@@ -207,10 +206,6 @@ none_differs words c = rw (majority_of-first words words refl) (by (c == 0) (c =
   by false true = same
   by false false = same
 
-pub map_some : {S : Type 0} (f : S → List ℕ) (o : Option S) → IsSome o → IsSome (option_map f o)
-map_some f None h = h
-map_some f (Some s) h = refl
-
 -- what a copy that is marked has latched
 pub latched_words : (mark : Bool) (own first : Option (List ℕ)) (words : List ℕ) → mark ≡ true → IsSome first
     → unwrap_or (shadow_by mark own first) words ≡ unwrap_or own (unwrap_or first words)
@@ -219,78 +214,56 @@ latched_words true None (Some base) words e h = refl
 latched_words true None None words e h = absurd (false≢true h)
 latched_words false own first words e h = absurd (false≢true e)
 
--- what a copy has latched, or other words where it hasn't latched, is as long as each list is
-pub sized_latched : {S : Type 0} (f : S → List ℕ) (n : ℕ) → ((s : S) → length (f s) ≡ n) → (mark : Bool) (own first : Option S) (state : S)
-    → (mark ≡ true → IsSome (option_map f first)) → length (unwrap_or (shadow_by mark (option_map f own) (option_map f first)) (f state)) ≡ n
-sized_latched f n h false own first state some = h state
-sized_latched f n h true (Some own) first state some = h own
-sized_latched f n h true None (Some base) state some = h base
-sized_latched f n h true None None state some = absurd (false≢true (some refl))
+-- and it is as long as each list is
+pub sized_beside : {S : Type 0} (f : S → List ℕ) (n : ℕ) → ((s : S) → length (f s) ≡ n) → (own first : Option S) (state : S)
+    → length (unwrap_or (option_map f own) (unwrap_or (option_map f first) (f state))) ≡ n
+sized_beside f n h (Some own) first state = h own
+sized_beside f n h None (Some base) state = h base
+sized_beside f n h None None state = h state
 
--- of three of which at most one has latched two have the words that each has that hasn't
-pub two_unlatched : (a b c : Option (List ℕ)) (words : List ℕ) → (a ≡ None) ⊎ (b ≡ None) → (a ≡ None) ⊎ (c ≡ None) → (b ≡ None) ⊎ (c ≡ None)
-    → TwoAre (unwrap_or a words) (unwrap_or b words) (unwrap_or c words) words
-two_unlatched a b c words (inl no_a) h (inl no_b) = rw (no_a, no_b) (inl (refl, refl))
-two_unlatched a b c words (inl no_a) h (inr no_c) = rw (no_a, no_c) (inr (inl (refl, refl)))
-two_unlatched a b c words (inr no_b) (inl no_a) h = rw (no_a, no_b) (inl (refl, refl))
-two_unlatched a b c words (inr no_b) (inr no_c) h = rw (no_b, no_c) (inr (inr (refl, refl)))
-
--- what is kept of three lists beside words that two of them are, where nothing has latched
-abbrev pub beside_all : Kept → List ℕ → List ℕ → List ℕ → List ℕ → Kept
-beside_all k a b c words =
+-- where one of three differs from what the other two are, or none does, that is their vote
+pub kept_one : (words own : List ℕ) → length own ≡ length words → IsKept words (kept_of own words) None None
+kept_one words own size =
     record {
-      voted = words;
-      one = kept_of a words;
-      two = kept_of b words;
-      three = kept_of c words;
-      first = None;
-      shadow_one = k.shadow_one;
-      shadow_two = k.shadow_two;
-      shadow_three = k.shadow_three;
-      latched_one = false;
-      latched_two = false;
-      latched_three = false;
+      vote = rw (meant_kept own words) (sym (majority_of-last own words size));
+      different_one = kept_different own words;
+      different_two = λ ws e. cc;
+      different_three = λ ws e. cc;
     }
 
-pub view_beside : (k : Kept) (a b c words : List ℕ) → copies_by (beside_all k a b c words) ≡ settled a b c
-view_beside k a b c words = rw (meant_kept a words, meant_kept b words, meant_kept c words) refl
-
-pub sound_beside : (k : Kept) (a b c words : List ℕ) → length a ≡ length words → length b ≡ length words → length c ≡ length words → TwoAre a b c words
-    → IsSound (beside_all k a b c words)
-sound_beside k a b c words la lb lc two =
+pub kept_two : (words own : List ℕ) → length own ≡ length words → IsKept words None (kept_of own words) None
+kept_two words own size =
     record {
-      vote = rw (meant_kept a words, meant_kept b words, meant_kept c words) (sym (two_vote a b c words la lb lc two));
-      different_one = kept_different a words;
-      different_two = kept_different b words;
-      different_three = kept_different c words;
-      marked_one = λ e. absurd (false≢true e);
-      marked_two = λ e. absurd (false≢true e);
-      marked_three = λ e. absurd (false≢true e);
-      shadow_one = λ e. absurd (false≢true e);
-      shadow_two = λ e. absurd (false≢true e);
-      shadow_three = λ e. absurd (false≢true e);
+      vote = rw (meant_kept own words) (sym (majority_of-ends words own size));
+      different_one = λ ws e. cc;
+      different_two = kept_different own words;
+      different_three = λ ws e. cc;
     }
 
--- where no two of three marks hold, of each two copies one hasn't latched
-no_two : (a b : Bool) (x y first : Option (List ℕ)) → (a && b) ≡ false → (shadow_by a x first ≡ None) ⊎ (shadow_by b y first ≡ None)
-no_two false b x y first h = inl refl
-no_two true false x y first h = inr refl
-no_two true true x y first h = absurd (false≢true (sym h))
+pub kept_three : (words own : List ℕ) → length own ≡ length words → IsKept words None None (kept_of own words)
+kept_three words own size =
+    record {
+      vote = rw (meant_kept own words) (sym (majority_of-first words own size));
+      different_one = λ ws e. cc;
+      different_two = λ ws e. cc;
+      different_three = kept_different own words;
+    }
 
-three_false : (a b c : Bool) → (a || b || c) ≡ false → (a ≡ false) × ((b ≡ false) × (c ≡ false))
-three_false false false false h = (refl, (refl, refl))
-three_false true b c h = absurd (false≢true (sym h))
-three_false false true c h = absurd (false≢true (sym h))
-three_false false false true h = absurd (false≢true (sym h))
+pub kept_none : (words : List ℕ) → IsKept words None None None
+kept_none words = record { vote = sym (majority_of-first words words refl); different_one = λ ws e. cc; different_two = λ ws e. cc; different_three = λ ws e. cc }
 
-pub alone_latched : (k : Kept) → ((k.latched_one && k.latched_two) || (k.latched_one && k.latched_three) || (k.latched_two && k.latched_three)) ≡ false
-    → ((copies_by k).shadow_one ≡ None ⊎ (copies_by k).shadow_two ≡ None)
-    × (((copies_by k).shadow_one ≡ None ⊎ (copies_by k).shadow_three ≡ None) × ((copies_by k).shadow_two ≡ None ⊎ (copies_by k).shadow_three ≡ None))
-alone_latched k h =
-    let none = three_false (k.latched_one && k.latched_two) (k.latched_one && k.latched_three) (k.latched_two && k.latched_three) h in (
-      no_two k.latched_one k.latched_two k.shadow_one k.shadow_two k.first none.0,
-      (
-        no_two k.latched_one k.latched_three k.shadow_one k.shadow_three k.first none.1.0,
-        no_two k.latched_two k.latched_three k.shadow_two k.shadow_three k.first none.1.1,
-      ),
-    )
+-- what is kept so is sound where nothing has latched
+pub sound_kept : (k : Kept) → IsKept k.voted k.one k.two k.three → k.latched_one ≡ false → k.latched_two ≡ false → k.latched_three ≡ false → IsSound k
+sound_kept k kept one two three =
+    record {
+      vote = kept.vote;
+      different_one = kept.different_one;
+      different_two = kept.different_two;
+      different_three = kept.different_three;
+      marked_one = λ e. absurd (false≢true (sym one ∙ e));
+      marked_two = λ e. absurd (false≢true (sym two ∙ e));
+      marked_three = λ e. absurd (false≢true (sym three ∙ e));
+      shadow_one = λ e. absurd (false≢true (sym one ∙ e));
+      shadow_two = λ e. absurd (false≢true (sym two ∙ e));
+      shadow_three = λ e. absurd (false≢true (sym three ∙ e));
+    }

@@ -53,3 +53,10 @@ pub record IsSound (k : Kept) : Type 0 where
   pub shadow_one : k.latched_one ≡ true → OnlyDifferent k.shadow_one (unwrap_or k.first [])
   pub shadow_two : k.latched_two ≡ true → OnlyDifferent k.shadow_two (unwrap_or k.first [])
   pub shadow_three : k.latched_three ≡ true → OnlyDifferent k.shadow_three (unwrap_or k.first [])
+
+-- these are kept beside a vote: it is the vote of what they mean, and only what differs from it is kept
+pub record IsKept (voted : List ℕ) (one two three : Option (List ℕ)) : Type 0 where
+  pub vote : voted ≡ majority_of (unwrap_or one voted) (unwrap_or two voted) (unwrap_or three voted)
+  pub different_one : OnlyDifferent one voted
+  pub different_two : OnlyDifferent two voted
+  pub different_three : OnlyDifferent three voted

@@ -1,9 +1,9 @@
-ghost use Rattle.std.specs.Prelude.{◌≡◌, ◌⊎◌, ℕ, ◌<◌, slice_get, Some, None, true, false, not, ◌&&◌, ◌||◌, IsSome, All, is_some, unwrap_or};
+ghost use Rattle.std.specs.Prelude.{◌≡◌, ℕ, ◌<◌, slice_get, Some, None, true, false, not, ◌&&◌, IsSome, All, is_some, unwrap_or};
 ghost use Rattle.std.specs.Option.{option_map};
 ghost use Rattle.lvdc_vote.specs.Bits.{TwoAre};
 ghost use Rattle.lvdc_vote.specs.Latches.{latched_by, FitsLatches, IsMajority};
 ghost use Rattle.lvdc_vote.specs.Copies.{settled, copy_of, shadow_of, after_latch, after_commit, after_settle, vote_of, differs_of, IsFresh, IsSized};
-ghost use Rattle.lvdc_vote.specs.Differences.{kept_of, shadow_by};
+ghost use Rattle.lvdc_vote.specs.Differences.{kept_of, shadow_by, IsKept};
 ghost use Rattle.lvdc_vote.specs.Harms.{harmed};
 
 use crate::harm::harmed_state;
@@ -219,14 +219,49 @@ impl<M: LogicModule> Triple<M> {
         ensures value { self.new ≡ after_settle self.old (M.State.latches state) }
         ensures sized { IsSized M.State.LATCHES self.new }
     {
-        if two_of(self.latched_one, self.latched_two, self.latched_three) {
-            self.settle_apart(&state);
-        } else {
-            self.settle_beside(state);
+        match (self.latched_one, self.latched_two, self.latched_three) {
+            (false, false, false) => self.keep(None, None, None, state),
+            (true, false, false) => {
+                let one = beside(&self.shadow_one, &self.first, &state);
+                self.keep(one, None, None, state);
+            }
+            (false, true, false) => {
+                let two = beside(&self.shadow_two, &self.first, &state);
+                self.keep(None, two, None, state);
+            }
+            (false, false, true) => {
+                let three = beside(&self.shadow_three, &self.first, &state);
+                self.keep(None, None, three, state);
+            }
+            _ => self.settle_apart(&state),
         }
     }
 
-    /// The same, whichever copies have latched.
+    /// The copies are these beside a state that is their vote, and none has latched.
+    fn keep(
+        &mut self,
+        one: Option<M::State>,
+        two: Option<M::State>,
+        three: Option<M::State>,
+        state: M::State,
+    )
+        requires { IsKept (M.State.latches state) (option_map M.State.latches one) (option_map M.State.latches two) (option_map M.State.latches three) }
+        ensures value { self.new ≡ settled (unwrap_or (option_map M.State.latches one) (M.State.latches state))
+            (unwrap_or (option_map M.State.latches two) (M.State.latches state))
+            (unwrap_or (option_map M.State.latches three) (M.State.latches state)) }
+        ensures sized { IsSized M.State.LATCHES self.new }
+    {
+        self.voted = state;
+        self.one = one;
+        self.two = two;
+        self.three = three;
+        self.first = None;
+        self.latched_one = false;
+        self.latched_two = false;
+        self.latched_three = false;
+    }
+
+    /// What each copy has latched takes its place, whichever copies have, and this state that of each that hasn't.
     fn settle_apart(&mut self, state: &M::State)
         ensures value { self.new ≡ after_settle self.old (M.State.latches state.now) }
         ensures sized { IsSized M.State.LATCHES self.new }
@@ -239,24 +274,6 @@ impl<M: LogicModule> Triple<M> {
             Triple::from_copies(one, two, three)
         };
         *self = settled;
-    }
-
-    /// The same where at most one copy has latched.
-    fn settle_beside(&mut self, state: M::State)
-        requires one_two { self.old.shadow_one ≡ None ⊎ self.old.shadow_two ≡ None }
-        requires one_three { self.old.shadow_one ≡ None ⊎ self.old.shadow_three ≡ None }
-        requires two_three { self.old.shadow_two ≡ None ⊎ self.old.shadow_three ≡ None }
-        ensures value { self.new ≡ after_settle self.old (M.State.latches state) }
-        ensures sized { IsSized M.State.LATCHES self.new }
-    {
-        self.one = beside(self.latched_one, &self.shadow_one, &self.first, &state);
-        self.two = beside(self.latched_two, &self.shadow_two, &self.first, &state);
-        self.three = beside(self.latched_three, &self.shadow_three, &self.first, &state);
-        self.voted = state;
-        self.first = None;
-        self.latched_one = false;
-        self.latched_two = false;
-        self.latched_three = false;
     }
 
     /// The vote over the three copies.
@@ -348,28 +365,17 @@ fn latched_or<'a, S: Vote>(
     }
 }
 
-/// What is kept of a copy beside a state that it has where it hasn't latched.
-fn beside<S: Vote>(latched: bool, own: &Option<S>, first: &Option<S>, state: &S) -> Option<S>
-    requires { latched ≡ true → IsSome first.now }
-    ensures { option_map S.latches result ≡ kept_of (unwrap_or (shadow_by latched (option_map S.latches own.now) (option_map S.latches first.now)) (S.latches state.now)) (S.latches state.now) }
+/// What is kept beside a state of what a copy has latched.
+fn beside<S: Vote>(own: &Option<S>, first: &Option<S>, state: &S) -> Option<S>
+    ensures { option_map S.latches result ≡ kept_of (unwrap_or (option_map S.latches own.now)
+        (unwrap_or (option_map S.latches first.now) (S.latches state.now))) (S.latches state.now) }
 {
-    if latched {
-        let shadow = meant(own, meant(first, state));
-        if shadow.same(state) {
-            None
-        } else {
-            Some(shadow.copied())
-        }
-    } else {
+    let shadow = meant(own, meant(first, state));
+    if shadow.same(state) {
         None
+    } else {
+        Some(shadow.copied())
     }
-}
-
-/// Do two of the three hold?
-fn two_of(one: bool, two: bool, three: bool) -> bool
-    ensures { result ≡ ((one && two) || (one && three) || (two && three)) }
-{
-    one && two || one && three || two && three
 }
 
 /// The state of which this is kept beside a base.

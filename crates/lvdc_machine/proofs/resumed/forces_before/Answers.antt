@@ -1,6 +1,6 @@
 use Rattle.std.proofs.Common.{Option, ℕ, sym, subst, arith}
 use Rattle.lvdc_machine.specs.Sound.{KnowsForce}
-use Rattle.lvdc_machine.proofs.Again.{made-last}
+use Rattle.lvdc_memory.proofs.Begun.{made-last}
 use Rattle.lvdc_machine.proofs.resumed.forces_before.Goals as goal
 
 pub returns-clause-known : goal.returns-clause-known

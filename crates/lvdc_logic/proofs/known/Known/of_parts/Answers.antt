@@ -5,6 +5,6 @@ use Rattle.lvdc_logic.proofs.known.Known.of_parts.Goals as goal
 
 pub returns : goal.returns
 returns c script step events right =
-    let known : Known = record { force = record { any = c.any.result; hit = c.hit_of-hit.result; marks = c.marks_of-marks.result; copies = c.copies_of.result }; wrong = c.lowest_of.result } in
-    known_by script step known c.totals-shares.result (λ n h. c.totals-shares.ensures n h ∙ right n h) c.marks_of-marks.ensures c.copies_of.ensures c.hit_of-hit.ensures c.any.ensures
+    let known : Known = record { force = record { any = c.any_of.result; marks = c.marks_of-marks.result; copies = c.copies_of.result }; wrong = c.lowest_of.result } in
+    known_by script step known c.totals-shares.result (λ n h. c.totals-shares.ensures n h ∙ right n h) c.marks_of-marks.ensures c.copies_of.ensures c.any_of.ensures
     c.lowest_of.ensures

@@ -1,24 +1,17 @@
 use Rattle.std.proofs.Common.{rules, arith, ℕ, ◌∷◌, [], Bool, false, ◌&&◌, ◌+◌, ◌^◌, refl, sym, ◌∙◌, ap, subst}
 use Rattle.std.proofs.lemmas.Bool.{false≢true}
 use Rattle.lvdc_logic.specs.Logic.{DifferedAtMost}
-use Rattle.lvdc_logic.specs.InForce.{faults_at, is_alone, latched_under}
+use Rattle.lvdc_logic.specs.InForce.{faults_at, latched_under, mark_at}
 use Rattle.lvdc_logic.specs.Latching.{copies_in, new_latches, after_steps}
 use Rattle.lvdc_logic.specs.Counts.{counts_in}
 use Rattle.lvdc_logic.specs.declared.triples.Triples.{Triples}
-use Rattle.lvdc_logic.proofs.Commits.{all_settle, steps_are}
+use Rattle.lvdc_logic.proofs.Commits.{steps_are}
 use Rattle.lvdc_logic.proofs.Differing.{counted_at_most, agreed_counted}
 use Rattle.lvdc_logic.proofs.Under.{latched_is}
 use Rattle.lvdc_logic.proofs.logic.Logic.step_under.Goals as goal
 
-pub settle-requires-clause-latched : goal.settle-requires-clause-latched
-settle-requires-clause-latched c =
-    let force = c.args.force.now in
-    let t = c.self.inside.triples in
-    rw c.latch_named.ensures.value
-    (all_settle t force c.args.order.now (λ n. latched_under (faults_at force.copies n) t c.args.voted.now n) c.self.invariant.0)
-
-pub settle-requires-clause-differed : goal.settle-requires-clause-differed
-settle-requires-clause-differed c = subst (DifferedAtMost (2 ^ 63)) (ap (λ v. v.counts) (sym c.self.view_is)) c.requires.differed
+pub settle-requires : goal.settle-requires
+settle-requires c = record { differed = subst (DifferedAtMost (2 ^ 63)) (ap (λ v. v.counts) (sym c.self.view_is)) c.requires.differed }
 
 pub returns-then-force-clause-copies : goal.returns-then-force-clause-copies
 returns-then-force-clause-copies c script step events in_force =
@@ -28,9 +21,9 @@ returns-then-force-clause-copies c script step events in_force =
     let voted = c.args.voted.now in
     rw (← c.self.view_is)
     (ap copies_in (c.settle.ensures.value ∙ ap (λ (t : Triples). after_steps t voted) c.latch_named.ensures.value)
-    ∙ steps_are script step t (is_alone force) order voted (λ n. latched_under (faults_at force.copies n) t voted n) c.self.invariant.0
+    ∙ steps_are script step t (mark_at force.marks) order voted (λ n. latched_under (faults_at force.copies n) t voted n) c.self.invariant.0
     (latched_is c.harm_suffices.ensures script step force t voted c.self.invariant.1 events in_force)
-    (λ n h e. c.latch_named.ensures.full.all n h) (λ n h off. in_force.others n h (ap (λ (any : Bool). any && is_alone force n) c.if-force.true ∙ off)))
+    (λ n h e. c.latch_named.ensures.full.all n h) (λ n h off. in_force.others n h (ap (λ (any : Bool). any && mark_at force.marks n) c.if-force.true ∙ off)))
 
 pub returns-then-force-clause-differed : goal.returns-then-force-clause-differed
 returns-then-force-clause-differed c most before =
@@ -46,7 +39,7 @@ returns-else-force-clause-copies c script step events in_force =
     rw (← c.self.view_is)
     (ap copies_in c.renew.ensures.value
     ∙ steps_are script step t none [] voted (new_latches script step t voted) c.self.invariant.0 (λ n h. refl) (λ n h e. absurd (false≢true e))
-    (λ n h off. in_force.others n h (ap (λ (any : Bool). any && is_alone force n) c.if-force.false)))
+    (λ n h off. in_force.others n h (ap (λ (any : Bool). any && mark_at force.marks n) c.if-force.false)))
 
 pub returns-else-force-clause-counts : goal.returns-else-force-clause-counts
 returns-else-force-clause-counts c =

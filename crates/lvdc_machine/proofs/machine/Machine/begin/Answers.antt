@@ -2,8 +2,8 @@ use Rattle.std.proofs.Common.{refl, sym, ap, ◌∙◌, subst, arith}
 use Rattle.std.specs.Prelude.{All}
 use Rattle.std.proofs.lemmas.List.Elements.{All-filter}
 use Rattle.lvdc_fault.specs.Events.{IsEvent}
-use Rattle.lvdc_machine.specs.OnMemory.{is_on_memory, on_memory}
-use Rattle.lvdc_machine.proofs.OnMemory.{begins-whole}
+use Rattle.lvdc_memory.specs.OnMemory.{is_on_memory, on_memory}
+use Rattle.lvdc_memory.proofs.OnMemory.{begins-whole}
 use Rattle.lvdc_machine.proofs.machine.Machine.begin.Goals as goal
 
 pub go_to-requires : goal.go_to-requires

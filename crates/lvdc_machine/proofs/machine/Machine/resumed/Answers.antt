@@ -3,8 +3,8 @@ use Rattle.std.specs.Prelude.{All}
 use Rattle.std.proofs.lemmas.List.Elements.{All-filter}
 use Rattle.lvdc_fault.specs.Events.{IsEvent}
 use Rattle.lvdc_machine.proofs.Again.{few-repairs, begins-timed, log-whole}
-use Rattle.lvdc_machine.specs.OnMemory.{is_on_memory, on_memory}
-use Rattle.lvdc_machine.proofs.OnMemory.{only, holds-whole}
+use Rattle.lvdc_memory.specs.OnMemory.{is_on_memory, on_memory}
+use Rattle.lvdc_memory.proofs.OnMemory.{only, holds-whole}
 use Rattle.lvdc_machine.proofs.Standing.{after-none}
 use Rattle.lvdc_machine.proofs.machine.Machine.resumed.Goals as goal
 

@@ -1,5 +1,5 @@
 -- The memory goes by the events on it alone as by the whole script.
-use Rattle.std.proofs.Common.{◌≡◌, ℕ, ◌+◌, ◌<◌, Bool, ◌||◌, List, [], ◌∷◌, ◌++◌, take, slice_get, refl, sym, ap, ◌∙◌, subst}
+use Rattle.std.proofs.Common.{◌≡◌, ℕ, ◌+◌, Bool, ◌||◌, List, [], ◌∷◌, ◌++◌, take, slice_get, refl, sym, ap, ◌∙◌, subst}
 use Rattle.std.proofs.lemmas.List.{take_more}
 use Rattle.std.proofs.lemmas.List.Elements.{filter-append}
 use Rattle.std.proofs.lemmas.Option.{slice_get_within, get_or_from_slice_get}
@@ -7,7 +7,6 @@ use Rattle.std.specs.declared.option.Option.{Option}
 use Rattle.std.specs.declared.option.Option.TheVariants.{None, Some}
 use Rattle.lvdc_map.specs.Address.{Spot}
 use Rattle.lvdc_map.specs.Memory.{Memory}
-use Rattle.lvdc_twin.specs.Store.{Store}
 use Rattle.lvdc_twin.specs.declared.stuck.Stuck.{Stuck}
 use Rattle.lvdc_fault.specs.Damage.{stuck_by, stuck_after, kills, is_dead}
 use Rattle.lvdc_fault.specs.declared.event.Event.{Event}
@@ -16,8 +15,8 @@ use Rattle.lvdc_model.specs.Exchanges.{damages_by, damages}
 use Rattle.lvdc_model.specs.Trial.{Trial}
 use Rattle.lvdc_model.specs.Twins.{Twins}
 use Rattle.lvdc_memory.specs.Faults.{stuck_since, is_dead_since}
-use Rattle.lvdc_memory.specs.Holds.{Kept, Carries, Holds}
-use Rattle.lvdc_machine.specs.OnMemory.{is_on_memory, on_memory}
+use Rattle.lvdc_memory.specs.Holds.{Kept, Holds}
+use Rattle.lvdc_memory.specs.OnMemory.{is_on_memory, on_memory}
 
 -- ---- what the events on memory do is what all do
 

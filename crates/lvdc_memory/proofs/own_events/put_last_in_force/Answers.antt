@@ -1,5 +1,5 @@
-use Rattle.lvdc_machine.proofs.Again.{made-last}
-use Rattle.lvdc_machine.proofs.resumed.put_last_in_force.Goals as goal
+use Rattle.lvdc_memory.proofs.Begun.{made-last}
+use Rattle.lvdc_memory.proofs.own_events.put_last_in_force.Goals as goal
 
 pub returns-then-steps-gt0-clause-forced : goal.returns-then-steps-gt0-clause-forced
 returns-then-steps-gt0-clause-forced c = λ o t i script h.

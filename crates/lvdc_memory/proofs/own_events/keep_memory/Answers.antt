@@ -1,6 +1,6 @@
 use Rattle.std.proofs.Common.{sym}
-use Rattle.lvdc_machine.proofs.Begun.{same-at, stayed}
-use Rattle.lvdc_machine.proofs.memory_events.keep_memory.Goals as goal
+use Rattle.lvdc_memory.proofs.Begun.{same-at, stayed}
+use Rattle.lvdc_memory.proofs.own_events.keep_memory.Goals as goal
 
 pub stays-requires : goal.stays-requires
 stays-requires c = same-at c.args.script.now c.args.step c.args.active.now.last c.requires.stays.same

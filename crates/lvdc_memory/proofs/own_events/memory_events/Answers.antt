@@ -1,8 +1,8 @@
 use Rattle.std.proofs.Common.{◌++◌, ◌∷◌, [], List, sym, ap, ◌∙◌}
 use Rattle.lvdc_fault.specs.declared.event.Event.{Event}
-use Rattle.lvdc_machine.specs.OnMemory.{on_memory}
-use Rattle.lvdc_machine.proofs.OnMemory.{only_next}
-use Rattle.lvdc_machine.proofs.memory_events.memory_events.Goals as goal
+use Rattle.lvdc_memory.specs.OnMemory.{on_memory}
+use Rattle.lvdc_memory.proofs.OnMemory.{only_next}
+use Rattle.lvdc_memory.proofs.own_events.memory_events.Goals as goal
 
 pub loop-at-preserved : goal.loop-at-preserved
 loop-at-preserved c =

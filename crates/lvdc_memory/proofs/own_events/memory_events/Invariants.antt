@@ -1,6 +1,6 @@
 use Rattle.std.proofs.Common.{◌≡◌, take}
-use Rattle.lvdc_machine.specs.OnMemory.{on_memory}
-use Rattle.lvdc_machine.proofs.memory_events.memory_events.Given as goal
+use Rattle.lvdc_memory.specs.OnMemory.{on_memory}
+use Rattle.lvdc_memory.proofs.own_events.memory_events.Given as goal
 
 -- those of the events passed so far
 abbrev pub invariant-loop-at : goal.invariant-loop-at

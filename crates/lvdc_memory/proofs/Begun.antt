@@ -1,5 +1,5 @@
 -- What is in force is released, and what a step puts in force is so.
-use Rattle.std.proofs.Common.{◌≡◌, ℕ, suc, ◌+◌, ◌-◌, ◌≤◌, List, sym, ap, subst, ◌∙◌, arith}
+use Rattle.std.proofs.Common.{◌≡◌, ℕ, zero, suc, ◌<◌, ◌+◌, ◌-◌, ◌≤◌, List, sym, ap, subst, ◌∙◌, arith}
 use Rattle.std.specs.Prelude.{IfSome, IsSomeAnd}
 use Rattle.std.specs.declared.option.Option.{Option}
 use Rattle.std.specs.declared.option.Option.TheVariants.{None, Some}
@@ -9,6 +9,7 @@ use Rattle.lvdc_fault.specs.Activity.{Activity, Fits}
 use Rattle.lvdc_fault.specs.Script.{active_at}
 use Rattle.lvdc_fault.specs.declared.event.Event.{Event}
 use Rattle.lvdc_model.specs.Exchanges.{damages}
+use Rattle.lvdc_model.specs.Known.{last_made}
 use Rattle.lvdc_model.specs.Trial.{Trial}
 use Rattle.lvdc_model.specs.Twins.{Twins}
 use Rattle.lvdc_memory.specs.Holds.{Kept, Holds}
@@ -61,3 +62,10 @@ module _ (script : List Event) (steps : ℕ) where
       let back : steps - 1 + 1 ≡ steps = omega (arith, stays.0) in
       subst (λ (n : ℕ). Holds o (Some n) m (damages n o.script t) i) back
       (law o t i (sym same) (subst (λ (n : ℕ). Holds o (Some n) m t i) (sym here) h))
+
+-- ---- a step before
+
+-- the last step made is the one before
+pub made-last : (steps : ℕ) → 0 < steps → last_made steps ≡ Some (steps - 1)
+made-last zero some = absurd (omega (arith, some))
+made-last (suc step) some = ap Some (omega arith)
