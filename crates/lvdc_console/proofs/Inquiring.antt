@@ -33,9 +33,11 @@ pub inquired_over_rack : {B : Type 0} (device_of : B → Device) (faults : B →
     → IfOk result (λ told. IsInquired devices inquiry bytes told.status told.text × (told.status ≢ 10))
 inquired_over_rack device_of faults inquiry bytes (Err e) old new devices is sound free told holds = tt
 inquired_over_rack device_of faults inquiry bytes (Ok it) old new devices is sound free told holds =
-    let never = reply_over device_of faults inquiry bytes old new _ sound free told in
-    (subst (λ (ds : List Device). IsInquired ds inquiry bytes it.status it.text) is
-    (record { left = map device_of new; is_reply = never.0; holds = holds }), never.1)
+    let never = reply_over device_of faults inquiry bytes old new _ sound free told in (
+      subst (λ (ds : List Device). IsInquired ds inquiry bytes it.status it.text) is
+          (record { left = map device_of new; is_reply = never.0; holds = holds }),
+      never.1,
+    )
 
 -- it is the reply of the definition, with its law
 pub is_inquired : (devices : List Device) (inquiry : Inquiry) (bytes : List ℕ) (result : Result Told NoMemory)

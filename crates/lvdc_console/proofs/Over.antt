@@ -36,9 +36,11 @@ module _ {B : Type 0} {device_of : B → Device} {faults : B → ℕ} where
   due_over (too_long reads same took kept) sound = (too_long_over reads same took, λ e. absurd (omega (arith, e)))
   due_over {words} {before} {after} (replied command bytes reply asked same read is holds) sound =
       let never = never-failed device_of faults _ _ before.devices _ reply sound is in
-      let law = subst (λ (a : Answer). HoldsFor command bytes (map device_of before.devices) a) never.0 holds in
-      (subst (λ (a : Answer). IsDueOver (map device_of before.devices) words before.source after.source a.status a.text) (sym never.0)
-      (replied_over command bytes asked same read law), never.1)
+      let law = subst (λ (a : Answer). HoldsFor command bytes (map device_of before.devices) a) never.0 holds in (
+        subst (λ (a : Answer). IsDueOver (map device_of before.devices) words before.source after.source a.status a.text) (sym never.0)
+            (replied_over command bytes asked same read law),
+        never.1,
+      )
   due_over (wants_memory some same took left) sound = (wants_memory_over some same took, λ e. absurd (omega (arith, e)))
 
   -- how the call has ended
@@ -98,9 +100,11 @@ pub replied_over_rack : {B : Type 0} (device_of : B → Device) (faults : B → 
     → IfOk result (λ reply. IsReplied devices command bytes reply.status reply.text × (reply.status ≢ 10))
 replied_over_rack device_of faults command bytes (Err e) old new devices is sound reply holds headline = tt
 replied_over_rack device_of faults command bytes (Ok it) old new devices is sound reply holds headline =
-    let never = never-failed device_of faults _ _ old new _ sound reply in
-    (subst (λ (ds : List Device). IsReplied ds command bytes it.status it.text) is
-    (record { left = map device_of new; is_reply = never.0; holds = holds; headline = headline never.1 }), never.1)
+    let never = never-failed device_of faults _ _ old new _ sound reply in (
+      subst (λ (ds : List Device). IsReplied ds command bytes it.status it.text) is
+          (record { left = map device_of new; is_reply = never.0; holds = holds; headline = headline never.1 }),
+      never.1,
+    )
 
 -- it is the reply of the definition, with its law and the headline
 pub is_replied : (devices : List Device) (command : Command) (bytes : List ℕ) (result : Result Told NoMemory)
