@@ -11,7 +11,7 @@ from typing import Any, Self
 
 import lvdc
 from browser import Browser, Failure
-from lab_running import TYPE, Lab, Tally, status_of
+from lab_running import SLOW, TYPE, Lab, Tally, sluggish, status_of
 from lvdc.workers import Worker
 
 PATIENCE = 20.0
@@ -29,8 +29,6 @@ ODD_DECKS = {
     "no.deck": ("hello\n", "That is no deck."),
     "refused.deck": ("IMAGE\nLVDC 1\nEND\nFAULTS\nFLIP 9\nRUN 3\n", "BadLine, line 5"),
     "long.deck": ("SOURCE\n" + "* LONG\n" * 40_000 + " END\nRUN 1\n", "too long for the lab"),
-    "slow.deck": ("IMAGE\nLVDC 1\nEND\nFAULTS\n" + "".join(f"LAG {it % 7 + 1} 1 {2 * it} 2999999\n" for it in range(9000)) + "RUN 1000000\n",
-                  "would take too long"),
 }
 
 # What the page says, read from its elements.
@@ -282,19 +280,33 @@ def try_for_good(page: Visitor, tally: Tally, worker: Worker) -> None:
     page.press("#again")
 
 
+def try_opened(page: Visitor, tally: Tally, file: pathlib.Path, text: str, said: str) -> None:
+    """A file of this text is opened, and of it this is said."""
+    file.write_text(text)
+    element = page.call("Runtime.evaluate", expression="document.getElementById('file')")["result"]["objectId"]
+    page.call("DOM.setFileInputFiles", files=[str(file)], objectId=element)
+    page.wait(f"{RESTS} && document.getElementById('outcome').textContent.includes({json.dumps(said)})")
+    tally.expect(f"{file.name} is opened", said in page.says()["outcome"], True)
+
+
 def try_shared(page: Visitor, tally: Tally, worker: Worker, folder: pathlib.Path) -> None:
     """A deck that was shared is opened, and comes to the same; of what can't be shown it is told why."""
     page.go_to(STEP)
     page.press_lamp(4, 1)
     shared = page.says()["deck"]
     for name, (text, said) in {**ODD_DECKS, "shared.deck": (shared, "always will be")}.items():
-        (folder / name).write_text(text)
-        element = page.call("Runtime.evaluate", expression="document.getElementById('file')")["result"]["objectId"]
-        page.call("DOM.setFileInputFiles", files=[str(folder / name)], objectId=element)
-        page.wait(f"{RESTS} && document.getElementById('outcome').textContent.includes({json.dumps(said)})")
-        tally.expect(f"{name} is opened", said in page.says()["outcome"], True)
+        try_opened(page, tally, folder / name, text, said)
     tally.expect("the deck that was shared", page.says()["deck"], shared)
     page.press("#again")
+
+
+def try_slow(page: Visitor, tally: Tally, lab: Lab, folder: pathlib.Path) -> None:
+    """Over a worker that takes its time for one deck: that deck isn't waited for, and what comes after it is answered."""
+    with Lab(sluggish(lab.worker, folder)) as slow:
+        page.visit(slow.address)
+        page.wait()
+        try_opened(page, tally, folder / "slow.deck", f"IMAGE\nLVDC 1\nEND\n{SLOW}", "would take too long")
+        try_opened(page, tally, folder / "quick.deck", "IMAGE\nLVDC 1\nEND\nFAULTS\nFLIP 5 1 0 0 0 000000001\nRUN 1\n", "always will be")
 
 
 # ---- all of it by other ways: keys, sizes, colours, languages
@@ -498,6 +510,7 @@ def try_driven(lab: Lab, tally: Tally, worker: Worker, folder: pathlib.Path) -> 
             page.go_to(STEP)
             other(page, tally)
         try_kiosk(page, tally, lab.address)
+        try_slow(page, tally, lab, folder)
         tally.expect("faults of the page", page.faults(), [])
         try_hostile_page(page, tally, lab)
     try_letters(tally, lab.address)

@@ -13,6 +13,21 @@ import types
 HERE = pathlib.Path(__file__).resolve().parent
 PATIENCE = 20.0
 TYPE = "application/x-lvdc-deck"
+
+# The line of a deck for which a sluggish worker takes its time, and such a worker over another one.
+SLOW = "RUN 54321\n"
+SLUGGISH = """#!/usr/bin/env python3
+import subprocess, sys, time
+with subprocess.Popen([{worker!r}], stdin=subprocess.PIPE, stdout=subprocess.PIPE) as worker:
+    while head := sys.stdin.buffer.readline():
+        text = sys.stdin.buffer.read(int(head.split()[1]))
+        time.sleep(10 if {slow!r} in text else 0)
+        worker.stdin.write(head + text)
+        worker.stdin.flush()
+        reply = worker.stdout.readline()
+        sys.stdout.buffer.write(reply + worker.stdout.read(int(reply.split()[2])))
+        sys.stdout.buffer.flush()
+"""
 STATUS = re.compile(rb"HTTP/1\.0 (\d{3}) ")
 
 
@@ -35,6 +50,7 @@ class Lab:
     """A lab over this worker. Used by `with`, which ends it."""
 
     def __init__(self, worker: str, *words: str) -> None:
+        self.worker = worker
         self.messages = tempfile.TemporaryFile()
         around = {**os.environ, "LVDC_WORKER": worker}
         self.process = subprocess.Popen([HERE / "lab", *words], stdout=subprocess.PIPE, stderr=self.messages, env=around)
@@ -83,6 +99,14 @@ class Lab:
     def own_headers(self, deck: bytes) -> list[str]:
         """The headers that the lab's own page sends with a deck."""
         return [f"Origin: http://{self.host}", f"Content-Type: {TYPE}", f"Content-Length: {len(deck)}", "Sec-Fetch-Site: same-origin"]
+
+
+def sluggish(worker: str, folder: pathlib.Path) -> str:
+    """A worker over this one, which takes ten seconds for a deck with the line of slow ones."""
+    program = folder / "sluggish-worker"
+    program.write_text(SLUGGISH.format(worker=worker, slow=SLOW.encode()))
+    program.chmod(0o755)
+    return str(program)
 
 
 def head_of(method: str, target: str, *headers: str) -> bytes:
