@@ -16,9 +16,25 @@ pub record Shown : Type 0 where
   pub syl : Option ℕ
   pub value : ℕ
 
+-- the byte of a blank, which stands where nothing is shown
+abbrev pub blank : ℕ
+blank = 32
+
+-- that of the dash in the field of a word
+abbrev pub dash : ℕ
+dash = 45
+
+-- that of the letter with which the row of a pooled word begins
+abbrev pub letter_p : ℕ
+letter_p = 80
+
+-- that of the letter with which the row of a name begins
+abbrev pub letter_n : ℕ
+letter_n = 78
+
 -- the byte in a column; there are blanks behind the last one
 abbrev pub byte_at : List ℕ → ℕ → ℕ
-byte_at text column = slice_index_or text column 32
+byte_at text column = slice_index_or text column blank
 
 -- the octal number in so many columns from this one on
 abbrev pub octal_at : List ℕ → ℕ → ℕ → ℕ
@@ -31,20 +47,20 @@ spot_in text pair sector loc = record { pair = octal_at text pair 1; sector = oc
 -- what the field of a line shows: a word of nine digits behind a dash, a syllable of five, or nothing
 abbrev pub field_shown : List ℕ → List Shown
 field_shown field =
-    if byte_at field 11 == 32 then []
-    else (if byte_at field 5 == 45 then record { at = spot_in field 0 2 7; syl = None; value = octal_at field 11 9 } ∷ []
+    if byte_at field 11 == blank then []
+    else (if byte_at field 5 == dash then record { at = spot_in field 0 2 7; syl = None; value = octal_at field 11 9 } ∷ []
     else record { at = spot_in field 0 2 7; syl = Some (octal_at field 5 1); value = octal_at field 11 5 } ∷ [])
 
 -- what a row shows: of a pooled word the word, of a line its field
 abbrev pub row_shown : List ℕ → List Shown
 row_shown row =
-    if byte_at row 0 == 80 then record { at = spot_in row 5 7 10; syl = None; value = octal_at row 14 9 } ∷ []
+    if byte_at row 0 == letter_p then record { at = spot_in row 5 7 10; syl = None; value = octal_at row 14 9 } ∷ []
     else field_shown (take 20 (drop 8 row))
 
 -- what rows show, up to the first name
 abbrev pub rows_shown : List (List ℕ) → List Shown
 rows_shown [] = []
-rows_shown (row ∷ rows) = if byte_at row 0 == 78 then [] else row_shown row ++ rows_shown rows
+rows_shown (row ∷ rows) = if byte_at row 0 == letter_n then [] else row_shown row ++ rows_shown rows
 
 -- what a text shows, whose rows stand between line feeds
 abbrev pub text_shown : List ℕ → List Shown
