@@ -8,7 +8,9 @@ use Rattle.lvdc_modules.specs.Selector.{selector_row}
 use Rattle.lvdc_modules.specs.Accumulator.{accumulator_row}
 use Rattle.lvdc_modules.specs.Multiplier.{multiplier_row}
 use Rattle.lvdc_modules.specs.Exchange.{exchange_row}
+use Rattle.lvdc_modules.specs.States.{timer_latches, locator_latches, decoder_latches, selector_latches, accumulator_latches, multiplier_latches, exchange_latches}
 use Rattle.lvdc_modules.specs.declared.bus.Bus.{Bus}
+use Rattle.lvdc_modules.specs.declared.next.Next.{Next}
 use Rattle.lvdc_fault.specs.declared.event.Event.{Event}
 use Rattle.lvdc_model.specs.Voted.{next_copy}
 use Rattle.lvdc_logic.specs.Seven.{of_seven}
@@ -97,6 +99,19 @@ after_steps t voted =
       accumulator = after_settle t.accumulator (accumulator_row voted);
       multiplier = after_settle t.multiplier (multiplier_row voted);
       exchange = after_settle t.exchange (exchange_row voted);
+    }
+
+-- the same where these states follow for the modules
+abbrev pub after_next : Triples → Next → Triples
+after_next t n =
+    record {
+      timer = after_settle t.timer (timer_latches n.timer);
+      locator = after_settle t.locator (locator_latches n.locator);
+      decoder = after_settle t.decoder (decoder_latches n.decoder);
+      selector = after_settle t.selector (selector_latches n.selector);
+      accumulator = after_settle t.accumulator (accumulator_latches n.accumulator);
+      multiplier = after_settle t.multiplier (multiplier_latches n.multiplier);
+      exchange = after_settle t.exchange (exchange_latches n.exchange);
     }
 
 -- no copy has latched since the last commit

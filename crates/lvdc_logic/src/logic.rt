@@ -12,7 +12,7 @@ use crate::counts::Counts;
 use crate::in_force::InForce;
 use crate::triples::Triples;
 use lvdc_map::Hop;
-use lvdc_modules::Bus;
+use lvdc_modules::{Bus, Next};
 use lvdc_orders::Order;
 use lvdc_vote::{Vote, harm_suffices};
 use lvdc_word::Word;
@@ -69,11 +69,12 @@ impl Logic {
         ensures differed { (most : ℕ) → DifferedAtMost most self.old.counts → DifferedAtMost (most + 1) self.new.counts }
     {
         harm_suffices();
+        let next = Next::of(voted);
         if force.any {
-            self.triples.latch_named(order, force, voted);
-            self.triples.settle(voted, &mut self.counts);
+            self.triples.latch_named(order, force, voted, &next);
+            self.triples.settle(next, &mut self.counts);
         } else {
-            self.triples.renew(voted);
+            self.triples.renew(next);
         }
     }
 

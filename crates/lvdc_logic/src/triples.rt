@@ -1,11 +1,12 @@
 ghost use Rattle.std.specs.Prelude.{◌≡◌, ℕ, ◌≤◌, ◌<◌, ◌+◌, ◌/◌, ◌%◌, ◌^◌, None, map, slice_index};
 ghost use Rattle.lvdc_vote.specs.Copies.{copy_of, shadow_of, vote_of, after_settle, IsFullOrder, IsSized};
 ghost use Rattle.lvdc_vote.specs.Harms.{harmed};
+ghost use Rattle.lvdc_modules.specs.Next.{IsNext};
 ghost use Rattle.lvdc_modules.specs.Rows.{bus_of, start_latches};
 ghost use Rattle.lvdc_model.specs.Voted.{counted, counted_three, thrice};
 ghost use Rattle.lvdc_logic.specs.Counts.{counts_in};
 ghost use Rattle.lvdc_logic.specs.InForce.{faults_at, latched_under, mark_at};
-ghost use Rattle.lvdc_logic.specs.Latching.{copies_in, row_of, latches_in, triple_in, after_number, after_numbers, after_steps, AllAgree, AllFresh, AllSized};
+ghost use Rattle.lvdc_logic.specs.Latching.{copies_in, row_of, latches_in, triple_in, after_number, after_next, after_numbers, AllAgree, AllFresh, AllSized};
 ghost use Rattle.lvdc_logic.specs.Logic.{DifferedAtMost};
 
 use crate::counts::Counts;
@@ -13,7 +14,7 @@ use crate::in_force::{Faults, InForce};
 use lvdc_map::Hop;
 use lvdc_modules::{
     Accumulator, AccumulatorState, Bus, Decoder, DecoderState, ExchangeState, Exchanger, Locator,
-    LocatorState, Multiplier, MultiplierState, Selector, SelectorState, Timer, TimerState,
+    LocatorState, Multiplier, MultiplierState, Next, Selector, SelectorState, Timer, TimerState,
     data_word, place_word,
 };
 use lvdc_orders::Order;
@@ -106,96 +107,129 @@ impl Triples {
         }
     }
 
-    /// Copy `number % 3` of module `number / 3`, both counted from 0, latches, from the votes, or where it is deaf from the copies
-    /// of its own number.
-    fn latch_next(&mut self, number: u8, faults: &Faults, voted: &Bus)
+    /// Copy `number % 3` of module `number / 3`, both counted from 0, latches what follows from the votes, or where it is deaf from the
+    /// copies of its own number.
+    fn latch_next(&mut self, number: u8, faults: &Faults, voted: &Bus, next: &Next)
         requires number { number < 21 }
         requires fresh { shadow_of (triple_in self.old number) (number % 3) ≡ None }
+        requires next { IsNext voted.now next.now }
         ensures { self.new ≡ after_number self.old number (latched_under faults.now self.old voted.now number) }
     {
         if faults.deaf {
             let heard = self.copied_bus(number % 3, voted.memory, voted.port);
-            self.latch(number, &heard, &faults.harm);
+            self.latch_from(number, &heard, &faults.harm);
         } else {
-            self.latch(number, voted, &faults.harm);
+            self.latch(number, next, &faults.harm);
         }
     }
 
-    /// The same copy latches from this bus.
-    fn latch(&mut self, number: u8, bus: &Bus, harm: &Harm)
+    /// The same copy latches what follows from this bus.
+    fn latch_from(&mut self, number: u8, bus: &Bus, harm: &Harm)
         requires number { number < 21 }
         requires fresh { shadow_of (triple_in self.old number) (number % 3) ≡ None }
         ensures { self.new ≡ after_number self.old number (harmed (latches_in self.old number) (row_of (number / 3) bus.now) harm.now) }
     {
         let copy = number % 3;
         match number / 3 {
-            0 => self.timer.latch_under(copy, bus, harm),
-            1 => self.locator.latch_under(copy, bus, harm),
-            2 => self.decoder.latch_under(copy, bus, harm),
-            3 => self.selector.latch_under(copy, bus, harm),
-            4 => self.accumulator.latch_under(copy, bus, harm),
-            5 => self.multiplier.latch_under(copy, bus, harm),
-            _ => self.exchange.latch_under(copy, bus, harm),
+            0 => self.timer.latch_under(copy, &Timer::next(bus), harm),
+            1 => self.locator.latch_under(copy, &Locator::next(bus), harm),
+            2 => self.decoder.latch_under(copy, &Decoder::next(bus), harm),
+            3 => self.selector.latch_under(copy, &Selector::next(bus), harm),
+            4 => self
+                .accumulator
+                .latch_under(copy, &Accumulator::next(bus), harm),
+            5 => self
+                .multiplier
+                .latch_under(copy, &Multiplier::next(bus), harm),
+            _ => self.exchange.latch_under(copy, &Exchanger::next(bus), harm),
+        }
+    }
+
+    /// The same copy latches what follows for its module.
+    fn latch(&mut self, number: u8, next: &Next, harm: &Harm)
+        requires number { number < 21 }
+        requires fresh { shadow_of (triple_in self.old number) (number % 3) ≡ None }
+        ensures { (bus : Bus) → IsNext bus next.now
+            → self.new ≡ after_number self.old number (harmed (latches_in self.old number) (row_of (number / 3) bus) harm.now) }
+    {
+        let copy = number % 3;
+        match number / 3 {
+            0 => self.timer.latch_under(copy, &next.timer, harm),
+            1 => self.locator.latch_under(copy, &next.locator, harm),
+            2 => self.decoder.latch_under(copy, &next.decoder, harm),
+            3 => self.selector.latch_under(copy, &next.selector, harm),
+            4 => self.accumulator.latch_under(copy, &next.accumulator, harm),
+            5 => self.multiplier.latch_under(copy, &next.multiplier, harm),
+            _ => self.exchange.latch_under(copy, &next.exchange, harm),
         }
     }
 
     /// The copies that are marked latch by themselves in this order, each with what is in force on it. What comes of it doesn't depend on the
     /// order.
-    pub fn latch_named(&mut self, order: &Order, force: &InForce, voted: &Bus)
+    pub fn latch_named(&mut self, order: &Order, force: &InForce, voted: &Bus, next: &Next)
         requires fresh { AllFresh self.old }
+        requires next { IsNext voted.now next.now }
         ensures value { self.new ≡ after_numbers self.old (mark_at force.now.marks) order.now
             (λ n. latched_under (faults_at force.now.copies n) self.old voted.now n) }
         ensures full { IsFullOrder 21 order.now }
     {
         for number in order.copies() {
             if force.is_marked(*number) {
-                self.latch_next(*number, force.on_copy(*number), voted);
+                self.latch_next(*number, force.on_copy(*number), voted, next);
             }
         }
     }
 
-    /// No copy latches by itself: each has what follows from the votes, and none differs.
-    pub fn renew(&mut self, voted: &Bus)
+    /// No copy latches by itself: each has what follows for its module, and none differs.
+    pub fn renew(&mut self, next: Next)
         requires fresh { AllFresh self.old }
-        ensures value { self.new ≡ after_steps self.old voted.now }
+        ensures value { self.new ≡ after_next self.old next }
         ensures agree { AllAgree self.new }
         ensures sized { AllSized self.new }
     {
-        self.timer.renew(Timer::next(voted));
-        self.locator.renew(Locator::next(voted));
-        self.decoder.renew(Decoder::next(voted));
-        self.selector.renew(Selector::next(voted));
-        self.accumulator.renew(Accumulator::next(voted));
-        self.multiplier.renew(Multiplier::next(voted));
-        self.exchange.renew(Exchanger::next(voted));
+        self.timer.renew(next.timer);
+        self.locator.renew(next.locator);
+        self.decoder.renew(next.decoder);
+        self.selector.renew(next.selector);
+        self.accumulator.renew(next.accumulator);
+        self.multiplier.renew(next.multiplier);
+        self.exchange.renew(next.exchange);
     }
 
-    /// What each copy latched takes its place, and that of a copy that hasn't latched what follows from the votes, which is worked
-    /// out once for a module. Each copy that differs from the new vote is counted.
-    pub fn settle(&mut self, voted: &Bus, counts: &mut Counts)
+    /// What each copy latched takes its place, and that of a copy that hasn't latched what follows for its module. Each copy that differs
+    /// from the new vote is counted.
+    pub fn settle(&mut self, next: Next, counts: &mut Counts)
         requires differed { DifferedAtMost (2 ^ 63) (counts_in counts.old) }
-        ensures value { self.new ≡ after_steps self.old voted.now }
+        ensures value { self.new ≡ after_next self.old next }
         ensures counts { counts_in counts.new ≡ counted (copies_in self.new) (counts_in counts.old) }
         ensures sized { AllSized self.new }
     {
-        settle(&mut self.timer, &mut counts.timer, voted);
-        settle(&mut self.locator, &mut counts.locator, voted);
-        settle(&mut self.decoder, &mut counts.decoder, voted);
-        settle(&mut self.selector, &mut counts.selector, voted);
-        settle(&mut self.accumulator, &mut counts.accumulator, voted);
-        settle(&mut self.multiplier, &mut counts.multiplier, voted);
-        settle(&mut self.exchange, &mut counts.exchange, voted);
+        settle(&mut self.timer, &mut counts.timer, next.timer);
+        settle(&mut self.locator, &mut counts.locator, next.locator);
+        settle(&mut self.decoder, &mut counts.decoder, next.decoder);
+        settle(&mut self.selector, &mut counts.selector, next.selector);
+        settle(
+            &mut self.accumulator,
+            &mut counts.accumulator,
+            next.accumulator,
+        );
+        settle(
+            &mut self.multiplier,
+            &mut counts.multiplier,
+            next.multiplier,
+        );
+        settle(&mut self.exchange, &mut counts.exchange, next.exchange);
     }
 }
 
-/// The next copies of a module: what each latched, or the state that follows from the votes; and their counts.
-fn settle<M: LogicModule>(triple: &mut Triple<M>, counts: &mut [u64; 3], voted: &M::Bus)
+/// The next copies of a module: what each latched, or this state; and their counts.
+fn settle<M: LogicModule>(triple: &mut Triple<M>, counts: &mut [u64; 3], next: M::State)
     requires differed { (c : ℕ) → slice_index counts.old c ≤ 2 ^ 63 }
-    ensures value { triple.new ≡ after_settle triple.old (M.next_of voted.now) }
+    ensures value { triple.new ≡ after_settle triple.old (M.State.latches next) }
     ensures counts { counts.new ≡ counted_three triple.new counts.old }
     ensures sized { IsSized M.State.LATCHES triple.new }
 {
-    triple.settle(M::next(voted));
+    triple.settle(next);
     *counts = counted_three(triple, *counts);
 }
 

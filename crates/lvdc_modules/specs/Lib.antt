@@ -10,3 +10,4 @@ pub mod Accumulator
 pub mod Exchange
 pub mod Wish
 pub mod Rows
+pub mod Next

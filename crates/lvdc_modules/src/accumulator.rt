@@ -3,7 +3,9 @@ ghost use Rattle.std.proofs.Common.{ap};
 ghost use Rattle.lvdc_modules.specs.States.{accumulator_latches, accumulator_of};
 ghost use Rattle.lvdc_isa.specs.Instr.{takes_operand};
 ghost use Rattle.lvdc_map.specs.Place.{operand_kind};
-ghost use Rattle.lvdc_modules.specs.Accumulator.{accumulated, a_by, operand_from, operand_by, accumulator_row};
+ghost use Rattle.lvdc_mul.specs.Unit.{kind};
+ghost use Rattle.lvdc_modules.specs.Multiplier.{working, landing};
+ghost use Rattle.lvdc_modules.specs.Accumulator.{accumulated, a_by, a_landed, operand_from, operand_by, accumulator_row};
 
 use crate::Bus;
 use crate::multiplier::working;
@@ -117,6 +119,18 @@ fn operand_taken(bus: &Bus, doing: Doing, instruction: Instr) -> Word
     }
 }
 
+/// The accumulator: the product of an MPH where it lands, whatever is done in this phase.
+fn a_after(bus: &Bus, doing: Doing, instruction: Instr) -> Word
+    ensures { result ≡ a_landed (kind (working bus.now)) (landing bus.now) (a_by doing bus.now instruction) }
+{
+    let executed = a_executed(bus, doing, instruction);
+    let unit = working(bus);
+    match unit.kind() {
+        Kind::MultiplyHigh => unit.lands().unwrap_or(executed),
+        _ => executed,
+    }
+}
+
 /// The accumulator, module 5: it takes the operand word, and operates on A.
 pub struct Accumulator;
 
@@ -132,12 +146,8 @@ impl LogicModule for Accumulator {
     fn next(bus: &Bus) -> AccumulatorState {
         let doing = doing_of(bus);
         let instruction = instruction_of(bus);
-        let unit = working(bus);
         AccumulatorState {
-            a: match (unit.kind(), unit.lands()) {
-                (Kind::MultiplyHigh, Some(product)) => product,
-                _ => a_executed(bus, doing, instruction),
-            },
+            a: a_after(bus, doing, instruction),
             operand: operand_taken(bus, doing, instruction),
         }
     }

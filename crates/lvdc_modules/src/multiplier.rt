@@ -5,7 +5,7 @@ ghost use Rattle.lvdc_modules.specs.Multiplier.{working, unit_pq, unit_working, 
 
 use crate::Bus;
 use crate::seen::{Doing, doing_of, instruction_of};
-use lvdc_isa::Op;
+use lvdc_isa::{Instr, Op};
 use lvdc_map::OperandKind;
 use lvdc_mul::Unit;
 use lvdc_vote::{LogicModule, Vote, majority};
@@ -93,38 +93,33 @@ pub(crate) fn working(bus: &Bus) -> Unit
     Unit { control, m, h, q }
 }
 
-/// PQ after the unit's phase.
-fn unit_pq(bus: &Bus) -> Word
-    ensures { result ≡ unit_pq bus.now }
-{
-    working(bus).lands().unwrap_or(bus.multiplier.pq)
-}
-
-/// The unit after its phase; it is idle where it lands.
-fn unit_working(bus: &Bus) -> Unit
-    ensures { result ≡ unit_working bus.now }
+/// PQ and the unit after the unit's phase: a result lands in PQ, and the unit is idle then.
+fn after_phase(bus: &Bus) -> (Word, Unit)
+    ensures pq { result.0 ≡ unit_pq bus.now }
+    ensures unit { result.1 ≡ unit_working bus.now }
 {
     let unit = working(bus);
-    if unit.lands().is_some() {
-        unit.phase().cancel()
-    } else {
-        unit.phase()
+    match unit.lands() {
+        Some(landed) => (landed, unit.phase().cancel()),
+        None => (bus.multiplier.pq, unit.phase()),
     }
 }
 
-/// What the operation makes of PQ.
-fn pq_after(op: Op, bus: &Bus, address: u16) -> Word
+/// What the operation makes of PQ, which the unit's phase has left so.
+fn pq_after(op: Op, bus: &Bus, address: u16, pq: Word) -> Word
+    requires { pq ≡ unit_pq bus.now }
     ensures { result ≡ pq_after op bus.now address }
 {
     if op == Op::Sto && OperandKind::of(address) == OperandKind::Pq {
         bus.accumulator.a
     } else {
-        unit_pq(bus)
+        pq
     }
 }
 
-/// What the operation makes of the unit.
-fn working_after(op: Op, bus: &Bus, address: u16) -> Unit
+/// What the operation makes of the unit, which its phase has left so.
+fn working_after(op: Op, bus: &Bus, address: u16, unit: Unit) -> Unit
+    requires { unit ≡ unit_working bus.now }
     ensures { result ≡ working_after op bus.now address }
 {
     let a = bus.accumulator.a;
@@ -134,10 +129,10 @@ fn working_after(op: Op, bus: &Bus, address: u16) -> Unit
         Op::Mph => Unit::issue_multiply(a, m, true),
         Op::Div => Unit::issue_divide(a, m),
         Op::Sto => match OperandKind::of(address) {
-            OperandKind::Pq => unit_working(bus).cancel(),
-            OperandKind::Memory | OperandKind::Saver => unit_working(bus),
+            OperandKind::Pq => unit.cancel(),
+            OperandKind::Memory | OperandKind::Saver => unit,
         },
-        _ => unit_working(bus),
+        _ => unit,
     }
 }
 
@@ -168,13 +163,15 @@ impl LogicModule for Multiplier {
     const NUMBER: u8 = 6;
 
     fn next(bus: &Bus) -> MultiplierState {
+        let (pq, unit) = after_phase(bus);
         if doing_of(bus) == Doing::Executing {
-            let instruction = instruction_of(bus);
-            let pq = pq_after(instruction.op, bus, instruction.address);
-            let unit = working_after(instruction.op, bus, instruction.address);
-            latched(pq, unit)
+            let Instr { op, address } = instruction_of(bus);
+            latched(
+                pq_after(op, bus, address, pq),
+                working_after(op, bus, address, unit),
+            )
         } else {
-            latched(unit_pq(bus), unit_working(bus))
+            latched(pq, unit)
         }
     }
 

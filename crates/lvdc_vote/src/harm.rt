@@ -6,7 +6,7 @@ ghost use Rattle.lvdc_vote.specs.Latches.{latched_by, FitsLatches};
 ghost use Rattle.lvdc_vote.specs.declared.hurt.Hurt.{Hurt};
 
 use crate::bits::{flipped, forced};
-use crate::{Hurt, LogicModule, Vote};
+use crate::{Hurt, Vote};
 use lvdc_word::Word;
 
 /// What becomes of the word of one latch: the bits under the mask are those of the value, and the others are turned over where
@@ -96,14 +96,14 @@ impl Harm {
     }
 }
 
-/// What a copy latches: what follows from the bus, or where it lags its old state; then each latch has its patch.
-pub(crate) fn harmed_state<M: LogicModule>(old: &M::State, bus: &M::Bus, harm: &Harm) -> M::State
-    ensures { M.State.latches result ≡ harmed (M.State.latches old.now) (M.next_of bus.now) harm.now }
+/// What a copy latches: the state that follows, or where it lags its old state; then each latch has its patch.
+pub(crate) fn harmed_state<S: Vote>(old: &S, next: &S, harm: &Harm) -> S
+    ensures { S.latches result ≡ harmed (S.latches old.now) (S.latches next.now) harm.now }
 {
     let begun = if harm.lags {
         old.copied()
     } else {
-        M::next(bus)
+        next.copied()
     };
     patch_all(begun, &harm.patches)
 }

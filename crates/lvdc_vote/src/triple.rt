@@ -152,13 +152,13 @@ impl<M: LogicModule> Triple<M> {
         self.put_shadow(copy, shadow);
     }
 
-    /// The same under what the hurts come to.
-    pub fn latch_under(&mut self, copy: u8, bus: &M::Bus, harm: &Harm)
+    /// The same under what the hurts come to, where this is the state that follows.
+    pub fn latch_under(&mut self, copy: u8, next: &M::State, harm: &Harm)
         requires copy { copy < 3 }
         requires fresh { shadow_of self.old copy ≡ None }
-        ensures { self.new ≡ after_latch self.old copy (harmed (copy_of self.old copy) (M.next_of bus.now) harm.now) }
+        ensures { self.new ≡ after_latch self.old copy (harmed (copy_of self.old copy) (M.State.latches next.now) harm.now) }
     {
-        let shadow = harmed_state::<M>(self.copy(copy), bus, harm);
+        let shadow = harmed_state(self.copy(copy), next, harm);
         self.put_shadow(copy, shadow);
     }
 

@@ -5,7 +5,7 @@ use Rattle.lvdc_logic.specs.InForce.{faults_at, latched_under, mark_at}
 use Rattle.lvdc_logic.specs.Latching.{copies_in, new_latches, after_steps}
 use Rattle.lvdc_logic.specs.Counts.{counts_in}
 use Rattle.lvdc_logic.specs.declared.triples.Triples.{Triples}
-use Rattle.lvdc_logic.proofs.Commits.{steps_are}
+use Rattle.lvdc_logic.proofs.Commits.{next_is, steps_are}
 use Rattle.lvdc_logic.proofs.Differing.{counted_at_most, agreed_counted}
 use Rattle.lvdc_logic.proofs.Under.{latched_is}
 use Rattle.lvdc_logic.proofs.logic.Logic.step_under.Goals as goal
@@ -20,7 +20,7 @@ returns-then-force-clause-copies c script step events in_force =
     let force = c.args.force.now in
     let voted = c.args.voted.now in
     rw (← c.self.view_is)
-    (ap copies_in (c.settle.ensures.value ∙ ap (λ (t : Triples). after_steps t voted) c.latch_named.ensures.value)
+    (ap copies_in (c.settle.ensures.value ∙ next_is c.latch_named.new.self voted c.of-next.result c.of-next.ensures ∙ ap (λ (t : Triples). after_steps t voted) c.latch_named.ensures.value)
     ∙ steps_are script step t (mark_at force.marks) order voted (λ n. latched_under (faults_at force.copies n) t voted n) c.self.invariant.0
     (latched_is c.harm_suffices.ensures script step force t voted c.self.invariant.1 events in_force)
     (λ n h e. c.latch_named.ensures.full.all n h) (λ n h off. in_force.others n h (ap (λ (any : Bool). any && mark_at force.marks n) c.if-force.true ∙ off)))
@@ -37,7 +37,7 @@ returns-else-force-clause-copies c script step events in_force =
     let voted = c.args.voted.now in
     let none = λ (n : ℕ). false in
     rw (← c.self.view_is)
-    (ap copies_in c.renew.ensures.value
+    (ap copies_in (c.renew.ensures.value ∙ next_is t voted c.of-next.result c.of-next.ensures)
     ∙ steps_are script step t none [] voted (new_latches script step t voted) c.self.invariant.0 (λ n h. refl) (λ n h e. absurd (false≢true e))
     (λ n h off. in_force.others n h (ap (λ (any : Bool). any && mark_at force.marks n) c.if-force.false)))
 
