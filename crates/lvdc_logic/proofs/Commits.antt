@@ -44,7 +44,7 @@ three_settled t named order first words next fresh all h =
     ) refl
 
 -- a copy to which a script does nothing latches its row of the votes
-untouched_copy : (script : List Event) (step number copy : ℕ) (row : Bus → List ℕ) (old : List ℕ) (copies : List Copies) (voted : Bus) → IsUntouched script step number copy
+pub untouched_copy : (script : List Event) (step number copy : ℕ) (row : Bus → List ℕ) (old : List ℕ) (copies : List Copies) (voted : Bus) → IsUntouched script step number copy
     → row voted ≡ next_copy script step number copy row old copies voted
 untouched_copy script step number copy row old copies voted h = rw (h.heard, h.unhurt) refl
 

@@ -4,6 +4,7 @@ pub mod Listed
 pub mod Numbers
 pub mod Under
 pub mod Commits
+pub mod Harmed
 mod Rows
 pub mod Joins
 pub mod PartLaws

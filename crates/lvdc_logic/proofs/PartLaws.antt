@@ -91,7 +91,7 @@ part_events script from to left is ends = by (ltb left 256) refl where
 
 -- ---- what is known
 
-neither : (a b : Bool) → (a || b) ≡ false → (a ≡ false) × (b ≡ false)
+pub neither : (a b : Bool) → (a || b) ≡ false → (a ≡ false) × (b ≡ false)
 neither false b h = (refl, h)
 neither true b h = absurd (false≢true (sym h))
 
@@ -161,12 +161,14 @@ pub known_by : (script : List Event) (t : ℕ) (k : Known) (shares : List Share)
     → ((n : ℕ) → n < 21 → mark_at k.force.marks n ≡ (share_at shares n).named)
     → ((n : ℕ) → n < 21 → faults_at k.force.copies n ≡ faults_in (share_at shares n))
     → k.force.any ≡ list_any (λ (mark : Bool). mark) k.force.marks
+    → k.force.deaf ≡ list_any (λ (f : Faults). f.deaf) k.force.copies
     → k.wrong ≡ find (two_marked k.force.marks) (1 ∷ 2 ∷ 3 ∷ 4 ∷ 5 ∷ 6 ∷ 7 ∷ [])
     → IsKnown script t k
-known_by script t k shares right marks copies any wrong =
+known_by script t k shares right marks copies any deaf wrong =
     record {
       force =
           record {
+            deaf = deaf;
             copies = λ n h. copies n h ∙ ap faults_in (right n h) ∙ faults_are script t (n / 3 + 1) (n % 3 + 1);
             others = λ n h off. untouched n (sym (are n h) ∙ unnamed k.force.any (mark_at k.force.marks n) (λ e. any ∙ any_marked k.force.marks n e) off);
           };

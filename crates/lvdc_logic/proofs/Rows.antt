@@ -33,6 +33,6 @@ two_events_of_one_copy = (refl, refl)
 -- copy 2 of DECODER, number 7, is named where it is marked and any copy is named at all
 named_copy :
     let marks = false ∷ false ∷ false ∷ false ∷ false ∷ false ∷ false ∷ true ∷ replicate 13 false in
-    let force : InForce = record { any = true; marks = marks; copies = replicate 21 no_faults } in
+    let force : InForce = record { any = true; deaf = false; marks = marks; copies = replicate 21 no_faults } in
     (is_named force 7 ≡ true) × (is_named force 6 ≡ false) × (is_named (record force { any = false }) 7 ≡ false)
 named_copy = (refl, refl, refl)

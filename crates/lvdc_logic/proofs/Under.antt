@@ -20,7 +20,7 @@ use Rattle.lvdc_logic.proofs.HurtsFit.{hurts_fit}
 use Rattle.lvdc_logic.proofs.Numbers.{seven}
 
 -- what all hurts come to does what they do
-abbrev HarmSuffices : Type 0
+abbrev pub HarmSuffices : Type 0
 HarmSuffices =
     (hurts : List Hurt) (old next : List ℕ) → length old ≤ 5 → length next ≡ length old → All (FitsLatches (length old)) hurts
     → harmed old next (harm_of hurts) ≡ latched_by old next hurts

@@ -1,7 +1,12 @@
 -- What is in force on each of the 21 copies: what the active events of a step come to. Copy n is copy n % 3 of module n / 3, both
 -- counted from 0.
-use Rattle.std.specs.Prelude.{◌≡◌, ℕ, ◌+◌, ◌/◌, ◌%◌, ◌<◌, Bool, false, ◌&&◌, List, replicate, slice_index_or}
-use Rattle.lvdc_vote.specs.Harms.{no_harm, harm_of, harmed}
+use Rattle.std.specs.Prelude.{◌≡◌, ℕ, ◌+◌, ◌/◌, ◌%◌, ◌<◌, Bool, false, ◌&&◌, if◌then◌else◌, Option, Some, None, List, replicate, slice_index_or}
+use Rattle.std.specs.List.{list_any}
+use Rattle.lvdc_vote.specs.Copies.{Copies, settled}
+use Rattle.lvdc_vote.specs.Harms.{no_harm, harm_of, harmed, harmed_by}
+use Rattle.lvdc_vote.specs.declared.harm.Harm.{Harm}
+use Rattle.lvdc_modules.specs.States.{timer_latches, locator_latches, decoder_latches, selector_latches, accumulator_latches, multiplier_latches, exchange_latches}
+use Rattle.lvdc_modules.specs.declared.next.Next.{Next}
 use Rattle.lvdc_modules.specs.declared.bus.Bus.{Bus}
 use Rattle.lvdc_fault.specs.Script.{is_deaf}
 use Rattle.lvdc_fault.specs.declared.event.Event.{Event}
@@ -22,11 +27,15 @@ faults_at copies n = slice_index_or copies n no_faults
 
 -- nothing is in force
 abbrev pub nothing_in_force : InForce
-nothing_in_force = record { any = false; marks = replicate 21 false; copies = replicate 21 no_faults }
+nothing_in_force = record { any = false; deaf = false; marks = replicate 21 false; copies = replicate 21 no_faults }
 
 -- whether a copy is marked, by its number
 abbrev pub mark_at : List Bool → ℕ → Bool
 mark_at marks n = slice_index_or marks n false
+
+-- what is wrong with a copy that is marked, by its number; nothing where it isn't
+abbrev pub harm_on : InForce → ℕ → Option Harm
+harm_on f n = if mark_at f.marks n then Some (faults_at f.copies n).harm else None
 
 -- whether a copy is named by what is in force: any is, and it is marked
 abbrev pub is_named : InForce → ℕ → Bool
@@ -40,11 +49,35 @@ faults_on script step n =
       harm = harm_of (hurts_on step (n / 3 + 1) (n % 3 + 1) script);
     }
 
--- this is in force in a step of a script: on each copy what the script does to it, and where a copy isn't named, nothing
+-- this is in force in a step of a script: on each copy what the script does to it, where a copy isn't named, nothing, and whether any
+-- is deaf
 pub record IsInForce (script : List Event) (step : ℕ) (f : InForce) : Type 0 where
+  pub deaf : f.deaf ≡ list_any (λ c. c.deaf) f.copies
   pub copies : (n : ℕ) → n < 21 → faults_at f.copies n ≡ faults_on script step n
   pub others : (n : ℕ) → n < 21 → is_named f n ≡ false → IsUntouched script step (n / 3 + 1) (n % 3 + 1)
 
 -- what a copy latches on which this is in force, in a step in which all modules have these copies, and their votes are on this bus
 unfoldable pub latched_under : Faults → Triples → Bus → ℕ → List ℕ
 latched_under f t voted n = harmed (latches_in t n) (row_of (n / 3) (inputs f.deaf (copies_in t) (n % 3 + 1) voted)) f.harm
+
+-- the copies of a module, numbered from the first on, in the next step of copies that don't wait for one another: each that is named has
+-- what it latches under what is wrong with it, where these words follow, and every other one has these words
+abbrev pub three_harmed : InForce → ℕ → Copies → List ℕ → Copies
+three_harmed f first t next =
+    settled
+    (harmed_by (harm_on f first) t.one next)
+    (harmed_by (harm_on f (first + 1)) t.two next)
+    (harmed_by (harm_on f (first + 2)) t.three next)
+
+-- those of all modules, where these states follow
+abbrev pub after_harms : InForce → Triples → Next → Triples
+after_harms f t n =
+    record {
+      timer = three_harmed f 0 t.timer (timer_latches n.timer);
+      locator = three_harmed f 3 t.locator (locator_latches n.locator);
+      decoder = three_harmed f 6 t.decoder (decoder_latches n.decoder);
+      selector = three_harmed f 9 t.selector (selector_latches n.selector);
+      accumulator = three_harmed f 12 t.accumulator (accumulator_latches n.accumulator);
+      multiplier = three_harmed f 15 t.multiplier (multiplier_latches n.multiplier);
+      exchange = three_harmed f 18 t.exchange (exchange_latches n.exchange);
+    }

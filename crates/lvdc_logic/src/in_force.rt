@@ -1,7 +1,8 @@
 //! What is in force on each copy of the logic: what the active events come to, however many they are.
 
 ghost use Rattle.std.specs.Prelude.{◌≡◌, ℕ, ◌<◌};
-ghost use Rattle.lvdc_logic.specs.InForce.{faults_at, mark_at, no_faults, nothing_in_force};
+ghost use Rattle.std.specs.Option.{option_copied};
+ghost use Rattle.lvdc_logic.specs.InForce.{faults_at, harm_on, mark_at, no_faults, nothing_in_force};
 
 use lvdc_vote::Harm;
 
@@ -25,11 +26,12 @@ impl Faults {
     }
 }
 
-/// What is in force on all copies, in as much room for a thousand events as for one: whether an event names any, which copies these
-/// are, and what is in force on each. Copy `n` is copy `n % 3` of module `n / 3`, both counted from 0.
+/// What is in force on all copies, in as much room for a thousand events as for one: whether an event names any, whether one makes any
+/// deaf, which copies are named, and what is in force on each. Copy `n` is copy `n % 3` of module `n / 3`, both counted from 0.
 #[derive(Clone, Copy, Debug)]
 pub struct InForce {
     pub(crate) any: bool,
+    pub(crate) deaf: bool,
     pub(crate) marks: [bool; 21],
     pub(crate) copies: [Faults; 21],
 }
@@ -41,6 +43,7 @@ impl InForce {
     {
         InForce {
             any: false,
+            deaf: false,
             marks: [false; 21],
             copies: [Faults::none(); 21],
         }
@@ -60,5 +63,17 @@ impl InForce {
         ensures { result.now ≡ faults_at self.now.copies number }
     {
         &self.copies[usize::from(number)]
+    }
+
+    /// What is wrong with the copy of this number, where it is marked.
+    pub(crate) fn harm_on(&self, number: u8) -> Option<&Harm>
+        requires { number < 21 }
+        ensures { option_copied result ≡ harm_on self.now number }
+    {
+        if self.is_marked(number) {
+            Some(&self.on_copy(number).harm)
+        } else {
+            None
+        }
     }
 }

@@ -36,11 +36,13 @@ impl Known {
     {
         let shares = totals(parts);
         let marks = marks_of(&shares);
+        let copies = copies_of(&shares);
         Known {
             force: InForce {
                 any: any_of(&marks),
+                deaf: any_deaf(&copies),
                 marks,
-                copies: copies_of(&shares),
+                copies,
             },
             wrong: lowest_of(&marks),
         }
@@ -99,6 +101,13 @@ fn any_of(marks: &[bool; 21]) -> bool
     ensures { result ≡ list_any (λ mark. mark) marks.now }
 {
     marks.iter().any(|mark| *mark)
+}
+
+/// Is any copy deaf?
+fn any_deaf(copies: &[Faults; 21]) -> bool
+    ensures { result ≡ list_any (λ copy. copy.deaf) copies.now }
+{
+    copies.iter().any(|copy| copy.deaf)
 }
 
 /// The lowest module with two marked copies.

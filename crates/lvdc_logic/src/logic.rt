@@ -69,12 +69,14 @@ impl Logic {
         ensures differed { (most : ℕ) → DifferedAtMost most self.old.counts → DifferedAtMost (most + 1) self.new.counts }
     {
         harm_suffices();
-        let next = Next::of(voted);
-        if force.any {
-            self.triples.latch_named(order, force, voted, &next);
-            self.triples.settle(next, &mut self.counts);
+        if !force.any {
+            self.triples.renew(Next::of(voted));
+        } else if force.deaf {
+            self.triples.latch_named(order, force, voted);
+            self.triples.settle(voted, &mut self.counts);
         } else {
-            self.triples.renew(next);
+            self.triples
+                .renew_under(force, Next::of(voted), &mut self.counts);
         }
     }
 

@@ -1,12 +1,11 @@
 ghost use Rattle.std.specs.Prelude.{◌≡◌, ℕ, ◌≤◌, ◌<◌, ◌+◌, ◌/◌, ◌%◌, ◌^◌, None, map, slice_index};
-ghost use Rattle.lvdc_vote.specs.Copies.{copy_of, shadow_of, vote_of, after_settle, IsFullOrder, IsSized};
+ghost use Rattle.lvdc_vote.specs.Copies.{copy_of, shadow_of, vote_of, after_settle, IsFresh, IsFullOrder, IsSized};
 ghost use Rattle.lvdc_vote.specs.Harms.{harmed};
-ghost use Rattle.lvdc_modules.specs.Next.{IsNext};
 ghost use Rattle.lvdc_modules.specs.Rows.{bus_of, start_latches};
 ghost use Rattle.lvdc_model.specs.Voted.{counted, counted_three, thrice};
 ghost use Rattle.lvdc_logic.specs.Counts.{counts_in};
-ghost use Rattle.lvdc_logic.specs.InForce.{faults_at, latched_under, mark_at};
-ghost use Rattle.lvdc_logic.specs.Latching.{copies_in, row_of, latches_in, triple_in, after_number, after_next, after_numbers, AllAgree, AllFresh, AllSized};
+ghost use Rattle.lvdc_logic.specs.InForce.{after_harms, three_harmed, faults_at, latched_under, mark_at};
+ghost use Rattle.lvdc_logic.specs.Latching.{copies_in, row_of, latches_in, triple_in, after_next, after_number, after_numbers, after_steps, AllAgree, AllFresh, AllSized};
 ghost use Rattle.lvdc_logic.specs.Logic.{DifferedAtMost};
 
 use crate::counts::Counts;
@@ -107,75 +106,50 @@ impl Triples {
         }
     }
 
-    /// Copy `number % 3` of module `number / 3`, both counted from 0, latches what follows from the votes, or where it is deaf from the
-    /// copies of its own number.
-    fn latch_next(&mut self, number: u8, faults: &Faults, voted: &Bus, next: &Next)
+    /// Copy `number % 3` of module `number / 3`, both counted from 0, latches, from the votes, or where it is deaf from the copies
+    /// of its own number.
+    fn latch_next(&mut self, number: u8, faults: &Faults, voted: &Bus)
         requires number { number < 21 }
         requires fresh { shadow_of (triple_in self.old number) (number % 3) ≡ None }
-        requires next { IsNext voted.now next.now }
         ensures { self.new ≡ after_number self.old number (latched_under faults.now self.old voted.now number) }
     {
         if faults.deaf {
             let heard = self.copied_bus(number % 3, voted.memory, voted.port);
-            self.latch_from(number, &heard, &faults.harm);
+            self.latch(number, &heard, &faults.harm);
         } else {
-            self.latch(number, next, &faults.harm);
+            self.latch(number, voted, &faults.harm);
         }
     }
 
-    /// The same copy latches what follows from this bus.
-    fn latch_from(&mut self, number: u8, bus: &Bus, harm: &Harm)
+    /// The same copy latches from this bus.
+    fn latch(&mut self, number: u8, bus: &Bus, harm: &Harm)
         requires number { number < 21 }
         requires fresh { shadow_of (triple_in self.old number) (number % 3) ≡ None }
         ensures { self.new ≡ after_number self.old number (harmed (latches_in self.old number) (row_of (number / 3) bus.now) harm.now) }
     {
         let copy = number % 3;
         match number / 3 {
-            0 => self.timer.latch_under(copy, &Timer::next(bus), harm),
-            1 => self.locator.latch_under(copy, &Locator::next(bus), harm),
-            2 => self.decoder.latch_under(copy, &Decoder::next(bus), harm),
-            3 => self.selector.latch_under(copy, &Selector::next(bus), harm),
-            4 => self
-                .accumulator
-                .latch_under(copy, &Accumulator::next(bus), harm),
-            5 => self
-                .multiplier
-                .latch_under(copy, &Multiplier::next(bus), harm),
-            _ => self.exchange.latch_under(copy, &Exchanger::next(bus), harm),
-        }
-    }
-
-    /// The same copy latches what follows for its module.
-    fn latch(&mut self, number: u8, next: &Next, harm: &Harm)
-        requires number { number < 21 }
-        requires fresh { shadow_of (triple_in self.old number) (number % 3) ≡ None }
-        ensures { (bus : Bus) → IsNext bus next.now
-            → self.new ≡ after_number self.old number (harmed (latches_in self.old number) (row_of (number / 3) bus) harm.now) }
-    {
-        let copy = number % 3;
-        match number / 3 {
-            0 => self.timer.latch_under(copy, &next.timer, harm),
-            1 => self.locator.latch_under(copy, &next.locator, harm),
-            2 => self.decoder.latch_under(copy, &next.decoder, harm),
-            3 => self.selector.latch_under(copy, &next.selector, harm),
-            4 => self.accumulator.latch_under(copy, &next.accumulator, harm),
-            5 => self.multiplier.latch_under(copy, &next.multiplier, harm),
-            _ => self.exchange.latch_under(copy, &next.exchange, harm),
+            0 => self.timer.latch_under(copy, bus, harm),
+            1 => self.locator.latch_under(copy, bus, harm),
+            2 => self.decoder.latch_under(copy, bus, harm),
+            3 => self.selector.latch_under(copy, bus, harm),
+            4 => self.accumulator.latch_under(copy, bus, harm),
+            5 => self.multiplier.latch_under(copy, bus, harm),
+            _ => self.exchange.latch_under(copy, bus, harm),
         }
     }
 
     /// The copies that are marked latch by themselves in this order, each with what is in force on it. What comes of it doesn't depend on the
     /// order.
-    pub fn latch_named(&mut self, order: &Order, force: &InForce, voted: &Bus, next: &Next)
+    pub fn latch_named(&mut self, order: &Order, force: &InForce, voted: &Bus)
         requires fresh { AllFresh self.old }
-        requires next { IsNext voted.now next.now }
         ensures value { self.new ≡ after_numbers self.old (mark_at force.now.marks) order.now
             (λ n. latched_under (faults_at force.now.copies n) self.old voted.now n) }
         ensures full { IsFullOrder 21 order.now }
     {
         for number in order.copies() {
             if force.is_marked(*number) {
-                self.latch_next(*number, force.on_copy(*number), voted, next);
+                self.latch_next(*number, force.on_copy(*number), voted);
             }
         }
     }
@@ -196,40 +170,110 @@ impl Triples {
         self.exchange.renew(next.exchange);
     }
 
-    /// What each copy latched takes its place, and that of a copy that hasn't latched what follows for its module. Each copy that differs
-    /// from the new vote is counted.
-    pub fn settle(&mut self, next: Next, counts: &mut Counts)
+    /// No copy is deaf: each that is marked latches what follows for its module under what is wrong with it, and every other one has what
+    /// follows. No copy waits for another, so there is no order. Each copy that differs from the new vote is counted.
+    pub fn renew_under(&mut self, force: &InForce, next: Next, counts: &mut Counts)
+        requires fresh { AllFresh self.old }
         requires differed { DifferedAtMost (2 ^ 63) (counts_in counts.old) }
-        ensures value { self.new ≡ after_next self.old next }
+        ensures value { self.new ≡ after_harms force.now self.old next }
         ensures counts { counts_in counts.new ≡ counted (copies_in self.new) (counts_in counts.old) }
         ensures sized { AllSized self.new }
     {
-        settle(&mut self.timer, &mut counts.timer, next.timer);
-        settle(&mut self.locator, &mut counts.locator, next.locator);
-        settle(&mut self.decoder, &mut counts.decoder, next.decoder);
-        settle(&mut self.selector, &mut counts.selector, next.selector);
-        settle(
+        renew(&mut self.timer, &mut counts.timer, force, 0, next.timer);
+        renew(
+            &mut self.locator,
+            &mut counts.locator,
+            force,
+            3,
+            next.locator,
+        );
+        renew(
+            &mut self.decoder,
+            &mut counts.decoder,
+            force,
+            6,
+            next.decoder,
+        );
+        renew(
+            &mut self.selector,
+            &mut counts.selector,
+            force,
+            9,
+            next.selector,
+        );
+        renew(
             &mut self.accumulator,
             &mut counts.accumulator,
+            force,
+            12,
             next.accumulator,
         );
-        settle(
+        renew(
             &mut self.multiplier,
             &mut counts.multiplier,
+            force,
+            15,
             next.multiplier,
         );
-        settle(&mut self.exchange, &mut counts.exchange, next.exchange);
+        renew(
+            &mut self.exchange,
+            &mut counts.exchange,
+            force,
+            18,
+            next.exchange,
+        );
+    }
+
+    /// What each copy latched takes its place, and that of a copy that hasn't latched what follows from the votes, which is worked
+    /// out once for a module. Each copy that differs from the new vote is counted.
+    pub fn settle(&mut self, voted: &Bus, counts: &mut Counts)
+        requires differed { DifferedAtMost (2 ^ 63) (counts_in counts.old) }
+        ensures value { self.new ≡ after_steps self.old voted.now }
+        ensures counts { counts_in counts.new ≡ counted (copies_in self.new) (counts_in counts.old) }
+        ensures sized { AllSized self.new }
+    {
+        settle(&mut self.timer, &mut counts.timer, voted);
+        settle(&mut self.locator, &mut counts.locator, voted);
+        settle(&mut self.decoder, &mut counts.decoder, voted);
+        settle(&mut self.selector, &mut counts.selector, voted);
+        settle(&mut self.accumulator, &mut counts.accumulator, voted);
+        settle(&mut self.multiplier, &mut counts.multiplier, voted);
+        settle(&mut self.exchange, &mut counts.exchange, voted);
     }
 }
 
-/// The next copies of a module: what each latched, or this state; and their counts.
-fn settle<M: LogicModule>(triple: &mut Triple<M>, counts: &mut [u64; 3], next: M::State)
+/// The next copies of a module: what each latched, or the state that follows from the votes; and their counts.
+fn settle<M: LogicModule>(triple: &mut Triple<M>, counts: &mut [u64; 3], voted: &M::Bus)
     requires differed { (c : ℕ) → slice_index counts.old c ≤ 2 ^ 63 }
-    ensures value { triple.new ≡ after_settle triple.old (M.State.latches next) }
+    ensures value { triple.new ≡ after_settle triple.old (M.next_of voted.now) }
     ensures counts { counts.new ≡ counted_three triple.new counts.old }
     ensures sized { IsSized M.State.LATCHES triple.new }
 {
-    triple.settle(next);
+    triple.settle(M::next(voted));
+    *counts = counted_three(triple, *counts);
+}
+
+/// The next copies of a module, numbered from the first on, where this state follows; and their counts.
+fn renew<M: LogicModule>(
+    triple: &mut Triple<M>,
+    counts: &mut [u64; 3],
+    force: &InForce,
+    first: u8,
+    next: M::State,
+)
+    requires first { first + 2 < 21 }
+    requires fresh { IsFresh triple.old }
+    requires differed { (c : ℕ) → slice_index counts.old c ≤ 2 ^ 63 }
+    ensures value { triple.new ≡ three_harmed force.now first triple.old (M.State.latches next) }
+    ensures counts { counts.new ≡ counted_three triple.new counts.old }
+    ensures sized { IsSized M.State.LATCHES triple.new }
+{
+    triple.renew_under(
+        next,
+        force.harm_on(first),
+        force.harm_on(first + 1),
+        force.harm_on(first + 2),
+    );
     *counts = counted_three(triple, *counts);
 }
 

@@ -1,5 +1,5 @@
 -- What many hurts of one copy come to: whether it lags, and one patch for each latch.
-use Rattle.std.specs.Prelude.{ℕ, List, [], ◌∷◌, true, false, if◌then◌else◌, replicate, slice_index, slice_index_or, slice_set}
+use Rattle.std.specs.Prelude.{ℕ, Option, Some, None, List, [], ◌∷◌, true, false, if◌then◌else◌, replicate, slice_index, slice_index_or, slice_set}
 use Rattle.lvdc_vote.specs.Bits.{flipped, forced}
 use Rattle.lvdc_vote.specs.declared.harm.Patch.{Patch}
 use Rattle.lvdc_vote.specs.declared.harm.Harm.{Harm}
@@ -56,3 +56,8 @@ harm_of hurts = harm_after no_harm hurts
 -- what a copy latches: the next latches, or where it lags its old ones, each with its patch
 abbrev pub harmed : List ℕ → List ℕ → Harm → List ℕ
 harmed old next h = patched_all h.patches (if h.lags then old else next)
+
+-- the same of a copy that latches by itself, or with the others: then it latches the next latches
+abbrev pub harmed_by : Option Harm → List ℕ → List ℕ → List ℕ
+harmed_by (Some h) old next = harmed old next h
+harmed_by None old next = next

@@ -1,10 +1,10 @@
-ghost use Rattle.std.specs.Prelude.{◌≡◌, ℕ, ◌<◌, slice_get, Some, None, true, false, not, ◌&&◌, IsSome, All, is_some, unwrap_or};
-ghost use Rattle.std.specs.Option.{option_map};
+ghost use Rattle.std.specs.Prelude.{◌≡◌, ℕ, ◌<◌, slice_get, Some, None, true, false, not, ◌&&◌, IsSome, All, is_some, length, unwrap_or};
+ghost use Rattle.std.specs.Option.{option_copied, option_map};
 ghost use Rattle.lvdc_vote.specs.Bits.{TwoAre};
 ghost use Rattle.lvdc_vote.specs.Latches.{latched_by, FitsLatches, IsMajority};
 ghost use Rattle.lvdc_vote.specs.Copies.{settled, copy_of, shadow_of, after_latch, after_commit, after_settle, vote_of, differs_of, IsFresh, IsSized};
 ghost use Rattle.lvdc_vote.specs.Differences.{kept_of, shadow_by, IsKept};
-ghost use Rattle.lvdc_vote.specs.Harms.{harmed};
+ghost use Rattle.lvdc_vote.specs.Harms.{harmed, harmed_by};
 
 use crate::harm::harmed_state;
 use crate::{Harm, Hurt, LogicModule, Vote, latched_state};
@@ -116,6 +116,66 @@ impl<M: LogicModule> Triple<M> {
         self.three = None;
     }
 
+    /// Each copy that latches by itself has what it latches under what is wrong with it, where this state follows; every other one has
+    /// this state. Where at most one latches by itself, the state is the vote.
+    pub fn renew_under(
+        &mut self,
+        state: M::State,
+        one: Option<&Harm>,
+        two: Option<&Harm>,
+        three: Option<&Harm>,
+    )
+        requires { IsFresh self.old }
+        ensures value { self.new ≡ settled
+            (harmed_by (option_copied one.entry) self.old.one (M.State.latches state))
+            (harmed_by (option_copied two.entry) self.old.two (M.State.latches state))
+            (harmed_by (option_copied three.entry) self.old.three (M.State.latches state)) }
+        ensures sized { IsSized M.State.LATCHES self.new }
+    {
+        match (one, two, three) {
+            (None, None, None) => self.renew(state),
+            (Some(harm), None, None) => {
+                let one = self.beside(0, &state, harm);
+                self.keep(one, None, None, state);
+            }
+            (None, Some(harm), None) => {
+                let two = self.beside(1, &state, harm);
+                self.keep(None, two, None, state);
+            }
+            (None, None, Some(harm)) => {
+                let three = self.beside(2, &state, harm);
+                self.keep(None, None, three, state);
+            }
+            _ => {
+                let one = self.latched_by(0, &state, one);
+                let two = self.latched_by(1, &state, two);
+                let three = self.latched_by(2, &state, three);
+                *self = Triple::from_copies(one, two, three);
+            }
+        }
+    }
+
+    /// What a copy latches where this state follows, by itself or with the others.
+    fn latched_by(&self, copy: u8, state: &M::State, harm: Option<&Harm>) -> M::State
+        requires { copy < 3 }
+        ensures { M.State.latches result ≡ harmed_by (option_copied harm.entry) (copy_of self.now copy) (M.State.latches state.now) }
+    {
+        match harm {
+            Some(harm) => harmed_state(self.copy(copy), state, harm),
+            None => state.copied(),
+        }
+    }
+
+    /// What is kept beside the state that follows of what a copy latches by itself.
+    fn beside(&self, copy: u8, state: &M::State, harm: &Harm) -> Option<M::State>
+        requires { copy < 3 }
+        ensures kept { option_map M.State.latches result
+            ≡ kept_of (harmed (copy_of self.now copy) (M.State.latches state.now) harm.now) (M.State.latches state.now) }
+        ensures sized { length (harmed (copy_of self.now copy) (M.State.latches state.now) harm.now) ≡ M.State.LATCHES }
+    {
+        kept(harmed_state(self.copy(copy), state, harm), state)
+    }
+
     /// These copies, of which none has latched.
     pub fn from_copies(one: M::State, two: M::State, three: M::State) -> Triple<M>
         ensures value { result ≡ settled (M.State.latches one) (M.State.latches two) (M.State.latches three) }
@@ -152,13 +212,13 @@ impl<M: LogicModule> Triple<M> {
         self.put_shadow(copy, shadow);
     }
 
-    /// The same under what the hurts come to, where this is the state that follows.
-    pub fn latch_under(&mut self, copy: u8, next: &M::State, harm: &Harm)
+    /// The same under what the hurts come to.
+    pub fn latch_under(&mut self, copy: u8, bus: &M::Bus, harm: &Harm)
         requires copy { copy < 3 }
         requires fresh { shadow_of self.old copy ≡ None }
-        ensures { self.new ≡ after_latch self.old copy (harmed (copy_of self.old copy) (M.State.latches next.now) harm.now) }
+        ensures { self.new ≡ after_latch self.old copy (harmed (copy_of self.old copy) (M.next_of bus.now) harm.now) }
     {
-        let shadow = harmed_state(self.copy(copy), next, harm);
+        let shadow = harmed_state(self.copy(copy), &M::next(bus), harm);
         self.put_shadow(copy, shadow);
     }
 

@@ -5,6 +5,6 @@ use Rattle.lvdc_logic.proofs.known.Known.of_parts.Goals as goal
 
 pub returns : goal.returns
 returns c script step events right =
-    let known : Known = record { force = record { any = c.any_of.result; marks = c.marks_of-marks.result; copies = c.copies_of.result }; wrong = c.lowest_of.result } in
-    known_by script step known c.totals-shares.result (λ n h. c.totals-shares.ensures n h ∙ right n h) c.marks_of-marks.ensures c.copies_of.ensures c.any_of.ensures
+    let known : Known = record { force = record { any = c.any_of.result; deaf = c.any_deaf.result; marks = c.marks_of-marks.result; copies = c.copies_of-copies.result }; wrong = c.lowest_of.result } in
+    known_by script step known c.totals-shares.result (λ n h. c.totals-shares.ensures n h ∙ right n h) c.marks_of-marks.ensures c.copies_of-copies.ensures c.any_of.ensures c.any_deaf.ensures
     c.lowest_of.ensures

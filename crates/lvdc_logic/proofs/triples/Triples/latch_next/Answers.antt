@@ -6,8 +6,8 @@ pub returns-then-faults : goal.returns-then-faults
 unfolding latched_under
 returns-then-faults c =
     let own : c.args.number % 3 + 1 - 1 ≡ c.args.number % 3 = omega arith in
-    rw (c.latch_from.ensures, c.copied_bus-heard.ensures, c.if-faults.true, own) refl
+    rw (c.latch.ensures, c.copied_bus-heard.ensures, c.if-faults.true, own) refl
 
 pub returns-else-faults : goal.returns-else-faults
 unfolding latched_under
-returns-else-faults c = rw (c.latch.ensures c.args.voted.now c.requires.next, c.if-faults.false) refl
+returns-else-faults c = rw (c.latch-else-faults.ensures, c.if-faults.false) refl
