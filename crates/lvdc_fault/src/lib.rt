@@ -3,6 +3,7 @@
 #![tactic(auto)]
 
 mod active;
+mod copies;
 mod event;
 mod laws;
 mod ledger;
@@ -13,6 +14,7 @@ mod verdict;
 mod wrong;
 
 pub use active::Active;
+pub use copies::number_of_copy;
 pub use event::Event;
 pub use laws::{active_suffice, inactive_idles, none_wrong, same_actives};
 pub use ledger::Ledger;

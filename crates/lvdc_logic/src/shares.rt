@@ -1,14 +1,14 @@
 //! What the events of a part of a script do to one copy: as small for many events as for one, and of two parts that follow each
 //! other it is told by what each of them does.
 
-ghost use Rattle.std.specs.Prelude.{◌≡◌, ℕ, ◌+◌, ◌/◌, ◌%◌, ◌<◌, ◌||◌, true, length, IfSome};
+ghost use Rattle.std.specs.Prelude.{◌≡◌, ℕ, ◌+◌, ◌/◌, ◌%◌, ◌<◌, ◌||◌, true, length};
 ghost use Rattle.lvdc_vote.specs.Harms.{harm_and, no_patch};
 ghost use Rattle.lvdc_vote.specs.declared.hurt.Hurt.TheVariants as hurts;
-ghost use Rattle.lvdc_fault.specs.Script.{acts_on, is_number, makes_wrong};
-ghost use Rattle.lvdc_fault.specs.Events.{IsCopy, IsEvent};
+ghost use Rattle.lvdc_fault.specs.Script.{makes_wrong};
+ghost use Rattle.lvdc_fault.specs.Events.{IsEvent};
 ghost use Rattle.lvdc_logic.specs.Shares.{no_share, harm_in, share_with, share_at, share_next, share_join, patch_join};
 
-use lvdc_fault::Event;
+use lvdc_fault::{Event, number_of_copy};
 use lvdc_vote::{Harm, Hurt, Patch, flipped, forced};
 use lvdc_word::Word;
 
@@ -171,61 +171,8 @@ pub(crate) fn add_event(event: &Event, step: u64, shares: &mut [Share; 21])
     ensures count { length shares.new ≡ 21 }
     ensures shares { (n : ℕ) → n < 21 → share_at shares.new n ≡ share_next step (n / 3 + 1) (n % 3 + 1) (share_at shares.old n) event.now }
 {
-    match acted(event, step) {
+    match number_of_copy(event, step) {
         Some(number) => shares[number] = shares[number].and(event),
         None => {}
     }
-}
-
-/// The number of the copy that an event acts on in a step, if it acts on one: copy `n` is copy `n % 3` of module `n / 3`, both counted
-/// from 0.
-fn acted(event: &Event, step: u64) -> Option<usize>
-    requires { IsEvent event.now }
-    ensures within { IfSome result (λ number. number < 21) }
-    ensures acts { (n : ℕ) → n < 21 → makes_wrong step (n / 3 + 1) (n % 3 + 1) event.now ≡ is_number n result }
-{
-    match *event {
-        Event::Flip {
-            module,
-            copy,
-            first,
-            last,
-            ..
-        }
-        | Event::Force {
-            module,
-            copy,
-            first,
-            last,
-            ..
-        }
-        | Event::Lag {
-            module,
-            copy,
-            first,
-            last,
-        }
-        | Event::Deaf {
-            module,
-            copy,
-            first,
-            last,
-        } => number_within(module, copy, first, last, step),
-        Event::Damage { .. } | Event::Stick { .. } | Event::Dead { .. } => None,
-    }
-}
-
-/// The number of this copy of this module, both counted from 1, where a step lies from the first to the last.
-fn number_within(number: u8, copy: u8, first: u64, last: u64, step: u64) -> Option<usize>
-    requires { IsCopy number copy }
-    ensures within { IfSome result (λ found. found < 21) }
-    ensures acts { (n : ℕ) → n < 21 → acts_on number copy first last step (n / 3 + 1) (n % 3 + 1) ≡ is_number n result }
-{
-    if step < first {
-        return None;
-    }
-    if last < step {
-        return None;
-    }
-    Some(3 * usize::from(number - 1) + usize::from(copy - 1))
 }

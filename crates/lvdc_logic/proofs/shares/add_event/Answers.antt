@@ -8,8 +8,8 @@ use Rattle.lvdc_logic.proofs.shares.add_event.Goals as goal
 pub returns-in-Some-clause-shares : goal.returns-in-Some-clause-shares
 returns-in-Some-clause-shares c n h =
     added c.args.step n c.in-Some.number c.args.shares.now c.args.event.now c.and.result _ (search rules) c.in-Some.ensures.within
-    (c.acted.ensures.acts n h ∙ ap (is_number n) c.in-Some.is) c.and.ensures
+    (c.number_of_copy.ensures.acts n h ∙ ap (is_number n) c.in-Some.is) c.and.ensures
 
 pub returns-in-None-clause-shares : goal.returns-in-None-clause-shares
 returns-in-None-clause-shares c n h =
-    sym (idle_next c.args.step (n / 3 + 1) (n % 3 + 1) (share_at c.args.shares.now n) c.args.event.now (c.acted.ensures.acts n h ∙ ap (is_number n) c.in-None.is))
+    sym (idle_next c.args.step (n / 3 + 1) (n % 3 + 1) (share_at c.args.shares.now n) c.args.event.now (c.number_of_copy.ensures.acts n h ∙ ap (is_number n) c.in-None.is))
