@@ -1,14 +1,17 @@
 -- The same facts by records, so that a call need not name the list's members.
-use Rattle.std.proofs.Common.{◌≡◌, ◌≢◌, ℕ, ◌+◌, ◌≤◌, ◌<◌, List, true, false, length, get_or, take, map, sym, ◌∙◌, ap, subst, take_all, add-one}
+use Rattle.std.proofs.Common.{◌≡◌, ◌≢◌, ℕ, ◌+◌, ◌≤◌, ◌<◌, List, true, false, length, get_or, take, map, refl, sym, ◌∙◌, ap, subst, take_all, add-one}
 use Rattle.std.specs.List.{remove}
 use Rattle.std.proofs.Math.ListN.{set}
 use Rattle.std.proofs.Math.Seq.{map-set_same}
 use Rattle.lvdc_port.specs.Device.{Device}
-use Rattle.lvdc_port.specs.Causes.{Rose, IsSaidOf}
+use Rattle.lvdc_port.specs.Causes.{never, Rose, IsSaidOf}
 use Rattle.lvdc_port.specs.Devices.{port_of, answer_of, after_request, exchange_word, after_exchange, without, has_port, count_at, OthersKept, HasSpare}
 use Rattle.lvdc_port.specs.Places.{NoneHas, Lacks, IsFirstAt}
+use Rattle.lvdc_port.specs.Times.{told_by}
 use Rattle.lvdc_port.specs.declared.requests.PortRequest.{PortRequest}
+use Rattle.lvdc_port.specs.declared.requests.PortRequest.TheVariants.{Read, Write}
 use Rattle.lvdc_port.proofs.Firsts as firsts
+use Rattle.lvdc_port.proofs.Lists.{count-lacking}
 
 -- none of the first members has this port
 pub record LacksBelow {B : Type 0} (device_of : B → Device) (port : ℕ) (bs : List B) (at : ℕ) : Type 0 where
@@ -103,7 +106,28 @@ pub spare_at_failed : {B : Type 0} {device_of : B → Device} (spare : B → ℕ
 spare_at_failed spare old new h is same falls =
     spare_at_first spare old new h is (ap (λ (d : Device). d.port) same) falls
 
--- the same where no member has the port
+-- the time that the first member of the port has been told once it answered a request
+pub told_first : {B : Type 0} {device_of : B → Device} (told : B → ℕ) (request : PortRequest) (time : ℕ) {bs : List B} {at : ℕ} (old new : B) →
+    IsFirstAt device_of (port_of request) bs at → old ≡ get_or bs at old →
+    device_of new ≡ after_request request (device_of old) → told new ≡ told_by request time (told old) →
+    count_at device_of told (port_of request) (set bs at new) ≡ told_by request time (count_at device_of told (port_of request) bs)
+told_first {device_of = device_of} told request time {bs = bs} {at = at} old new h is does hears =
+    firsts.count_first_set device_of told (port_of request) bs at old new h.first
+    (ap (λ (d : Device). d.port) does ∙ firsts.request_port request (device_of old) ∙ first_port old h is)
+    ∙ hears ∙ ap (λ n. told_by request time n) (sym (count_first told old h is))
+
+-- where no member has it, none is told anything
+told-nothing : (request : PortRequest) (time : ℕ) → never ≡ told_by request time never
+told-nothing (Read port) time = refl
+told-nothing (Write port word) time = refl
+
+pub told_lacking : {B : Type 0} {device_of : B → Device} (told : B → ℕ) (request : PortRequest) (time : ℕ) {bs : List B} →
+    Lacks device_of (port_of request) bs →
+    count_at device_of told (port_of request) bs ≡ told_by request time (count_at device_of told (port_of request) bs)
+told_lacking {device_of = device_of} told request time {bs = bs} h =
+    let none : count_at device_of told (port_of request) bs ≡ never = count-lacking device_of told (port_of request) bs (firsts.has_lacking device_of (port_of request) bs h.none) in
+    none ∙ told-nothing request time ∙ ap (λ n. told_by request time n) (sym none)
+
 pub word_lacking : {B : Type 0} {device_of : B → Device} (request : PortRequest) (time : ℕ) {bs : List B} →
     Lacks device_of (port_of request) bs → 0 ≡ exchange_word request time (map device_of bs)
 word_lacking {device_of = device_of} request time {bs = bs} h = sym (firsts.word_lacking device_of request time bs h.none)

@@ -4,6 +4,7 @@ use Rattle.lvdc_port.specs.Causes.{Rose}
 use Rattle.lvdc_port.specs.Device.{Device, read_word, after_read, after_write, after_supply}
 use Rattle.lvdc_port.specs.Devices.{exchange_word, after_exchange, without, has_port, count_at}
 use Rattle.lvdc_port.specs.Supplies.{kind_at, supplied, IsSuppliedInPart}
+use Rattle.lvdc_port.specs.Times.{told_at, told_by}
 use Rattle.lvdc_port.specs.declared.device.Kind.TheVariants.{Tape, Latch, Ticker, Recorder}
 use Rattle.lvdc_port.specs.declared.requests.PortRequest.TheVariants.{Read, Write}
 
@@ -88,3 +89,10 @@ words_are_supplied_in_order = refl
 
 kinds_by_port : (kind_at (λ device. device) 0o14 (tape ∷ latch ∷ []) ≡ Some Latch) × (kind_at (λ device. device) 0o15 (tape ∷ latch ∷ []) ≡ None)
 kinds_by_port = (refl, refl)
+
+-- a device that looks at the time of a write is told each one; one that never looks is told none
+a_device_that_looks_is_told_the_time : (told_at 7 0 ≡ 7) × (told_at 7 9 ≡ 7) × (told_at 0 9 ≡ 0) × (told_at 7 (2 ^ 64) ≡ 2 ^ 64)
+a_device_that_looks_is_told_the_time = (refl, refl, refl, refl)
+
+a_read_tells_nothing : (told_by (Read 0o14) 7 9 ≡ 9) × (told_by (Write 0o14 0o3) 7 9 ≡ 7)
+a_read_tells_nothing = (refl, refl)

@@ -2,7 +2,8 @@
 use Rattle.std.specs.Prelude.{◌≡◌, ℕ, ◌<◌, ◌^◌, Result, OnOk, OnErr}
 use Rattle.lvdc_word.specs.Counts as counts
 
--- what a device that never fails has for its count of faults: no count is so great
+-- what a device that never fails has for its count of faults, and one that never looks at the time of a write for the time that it was
+-- told: no count and no time is so great
 abbrev pub never : ℕ
 never = 2 ^ 64
 

@@ -3,3 +3,4 @@ pub mod Device
 pub mod Devices
 pub mod Places
 pub mod Supplies
+pub mod Times

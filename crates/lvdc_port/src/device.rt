@@ -1,6 +1,7 @@
 ghost use Rattle.std.specs.Prelude.{◌≡◌, ℕ, ◌+◌, ◌≤◌, IfOk, OnOk, OnErr, slice_get};
 ghost use Rattle.lvdc_port.specs.Causes.{HasCause, IsSaidOf};
 ghost use Rattle.lvdc_port.specs.Device.{Device, word_of_time, read_word, after_read, after_write, after_supply, AreWords};
+ghost use Rattle.lvdc_port.specs.Times.{told_at};
 ghost use Rattle.lvdc_port.specs.declared.device.Kind.TheVariants.{Tape as TapeKind, Recorder as RecorderKind};
 
 use lvdc_word::{NoMemory, Word};
@@ -42,6 +43,9 @@ pub trait PortDevice: Drop {
     // How often it has failed; `never` for a device that never fails.
     ghost faults: { Self → ℕ };
 
+    // At which time it took the last word that was written to it; `never` for a device that never looks at that time.
+    ghost told: { Self → ℕ };
+
     /// The port at which the device stands, 000 to 377 octal.
     fn port(&self) -> u8
         ensures { result ≡ (device_of self.now).port };
@@ -60,6 +64,7 @@ pub trait PortDevice: Drop {
         ensures err { OnErr result (device_of self.new ≡ device_of self.old) }
         ensures spare { spare self.new ≡ spare self.old }
         ensures faults { faults self.new ≡ faults self.old }
+        ensures told { told self.new ≡ told self.old }
 
         // Only a tape takes a word, so only a tape can want memory for one.
         ensures want { OnErr result ((device_of self.old).kind ≡ TapeKind) };
@@ -70,6 +75,7 @@ pub trait PortDevice: Drop {
         ensures err { OnErr result (spare self.new ≡ spare self.old) }
         ensures device { device_of self.new ≡ device_of self.old }
         ensures faults { faults self.new ≡ faults self.old }
+        ensures told { told self.new ≡ told self.old }
 
         // Only a recorder keeps what is written, so only a recorder can want memory for it.
         ensures want { OnErr result ((device_of self.old).kind ≡ RecorderKind) }
@@ -83,6 +89,7 @@ pub trait PortDevice: Drop {
         ensures ok { OnOk result (device_of self.new ≡ after_read (device_of self.old)) }
         ensures err { OnErr result (device_of self.new ≡ device_of self.old) }
         ensures spare { spare self.new ≡ spare self.old }
+        ensures told { told self.new ≡ told self.old }
         ensures cause { HasCause (faults self.old) (faults self.new) result };
 
     /// Takes a word. The time is the number of the instruction time, from 0, modulo 2^26.
@@ -92,6 +99,10 @@ pub trait PortDevice: Drop {
         ensures err { OnErr result (device_of self.new ≡ device_of self.old) }
         ensures spare { spare self.old ≤ spare self.new + 1 }
         ensures spare_err { OnErr result (spare self.new ≡ spare self.old) }
+
+        // With a word that it takes, a device that looks at the time of a write is told this one.
+        ensures told { OnOk result (told self.new ≡ told_at time (told self.old)) }
+        ensures told_err { OnErr result (told self.new ≡ told self.old) }
         ensures cause { HasCause (faults self.old) (faults self.new) result };
 
     /// The word at this index, from 0, of those that the device holds.

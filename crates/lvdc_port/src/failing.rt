@@ -1,6 +1,7 @@
 ghost use Rattle.std.specs.Prelude.{◌≡◌, ◌+◌, ◌-◌, ◌^◌, ◌≤◌, ◌<◌, ◌↔◌, min, IsTrue, IsErr, IfOk, OnOk, OnErr, Contains};
 ghost use Rattle.lvdc_port.specs.Causes.{HasCause, Rose};
 ghost use Rattle.lvdc_port.specs.Device.{read_word, after_read, after_write, after_supply, AreWords};
+ghost use Rattle.lvdc_port.specs.Times.{told_at};
 ghost use Rattle.lvdc_port.specs.declared.device.Kind.TheVariants.{Tape as TapeKind, Recorder as RecorderKind};
 
 use crate::device::{Failed, Kind, PortDevice};
@@ -22,6 +23,7 @@ impl<D: PortDevice> Failing<D> {
         ensures device { ⟦<Failing<D> as PortDevice>⟧.device_of result ≡ D.device_of inner }
         ensures spare { ⟦<Failing<D> as PortDevice>⟧.spare result ≡ D.spare inner }
         ensures faults { ⟦<Failing<D> as PortDevice>⟧.faults result ≡ 0 }
+        ensures told { ⟦<Failing<D> as PortDevice>⟧.told result ≡ D.told inner }
         ensures inner { result.inner ≡ inner }
         ensures fails { result.fails ≡ fails }
         ensures calls { result.calls ≡ 0 }
@@ -64,6 +66,8 @@ impl<D: PortDevice> PortDevice for Failing<D> {
 
     ghost faults = { λ f. f.faults };
 
+    ghost told = { λ f. D.told f.inner };
+
     fn port(&self) -> u8 {
         self.inner.port()
     }
@@ -82,6 +86,7 @@ impl<D: PortDevice> PortDevice for Failing<D> {
         ensures err { OnErr result (D.device_of self.new.inner ≡ D.device_of self.old.inner) }
         ensures spare { D.spare self.new.inner ≡ D.spare self.old.inner }
         ensures faults { self.new.faults ≡ self.old.faults }
+        ensures told { D.told self.new.inner ≡ D.told self.old.inner }
         ensures want { OnErr result ((D.device_of self.old.inner).kind ≡ TapeKind) }
 
         // It is no read and no write, so it isn't counted.
@@ -96,6 +101,7 @@ impl<D: PortDevice> PortDevice for Failing<D> {
         ensures err { OnErr result (D.spare self.new.inner ≡ D.spare self.old.inner) }
         ensures device { D.device_of self.new.inner ≡ D.device_of self.old.inner }
         ensures faults { self.new.faults ≡ self.old.faults }
+        ensures told { D.told self.new.inner ≡ D.told self.old.inner }
         ensures want { OnErr result ((D.device_of self.old.inner).kind ≡ RecorderKind) }
         ensures words { AreWords (D.device_of self.new.inner).state }
 
@@ -112,6 +118,7 @@ impl<D: PortDevice> PortDevice for Failing<D> {
             ≡ after_read (D.device_of self.old.inner)) }
         ensures err { OnErr result (D.device_of self.new.inner ≡ D.device_of self.old.inner) }
         ensures spare { D.spare self.new.inner ≡ D.spare self.old.inner }
+        ensures told { D.told self.new.inner ≡ D.told self.old.inner }
         ensures cause { HasCause self.old.faults self.new.faults result }
 
         // A failure is counted once, up to the greatest u64.
@@ -141,6 +148,8 @@ impl<D: PortDevice> PortDevice for Failing<D> {
         ensures err { OnErr result (D.device_of self.new.inner ≡ D.device_of self.old.inner) }
         ensures spare { D.spare self.old.inner ≤ D.spare self.new.inner + 1 }
         ensures spare_err { OnErr result (D.spare self.new.inner ≡ D.spare self.old.inner) }
+        ensures told { OnOk result (D.told self.new.inner ≡ told_at time (D.told self.old.inner)) }
+        ensures told_err { OnErr result (D.told self.new.inner ≡ D.told self.old.inner) }
         ensures cause { HasCause self.old.faults self.new.faults result }
 
         // A failure is counted once, up to the greatest u64.

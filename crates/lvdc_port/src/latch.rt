@@ -33,6 +33,8 @@ impl PortDevice for Latch {
 
     ghost faults = { λ l. never };
 
+    ghost told = { λ l. never };
+
     fn port(&self) -> u8 {
         self.port
     }

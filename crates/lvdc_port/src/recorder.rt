@@ -42,6 +42,8 @@ impl PortDevice for Recorder {
 
     ghost faults = { λ r. never };
 
+    ghost told = { λ r. never };
+
     fn port(&self) -> u8 {
         self.port
     }

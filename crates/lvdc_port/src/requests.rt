@@ -7,6 +7,7 @@ ghost use Rattle.lvdc_port.specs.declared.requests.Supply.{Supply};
 ghost use Rattle.lvdc_port.specs.Devices.{port_of, answer_of, after_request, exchange_word, after_exchange, without, has_port, count_at, OthersKept, HasSpare, HoldWords, CarriesWord, RoomFor, RoomAt};
 ghost use Rattle.lvdc_port.specs.Places.{IsFirstAt, Lacks};
 ghost use Rattle.lvdc_port.specs.Supplies.{HasRecorder, supplied};
+ghost use Rattle.lvdc_port.specs.Times.{told_by};
 
 use crate::device::{Failed, PortDevice};
 use lvdc_word::{NoMemory, Word};
@@ -63,6 +64,7 @@ fn prepare(device: &mut Box<dyn PortDevice>, writes: u64) -> Result<(), NoMemory
     ensures device { device_of device.new ≡ device_of device.old }
     ensures words { AreWords (device_of device.new).state }
     ensures faults { faults device.new ≡ faults device.old }
+    ensures told { told device.new ≡ told device.old }
     ensures want { OnErr result ((device_of device.old).kind ≡ Recorder) }
 {
     device.prepare(writes)
@@ -92,6 +94,8 @@ fn serve(
     ensures err { OnErr result (device_of device.new ≡ device_of device.old) }
     ensures spare { spare device.old ≤ spare device.new + 1 }
     ensures spare_err { OnErr result (spare device.new ≡ spare device.old) }
+    ensures told { OnOk result (told device.new ≡ told_by request.now time (told device.old)) }
+    ensures told_err { OnErr result (told device.new ≡ told device.old) }
     ensures cause { HasCause (faults device.old) (faults device.new) result }
 {
     match request {
@@ -128,6 +132,11 @@ pub fn exchange(
     ensures spare { (n : ℕ) → HasSpare spare (n + 1) devices.old.items
         → HasSpare spare n devices.new.items }
     ensures spare_err { OnErr result (map spare devices.new.items ≡ map spare devices.old.items) }
+
+    // With a word that it takes, a device that looks at the time of a write is told this one. A read tells it nothing.
+    ensures told { OnOk result (count_at device_of told (port_of request) devices.new.items
+        ≡ told_by request time (count_at device_of told (port_of request) devices.old.items)) }
+    ensures told_err { OnErr result (map told devices.new.items ≡ map told devices.old.items) }
 
     // No count of faults grows but that of the device that the fault names.
     ensures faults { OnOk result (map faults devices.new.items ≡ map faults devices.old.items) }
@@ -170,6 +179,7 @@ fn prepare_each(devices: &mut [Box<dyn PortDevice>], writes: u64) -> Result<(), 
     ensures words { OnOk result (HoldWords (map device_of devices.new)) }
     ensures devices { map device_of devices.new ≡ map device_of devices.old }
     ensures faults { map faults devices.new ≡ map faults devices.old }
+    ensures told { map told devices.new ≡ map told devices.old }
     ensures want { OnErr result (HasRecorder (map device_of devices.old)) }
 {
     for device in devices.iter_mut() {
@@ -189,6 +199,7 @@ pub fn prepare_all(devices: &mut Vec<Box<dyn PortDevice>>, writes: u64) -> Resul
     ensures words { OnOk result (HoldWords (map device_of devices.new.items)) }
     ensures devices { map device_of devices.new.items ≡ map device_of devices.old.items }
     ensures faults { map faults devices.new.items ≡ map faults devices.old.items }
+    ensures told { map told devices.new.items ≡ map told devices.old.items }
 
     // Only a recorder keeps what is written, so without one there is no want of memory.
     ensures want { OnErr result (HasRecorder (map device_of devices.old.items)) }

@@ -19,6 +19,7 @@ fn supply_word(device: &mut Box<dyn PortDevice>, word: Word) -> Result<(), NoMem
     ensures err { OnErr result (device_of device.new ≡ device_of device.old) }
     ensures spare { spare device.new ≡ spare device.old }
     ensures faults { faults device.new ≡ faults device.old }
+    ensures told { told device.new ≡ told device.old }
     ensures want { OnErr result ((device_of device.old).kind ≡ Tape) }
 {
     device.supply(word)
@@ -42,6 +43,7 @@ fn supply_one(devices: &mut Vec<Box<dyn PortDevice>>, supply: &Supply) -> Result
     ensures err { OnErr result (map device_of devices.new.items ≡ map device_of devices.old.items) }
     ensures spare { map spare devices.new.items ≡ map spare devices.old.items }
     ensures faults { map faults devices.new.items ≡ map faults devices.old.items }
+    ensures told { map told devices.new.items ≡ map told devices.old.items }
     ensures want { OnErr result (kind_at (λ device. device) supply.now.port
         (map device_of devices.old.items) ≡ Some Tape) }
 {
@@ -68,7 +70,7 @@ pub fn supply_all(
     ensures err { OnErr result (IsSuppliedInPart supplies.now
         (map device_of devices.old.items) (map device_of devices.new.items)) }
 
-    // Each device keeps its place, its port and its kind, its room and its count of faults.
+    // Each device keeps its place, its port and its kind, its room, its count of faults and the time that it was told.
     ensures ports { ports_of (map device_of devices.new.items)
         ≡ ports_of (map device_of devices.old.items) }
     ensures kinds { kinds_of (map device_of devices.new.items)
@@ -77,6 +79,7 @@ pub fn supply_all(
         → AreDistinct (map device_of devices.new.items) }
     ensures spare { map spare devices.new.items ≡ map spare devices.old.items }
     ensures faults { map faults devices.new.items ≡ map faults devices.old.items }
+    ensures told { map told devices.new.items ≡ map told devices.old.items }
 {
     for supply in supplies {
         match supply_one(devices, supply) {

@@ -45,6 +45,8 @@ impl PortDevice for Tape {
 
     ghost faults = { λ t. never };
 
+    ghost told = { λ t. never };
+
     fn port(&self) -> u8 {
         self.port
     }

@@ -28,6 +28,8 @@ impl PortDevice for Ticker {
 
     ghost faults = { λ t. never };
 
+    ghost told = { λ t. never };
+
     fn port(&self) -> u8 {
         self.port
     }

@@ -1,5 +1,5 @@
 //! A device that looks at the time.
-ghost use Rattle.std.specs.Prelude.{◌≡◌};
+ghost use Rattle.std.specs.Prelude.{◌≡◌, ◌<◌, ◌^◌};
 ghost use Rattle.lvdc_port.specs.Causes.{Rose};
 
 use lvdc_port::{Failed, Kind, PortDevice};
@@ -11,12 +11,14 @@ pub struct Punctual<D> {
     inner: D,
     time: Word,
     faults: u64,
+    ghost is_word: { time < 2 ^ 26 },
 }
 
 impl<D: PortDevice> Punctual<D> {
     /// The device inside, and the time at which it takes words.
     pub fn new(inner: D, time: Word) -> Self
-        ensures { ⟦<Punctual<D> as PortDevice>⟧.device_of result ≡ D.device_of inner }
+        ensures device { ⟦<Punctual<D> as PortDevice>⟧.device_of result ≡ D.device_of inner }
+        ensures told { ⟦<Punctual<D> as PortDevice>⟧.told result ≡ time }
     {
         Punctual {
             inner,
@@ -27,6 +29,7 @@ impl<D: PortDevice> Punctual<D> {
 
     fn fail(&mut self) -> Failed
         ensures inner { self.new.inner ≡ self.old.inner }
+        ensures time { self.new.time ≡ self.old.time }
         ensures rose { Rose self.old.faults self.new.faults }
     {
         self.faults = self.faults.saturating_add(1);
@@ -40,6 +43,8 @@ impl<D: PortDevice> PortDevice for Punctual<D> {
     ghost spare = { λ p. D.spare p.inner };
 
     ghost faults = { λ p. p.faults };
+
+    ghost told = { λ p. p.time };
 
     fn port(&self) -> u8 {
         self.inner.port()

@@ -1,6 +1,6 @@
 use Rattle.std.proofs.Common.{subst, ◌∙◌, arith}
 use Rattle.lvdc_port.specs.Devices.{RoomFor}
-use Rattle.lvdc_port.proofs.Places.{word_first, after_first, count_first, fault_first, others_first, first_within, spare_at_answered, spare_at_failed, word_lacking, after_lacking, others_same, kept_first, has_first}
+use Rattle.lvdc_port.proofs.Places.{word_first, after_first, count_first, fault_first, others_first, first_within, spare_at_answered, spare_at_failed, told_first, told_lacking, word_lacking, after_lacking, others_same, kept_first, has_first}
 use Rattle.lvdc_port.proofs.requests.exchange.Goals as goal
 
 pub returns-in_default-clause-word : goal.returns-in_default-clause-word
@@ -67,3 +67,17 @@ pub returns-in-Err-clause-spare_at : goal.returns-in-Err-clause-spare_at
 returns-in-Err-clause-spare_at g c =
     let first = rw (c.deref.ensures.value, c.port-port.ensures) at c.in-Some.ensures in
     spare_at_failed (λ b. (goal.PortDevice-dyn g (b.vtable, b.value)).spare b.value) _ _ first c.index_mut-device.ensures.value c.in-Err.ensures.err c.in-Err.ensures.spare
+
+pub returns-in_default-clause-told : goal.returns-in_default-clause-told
+returns-in_default-clause-told g c =
+    let lacks = rw (c.deref.ensures.value, c.port-port.ensures) at c.in_default.ensures in
+    told_lacking (λ b. (goal.PortDevice-dyn g (b.vtable, b.value)).told b.value) c.args.request c.args.time lacks
+
+pub returns-in-Ok-clause-told : goal.returns-in-Ok-clause-told
+returns-in-Ok-clause-told g c =
+    let first = rw (c.deref.ensures.value, c.port-port.ensures) at c.in-Some.ensures in
+    told_first (λ b. (goal.PortDevice-dyn g (b.vtable, b.value)).told b.value) c.args.request c.args.time _ _ first c.index_mut-device.ensures.value c.in-Ok.ensures.ok c.in-Ok.ensures.told
+
+pub returns-in-Err-clause-told_err : goal.returns-in-Err-clause-told_err
+returns-in-Err-clause-told_err g c =
+    kept_first _ _ _ _ _ c.index_mut-device.ensures.value c.in-Err.ensures.told_err

@@ -13,6 +13,10 @@ pub returns-in-Err-clause-faults : goal.returns-in-Err-clause-faults
 returns-in-Err-clause-faults g c =
     kept_set c.loop-device.devices (λ b. (goal.PortDevice-dyn g (b.vtable, b.value)).faults b.value) _ c.device-item.result _ _ c.prepare.ensures.faults c.loop-device.invariant.faults
 
+pub returns-in-Err-clause-told : goal.returns-in-Err-clause-told
+returns-in-Err-clause-told g c =
+    kept_set c.loop-device.devices (λ b. (goal.PortDevice-dyn g (b.vtable, b.value)).told b.value) _ c.device-item.result _ _ c.prepare.ensures.told c.loop-device.invariant.told
+
 pub returns-in-Err-clause-want : goal.returns-in-Err-clause-want
 returns-in-Err-clause-want g c =
     subst HasRecorder c.loop-device.invariant.devices
@@ -22,6 +26,7 @@ pub loop-device-preserved : goal.loop-device-preserved
 loop-device-preserved g c = record {
   devices = kept_set c.loop-device.devices (λ b. (goal.PortDevice-dyn g (b.vtable, b.value)).device_of b.value) _ c.device-item.result _ _ c.prepare.ensures.device c.loop-device.invariant.devices;
   faults = kept_set c.loop-device.devices (λ b. (goal.PortDevice-dyn g (b.vtable, b.value)).faults b.value) _ c.device-item.result _ _ c.prepare.ensures.faults c.loop-device.invariant.faults;
+  told = kept_set c.loop-device.devices (λ b. (goal.PortDevice-dyn g (b.vtable, b.value)).told b.value) _ c.device-item.result _ _ c.prepare.ensures.told c.loop-device.invariant.told;
   room = all_more (λ b. c.args.writes ≤ (goal.PortDevice-dyn g (b.vtable, b.value)).spare b.value) c.loop-device.devices _ _ (omega (arith, c.loop-device.auto.devices)) c.in-Ok.ensures.ok c.loop-device.invariant.room;
   words = all_more (λ b. AreWords ((goal.PortDevice-dyn g (b.vtable, b.value)).device_of b.value).state) c.loop-device.devices _ _ (omega (arith, c.loop-device.auto.devices)) c.prepare.ensures.words c.loop-device.invariant.words;
 }

@@ -24,6 +24,7 @@ loop-supply-preserved g c = record {
   kinds = ap kinds_of c.in-Ok.ensures.ok ∙ kinds-supply _ _ ∙ c.loop-supply.invariant.kinds;
   spare = c.supply_one.ensures.spare ∙ c.loop-supply.invariant.spare;
   faults = c.supply_one.ensures.faults ∙ c.loop-supply.invariant.faults;
+  told = c.supply_one.ensures.told ∙ c.loop-supply.invariant.told;
 }
 
 pub returns-clause-distinct : goal.returns-clause-distinct

@@ -9,4 +9,5 @@ invariant-loop-supply g l = record {
   kinds : kinds_of (map (λ b. (goal.PortDevice-dyn g (b.vtable, b.value)).device_of b.value) l.devices.items) ≡ kinds_of (map (λ b. (goal.PortDevice-dyn g (b.vtable, b.value)).device_of b.value) l.fn.devices.items);
   spare : map (λ b. (goal.PortDevice-dyn g (b.vtable, b.value)).spare b.value) l.devices.items ≡ map (λ b. (goal.PortDevice-dyn g (b.vtable, b.value)).spare b.value) l.fn.devices.items;
   faults : map (λ b. (goal.PortDevice-dyn g (b.vtable, b.value)).faults b.value) l.devices.items ≡ map (λ b. (goal.PortDevice-dyn g (b.vtable, b.value)).faults b.value) l.fn.devices.items;
+  told : map (λ b. (goal.PortDevice-dyn g (b.vtable, b.value)).told b.value) l.devices.items ≡ map (λ b. (goal.PortDevice-dyn g (b.vtable, b.value)).told b.value) l.fn.devices.items;
 }

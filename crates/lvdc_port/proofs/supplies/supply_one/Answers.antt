@@ -21,6 +21,9 @@ returns-in-Ok-clause-spare g c = kept_first _ _ _ _ _ c.index_mut-device.ensures
 pub returns-in-Ok-clause-faults : goal.returns-in-Ok-clause-faults
 returns-in-Ok-clause-faults g c = kept_first _ _ _ _ _ c.index_mut-device.ensures.value c.in-Ok.ensures.faults
 
+pub returns-in-Ok-clause-told : goal.returns-in-Ok-clause-told
+returns-in-Ok-clause-told g c = kept_first _ _ _ _ _ c.index_mut-device.ensures.value c.in-Ok.ensures.told
+
 pub returns-in-Err-clause-err : goal.returns-in-Err-clause-err
 returns-in-Err-clause-err g c = kept_first _ _ _ _ _ c.index_mut-device.ensures.value c.in-Err.ensures.err
 
@@ -29,6 +32,9 @@ returns-in-Err-clause-spare g c = kept_first _ _ _ _ _ c.index_mut-device.ensure
 
 pub returns-in-Err-clause-faults : goal.returns-in-Err-clause-faults
 returns-in-Err-clause-faults g c = kept_first _ _ _ _ _ c.index_mut-device.ensures.value c.in-Err.ensures.faults
+
+pub returns-in-Err-clause-told : goal.returns-in-Err-clause-told
+returns-in-Err-clause-told g c = kept_first _ _ _ _ _ c.index_mut-device.ensures.value c.in-Err.ensures.told
 
 pub returns-in-Err-clause-want : goal.returns-in-Err-clause-want
 returns-in-Err-clause-want g c =
