@@ -1,5 +1,6 @@
 pub mod Unplugged
 pub mod Taking
+pub mod Told
 pub mod Resumed
 pub mod Replied
 pub mod Consumed

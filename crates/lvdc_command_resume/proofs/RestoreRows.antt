@@ -1,10 +1,11 @@
 -- Worked devices of a run that goes on: which are left, and the words that they are given.
-use Rattle.std.proofs.Common.{◌≡◌, ℕ, List, [], ◌∷◌, None, Some, refl}
+use Rattle.std.proofs.Common.{◌≡◌, ℕ, List, [], ◌∷◌, true, false, None, Some, refl}
 use Rattle.lvdc_port.specs.Device.{Device}
 use Rattle.lvdc_port.specs.declared.device.Kind.TheVariants.{Tape, Latch, Recorder}
+use Rattle.lvdc_port.specs.declared.requests.Supply.{Supply}
 use Rattle.lvdc_plain.specs.declared.records.Unplug.{Unplug}
 use Rattle.lvdc_save.specs.declared.saved.Saved.{Saved}
-use Rattle.lvdc_command_resume.specs.Restore.{left_before, after_state, with_states, time_of}
+use Rattle.lvdc_command_resume.specs.Restore.{left_before, after_state, with_states, time_of, has_word, is_written}
 use Rattle.lvdc_command_resume.specs.Reordered.{device_at}
 
 abbrev tape : Device
@@ -51,6 +52,17 @@ saved_after steps =
 
 time_told : (time_of (saved_after 0) ≡ 0) × (time_of (saved_after 3) ≡ 1) × (time_of (saved_after 27) ≡ 9)
 time_told = (refl, refl, refl)
+
+-- the words of a latch and of a tape
+abbrev two_words : List Supply
+two_words = record { port = 0o14; word = 5 } ∷ record { port = 0; word = 6 } ∷ []
+
+-- which ports they are for, and to which devices one is written: a tape is supplied
+words_by_port : (has_word 0o14 two_words ≡ true) × (has_word 0 two_words ≡ true) × (has_word 0o17 two_words ≡ false) × (has_word 0 [] ≡ false)
+words_by_port = (refl, refl, refl, refl)
+
+words_written : (is_written (Some Latch) 0o14 two_words ≡ true) × (is_written (Some Tape) 0 two_words ≡ false) × (is_written (Some Recorder) 0o17 two_words ≡ false)
+words_written = (refl, refl, refl)
 
 -- the device at a port is the same in any order
 at_a_port : (device_at 0o17 (tape ∷ recorder ∷ []) ≡ Some recorder) × (device_at 0o17 (recorder ∷ tape ∷ []) ≡ Some recorder) × (device_at 0o14 (tape ∷ recorder ∷ []) ≡ None)

@@ -1,10 +1,11 @@
 -- The devices with which a saved run goes on.
-use Rattle.std.specs.Prelude.{◌≡◌, ◌≢◌, ℕ, ◌/◌, nat_lt, if◌then◌else◌, List, [], ◌∷◌, map, take, slice_get}
+use Rattle.std.specs.Prelude.{◌≡◌, ◌≢◌, ℕ, ◌/◌, ◌==◌, nat_lt, if◌then◌else◌, List, [], ◌∷◌, map, take, slice_get, Bool, true, false}
 use Rattle.std.specs.declared.option.Option.{Option}
 use Rattle.std.specs.declared.option.Option.TheVariants.{Some}
 use Rattle.lvdc_port.specs.Device.{Device, word_of_time}
-use Rattle.lvdc_port.specs.Devices.{after_exchange, without}
+use Rattle.lvdc_port.specs.Devices.{after_exchange, without, has_port, count_at}
 use Rattle.lvdc_port.specs.Supplies.{kind_at, after_supply_of}
+use Rattle.lvdc_port.specs.Times.{told_at}
 use Rattle.lvdc_port.specs.declared.device.Kind.{Kind}
 use Rattle.lvdc_port.specs.declared.device.Kind.TheVariants.{Tape}
 use Rattle.lvdc_port.specs.declared.requests.PortRequest.TheVariants.{Write}
@@ -50,6 +51,25 @@ devices_of s devices = with_states s.states (left_of s devices)
 -- the time at which these words are written and the run goes on, as a device is told it
 abbrev pub time_of : Saved → ℕ
 time_of s = word_of_time (s.snapshot.steps / 3)
+
+-- ---- the time that they are told
+
+-- one of these words is for this port
+abbrev pub has_word : ℕ → List Supply → Bool
+has_word port [] = false
+has_word port (state ∷ states) = if state.port == port then true else has_word port states
+
+-- one of them is written to a device of this kind at this port: a tape is supplied with its words
+abbrev pub is_written : Option Kind → ℕ → List Supply → Bool
+is_written (Some Tape) port states = false
+is_written kind port states = has_word port states
+
+-- Each device that is left was told this time with the last word that was written to it, where it looks at the time of a write. One to
+-- which none was written keeps what it was told.
+pub record WereTold {B : Type 0} (device_of : B → Device) (told : B → ℕ) (time : ℕ) (states : List Supply) (old new : List B) : Type 0 where
+  pub times : (port : ℕ) → has_port device_of port new ≡ true → count_at device_of told port new
+      ≡ (if is_written (kind_at device_of port new) port states then told_at time (count_at device_of told port old)
+      else count_at device_of told port old)
 
 -- ---- words that weren't taken
 

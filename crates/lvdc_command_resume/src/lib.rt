@@ -9,3 +9,4 @@ mod run;
 
 pub use laws::resume_statuses;
 pub use reply::{LIMIT, ROOM, resume_bytes};
+pub use restore::{Unrestored, restore_devices};

@@ -1,6 +1,7 @@
 use Rattle.std.proofs.Common.{map, refl}
 use Rattle.std.proofs.lemmas.Option.{slice_get_read}
 use Rattle.lvdc_command_resume.proofs.Taking.{states-more, since-both, refused-next, refused-given, next-room}
+use Rattle.lvdc_command_resume.proofs.Told.{were-more, were-all}
 use Rattle.lvdc_command_resume.proofs.restore.give_words.Goals as goal
 
 pub returns-in-Err-clause-refused : goal.returns-in-Err-clause-refused
@@ -17,5 +18,11 @@ pub loop-state-preserved : goal.loop-state-preserved
 loop-state-preserved g c = record {
   taken = states-more c.items-states.result.now c.loop-state.state-index c.state-item.result _ _ _ c.loop-state-test.true c.state-item.is c.in-Ok.ensures.ok c.loop-state.invariant.taken;
   since = since-both c.loop-state.invariant.since c.in-Ok.ensures.since;
+  told = were-more _ _ c.args.time c.items-states.result.now c.loop-state.state-index c.state-item.result _ _ _ c.loop-state-test.true c.state-item.is c.in-Ok.ensures.ok c.loop-state.invariant.told c.in-Ok.ensures.told;
   room = c.in-Ok.ensures.spare _ (next-room (λ b. (goal.PortDevice-dyn g (b.vtable, b.value)).spare b.value) _ _ _ c.loop-state-test.true c.loop-state.invariant.room);
 }
+
+pub returns-clause-told : goal.returns-clause-told
+returns-clause-told g c =
+    were-all _ _ c.args.time c.args.saved.now.states c.items-states.result.now c.loop-state.state-index c.args.devices.now.items c.loop-state.devices.items
+    c.items-states.ensures c.loop-state-test.false c.loop-state.invariant.told

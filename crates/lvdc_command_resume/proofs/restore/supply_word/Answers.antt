@@ -17,3 +17,9 @@ returns-in-Err-clause-refused g c = λ port has. count-same _ _ port _ _ c.suppl
 
 pub returns-in-Err-clause-spare : goal.returns-in-Err-clause-spare
 returns-in-Err-clause-spare g c = λ n room. spare-same _ n _ _ c.supply_all.ensures.spare room
+
+pub returns-in-Ok-clause-told : goal.returns-in-Ok-clause-told
+returns-in-Ok-clause-told g c = since-same _ _ _ _ c.supply_all.ensures.ports c.supply_all.ensures.told
+
+pub returns-in-Err-clause-told : goal.returns-in-Err-clause-told
+returns-in-Err-clause-told g c = since-same _ _ _ _ c.supply_all.ensures.ports c.supply_all.ensures.told

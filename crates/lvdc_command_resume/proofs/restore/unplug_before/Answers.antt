@@ -13,11 +13,13 @@ loop-line-preserved g c =
             c.loop-line-test.true w.if-line-times.true (ap (λ v. v.items) w.devices-is ∙ w.unplug.ensures.removed) ∙ c.loop-line.invariant.left;
         distinct = distinct-taken _ _ c.loop-line.devices.items c.if-line-times.devices.items c.loop-line.invariant.distinct (ap (λ v. v.items) w.devices-is ∙ w.unplug.ensures.removed);
         since = since-without c.loop-line.invariant.since _ c.if-line-times.devices.items c.loop-line.invariant.distinct (ap (λ v. v.items) w.devices-is ∙ w.unplug.ensures.removed);
+        told = since-without c.loop-line.invariant.told _ c.if-line-times.devices.items c.loop-line.invariant.distinct (ap (λ v. v.items) w.devices-is ∙ w.unplug.ensures.removed);
       }
       | else-line-times w ↦ record {
         left = left-kept _ c.args.unplugs.now c.args.times c.loop-line.line-index none c.loop-line.devices.items c.if-line-times.devices.items
             c.loop-line-test.true w.if-line-times.false (ap (λ v. v.items) w.devices-is) ∙ c.loop-line.invariant.left;
         distinct = distinct-kept _ c.loop-line.devices.items c.if-line-times.devices.items c.loop-line.invariant.distinct (ap (λ v. v.items) w.devices-is);
         since = since-kept c.loop-line.invariant.since c.if-line-times.devices.items (ap (λ v. v.items) w.devices-is);
+        told = since-kept c.loop-line.invariant.told c.if-line-times.devices.items (ap (λ v. v.items) w.devices-is);
       }
     ]
