@@ -1,0 +1,5 @@
+pub mod Idle
+pub mod Steps
+pub mod Runs
+pub mod Judged
+mod Rows
