@@ -2,4 +2,5 @@ pub mod Idle
 pub mod Steps
 pub mod Runs
 pub mod Judged
+pub mod Machines
 mod Rows

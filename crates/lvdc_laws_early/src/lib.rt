@@ -2,12 +2,18 @@
 //! a function that does nothing when it runs, and that a proof cites by calling it.
 #![tactic(auto)]
 
-ghost use Rattle.std.specs.Prelude.{◌≡◌, ℕ, ◌≤◌};
+ghost use Rattle.std.specs.Prelude.{◌≡◌, ℕ, ◌≤◌, List, None};
+ghost use Rattle.lvdc_port.specs.Device.{Device};
 ghost use Rattle.lvdc_fault.specs.declared.verdict.Verdict.TheVariants.{Admissible};
 ghost use Rattle.lvdc_model.specs.Judging.{first_bad_below};
 ghost use Rattle.lvdc_model.specs.Runs.{guarded, alone, through};
 ghost use Rattle.lvdc_model.specs.Trial.{Trial};
 ghost use Rattle.lvdc_laws_voted.specs.Ends.{IsOpening};
+ghost use Rattle.lvdc_machine.specs.Resumed.{StandsFrom};
+ghost use Rattle.lvdc_machine.specs.Stands.{Stands};
+ghost use Rattle.lvdc_machine.specs.Steps.{run_of};
+ghost use Rattle.lvdc_machine.specs.View.{View};
+ghost use Rattle.lvdc_machine.specs.declared.mode.Mode.{Mode};
 ghost use Rattle.lvdc_laws_early.specs.Early.{AllBeginFrom, fault_free};
 
 /// Up to the step where the first event begins each run is the run of the same opening under a script without events.
@@ -25,4 +31,15 @@ pub fn steps_begin_admissible()
         → first_bad_below o n ≡ Admissible }
 {
     lvdc_laws_voted::no_faults_no_verdict();
+}
+
+/// So a machine may begin late: up to there the run of each mode is that under a script without events, and a machine under the script
+/// that stands in a state of that run stands where the script's own run is.
+pub fn machines_may_begin_late()
+    ensures runs { (mode : Mode) (o : Trial) (first : ℕ) → AllBeginFrom first o.script → (n : ℕ) → n ≤ first
+        → run_of mode o n ≡ run_of mode (fault_free o) n }
+    ensures stands { (o : Trial) (first : ℕ) → AllBeginFrom first o.script → (n : ℕ) → n ≤ first → (m : View) (devices : List Device)
+        → m.end ≡ None → m.steps ≡ n → StandsFrom o (run_of m.mode (fault_free o) n) 0 m devices → Stands o n m devices }
+{
+    runs_begin_fault_free();
 }
