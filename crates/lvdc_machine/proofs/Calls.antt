@@ -47,7 +47,7 @@ leaves-kept device_of spare steps m devices fit = record {
 }
 
 -- a kept end that is no verdict answers with none
-unjudged : (end : Option Outcome) → ((verdict : Verdict) → end ≢ Some (Inadmissible verdict)) → (verdict : Verdict) → answer_of_end end ≢ Inadmissible verdict
+pub unjudged : (end : Option Outcome) → ((verdict : Verdict) → end ≢ Some (Inadmissible verdict)) → (verdict : Verdict) → answer_of_end end ≢ Inadmissible verdict
 unjudged None free verdict is = absurd (cc is)
 unjudged (Some end) free verdict is = free verdict (rw is refl)
 

@@ -1,5 +1,5 @@
 -- What a step hands out is what it makes.
-use Rattle.std.proofs.Common.{◌≡◌, ℕ, List, refl, sym, ap, ◌∙◌, subst}
+use Rattle.std.proofs.Common.{◌≡◌, ℕ, List, refl, sym, ap, ◌∙◌}
 use Rattle.std.specs.Prelude.{◌≢◌, Result, Ok, Err}
 use Rattle.std.specs.declared.option.Option.{Option}
 use Rattle.std.specs.declared.option.Option.TheVariants.{None, Some}
@@ -17,7 +17,7 @@ use Rattle.lvdc_model.specs.Exchanges.{begin_step, wished}
 use Rattle.lvdc_model.specs.Trial.{Trial}
 use Rattle.lvdc_model.specs.Voted.{Voted}
 use Rattle.lvdc_machine.specs.Made.{read_made, exchange_made, made_if, made_unless, made_next, told_by}
-use Rattle.lvdc_machine.specs.Resumed.{state_from, StandsFrom}
+use Rattle.lvdc_machine.specs.Resumed.{state_from}
 use Rattle.lvdc_machine.specs.Steps.{repair_noted, run_from, verdict_of, MadeAs}
 use Rattle.lvdc_machine.specs.declared.made.Made.{Made}
 use Rattle.lvdc_machine.specs.declared.mode.Mode.{Mode}

@@ -14,3 +14,4 @@ pub mod Telling
 pub mod Starting
 pub mod Calls
 mod Rows
+pub mod Refused

@@ -34,7 +34,7 @@ through-goes : (end : Option Outcome) (o : Trial) (v : Voted) → end ≡ None �
 through-goes end o v e = rw e refl
 
 -- where no end has come, the next step is prepared, judged and made
-run-next : (mode : Mode) (o : Trial) (r : Voted) (t : ℕ) → (run_from mode o r t).end ≡ None
+pub run-next : (mode : Mode) (o : Trial) (r : Voted) (t : ℕ) → (run_from mode o r t).end ≡ None
     → run_from mode o r (suc t) ≡ judged_by (verdict_of mode o (begin_step o (run_from mode o r t))) o (begin_step o (run_from mode o r t))
 run-next Guarded o r t e = alone-goes (run_from Guarded o r t).end o (run_from Guarded o r t) e
 run-next Through o r t e = through-goes (run_from Through o r t).end o (run_from Through o r t) e
@@ -48,7 +48,7 @@ through-stays : (end : Option Outcome) (o : Trial) (v : Voted) (e : Outcome) →
 through-stays end o v e is = rw is refl
 
 -- so of either mode
-run-stays-one : (mode : Mode) (o : Trial) (r : Voted) (t : ℕ) (e : Outcome) → (run_from mode o r t).end ≡ Some e → run_from mode o r (suc t) ≡ run_from mode o r t
+pub run-stays-one : (mode : Mode) (o : Trial) (r : Voted) (t : ℕ) (e : Outcome) → (run_from mode o r t).end ≡ Some e → run_from mode o r (suc t) ≡ run_from mode o r t
 run-stays-one Guarded o r t e is = alone-stays (run_from Guarded o r t).end o (run_from Guarded o r t) e is
 run-stays-one Through o r t e is = through-stays (run_from Through o r t).end o (run_from Through o r t) e is
 

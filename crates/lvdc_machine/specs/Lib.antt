@@ -10,3 +10,4 @@ pub mod Snapshot
 pub mod Made
 pub mod Notes
 pub mod Calls
+pub mod Onward

@@ -8,6 +8,7 @@ mod machine;
 mod made;
 mod mode;
 mod notes;
+mod onward;
 mod resumed;
 mod shown;
 mod snapshot;

@@ -253,10 +253,24 @@ impl Machine {
     {
         // What is true of every machine is known where one of its fields is used: here that its limit is small.
         let _ = &self.limit;
+        self.make_steps(orders, 3 * times, devices)
+    }
+
+    /// Makes so many steps, or fewer where an end comes.
+    pub(crate) fn make_steps(
+        &mut self,
+        orders: &Orders,
+        steps: u64,
+        devices: &mut Vec<Box<dyn PortDevice>>,
+    ) -> Outcome
+        requires left { self.old.steps + steps ≤ 3 * self.old.limit }
+        requires fit { AreFit device_of spare (exchanges_to_come self.old) devices.old.items }
+        ensures { MakesSteps device_of spare faults steps result self.old self.new devices.old.items devices.new.items }
+    {
         if let Some(end) = self.ended() {
             return end;
         }
-        for _made in 0..3 * times {
+        for _made in 0..steps {
             let order = orders.at_step(self.steps);
             let _ = self.advance(order, devices);
             if let Some(end) = self.ended() {

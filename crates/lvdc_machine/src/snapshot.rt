@@ -1,15 +1,10 @@
-ghost use Rattle.std.specs.Prelude.{◌≡◌, ℕ, ◌%◌, ◌≤◌, ◌<◌, List, All, length, IfOk, Option, None};
+ghost use Rattle.std.specs.Prelude.{◌≡◌, ℕ, ◌%◌, ◌≤◌, List, All, length, IfOk, None};
 ghost use Rattle.lvdc_map.specs.Address.{IsAddress};
-ghost use Rattle.lvdc_map.specs.Memory.{Memory, AllThere};
 ghost use Rattle.lvdc_port.specs.Device as device;
-ghost use Rattle.lvdc_twin.specs.Cells.{AreHeld};
-ghost use Rattle.lvdc_fault.specs.Ledger.{ArePlaced};
 ghost use Rattle.lvdc_model.specs.Trial.{Trial};
-ghost use Rattle.lvdc_model.specs.Twins.{Twins};
 ghost use Rattle.lvdc_model.specs.Voted.{Voted};
 ghost use Rattle.lvdc_logic.specs.Listing.{copies_of, counts_of};
 ghost use Rattle.lvdc_logic.specs.Logic.{DifferedAtMost};
-ghost use Rattle.lvdc_memory.specs.Holds.{Holds, StoreCells, AreIntended};
 ghost use Rattle.lvdc_machine.specs.Shows.{Shows};
 ghost use Rattle.lvdc_machine.specs.declared.mode.Mode.TheVariants.{Guarded};
 ghost use Rattle.lvdc_machine.specs.Snapshot.{IsWhole, Means};
@@ -18,7 +13,6 @@ use crate::Machine;
 use lvdc_fault::Script;
 use lvdc_logic::Logic;
 use lvdc_map::{Banks, Placed};
-use lvdc_memory::VotedMemory;
 use lvdc_model::Repair;
 use lvdc_plain::{Exchange, Unplug};
 use lvdc_twin::Held;
@@ -59,7 +53,7 @@ impl Machine {
         ensures addresses { IfOk result (λ s. All (λ placed. IsAddress placed.at) s.words) }
     {
         let (latches, differed) = logic_lists(alloc, &self.logic)?;
-        let (selected, cells, words) = memory_lists(alloc, &self.memory)?;
+        let (selected, cells, words) = self.memory.lists(alloc)?;
         let (log, repairs) = noted_lists(alloc, &self.log, &self.repairs)?;
         Ok(Snapshot {
             steps: self.steps,
@@ -105,32 +99,6 @@ fn logic_lists(alloc: Global, logic: &Logic) -> Result<(Seq<Word>, Seq<u64>), No
     let latches = logic.latches(alloc)?;
     let counts = logic.counts(alloc)?;
     Ok((Seq::from_vec(latches), Seq::from_vec(counts)))
-}
-
-/// The selected twins, the stored cells and the intended words of the memory.
-fn memory_lists(
-    alloc: Global,
-    memory: &VotedMemory,
-) -> Result<(Seq<u8>, Seq<Held>, Seq<Placed>), NoMemory>
-    ensures pairs { IfOk result (λ lists. length lists.0 ≡ 4) }
-    ensures twins { IfOk result (λ lists. All (λ twin. twin < 2) lists.0) }
-    ensures selected { IfOk result (λ lists. lists.0 ≡ memory.now.twins.selected) }
-    ensures held { IfOk result (λ lists. AreHeld memory.now.twins lists.1) }
-    ensures cells { IfOk result (λ lists. (o : Trial) (in_force : Option ℕ) (t : Twins) (i : Memory) → Holds o in_force memory.now t i
-        → StoreCells lists.1 t) }
-    ensures placed { IfOk result (λ lists. ArePlaced memory.now.ledger lists.2) }
-    ensures there { IfOk result (λ lists. AllThere memory.now.twins.banks lists.2) }
-    ensures words { IfOk result (λ lists. (o : Trial) (in_force : Option ℕ) (t : Twins) (i : Memory) → Holds o in_force memory.now t i
-        → AreIntended lists.2 i) }
-{
-    let selected = memory.selected(alloc)?;
-    let cells = memory.held(alloc)?;
-    let words = memory.placed(alloc)?;
-    Ok((
-        Seq::from_vec(selected),
-        Seq::from_vec(cells),
-        Seq::from_vec(words),
-    ))
 }
 
 /// The port exchanges and the repairs, as they are.

@@ -138,7 +138,7 @@ impl Machine {
     }
 
     /// The exchange that the votes wish for.
-    fn wanted(&self) -> Wanted
+    pub(crate) fn wanted(&self) -> Wanted
         ensures value { result ≡ wish (bus_of_votes self.now.copies) self.now.banks }
         ensures there { IsThereFor self.now.banks result }
         ensures due { IsDue self.now.pace self.now.steps result }
@@ -366,7 +366,7 @@ impl Machine {
 
     /// Makes the exchange that is wanted, lets all copies latch, and answers what was made. An error is the port of the device that
     /// failed; then nothing has changed.
-    fn exchange(
+    pub(crate) fn exchange(
         &mut self,
         order: &Order,
         wanted: Wanted,
@@ -411,7 +411,7 @@ impl Machine {
     }
 
     /// Keeps the end that a failed device is. The step isn't made.
-    fn fail(&mut self, port: u8)
+    pub(crate) fn fail(&mut self, port: u8)
         ensures { self.new ≡ record self.old { end = Some (Device self.old.steps port) } }
     {
         self.stop(KeptEnd::Device {

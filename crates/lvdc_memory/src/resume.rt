@@ -14,7 +14,7 @@ use crate::VotedMemory;
 use lvdc_fault::{Active, Ledger, Script, active_suffice};
 use lvdc_map::{Banks, Placed};
 use lvdc_twin::{Held, Twins};
-use lvdc_word::NoMemory;
+use lvdc_word::{NoMemory, Seq};
 use std::alloc::Global;
 
 impl VotedMemory {
@@ -88,5 +88,30 @@ impl VotedMemory {
     {
         let placed = self.ledger.placed(alloc)?;
         Ok(placed)
+    }
+
+    /// The selected twins, the stored cells and the intended words, as lists that aren't changed any more.
+    pub fn lists(&self, alloc: Global) -> Result<(Seq<u8>, Seq<Held>, Seq<Placed>), NoMemory>
+        ensures pairs { IfOk result (λ lists. length lists.0 ≡ 4) }
+        ensures twins { IfOk result (λ lists. All (λ twin. twin < 2) lists.0) }
+        ensures selected { IfOk result (λ lists. lists.0 ≡ self.now.twins.selected) }
+        ensures held { IfOk result (λ lists. AreHeld self.now.twins lists.1) }
+        ensures cells { IfOk result (λ lists. (o : Trial) (in_force : Option ℕ)
+            (t : model.Twins) (i : Memory) → Holds o in_force self.now t i
+            → StoreCells lists.1 t) }
+        ensures placed { IfOk result (λ lists. ArePlaced self.now.ledger lists.2) }
+        ensures there { IfOk result (λ lists. AllThere self.now.twins.banks lists.2) }
+        ensures words { IfOk result (λ lists. (o : Trial) (in_force : Option ℕ)
+            (t : model.Twins) (i : Memory) → Holds o in_force self.now t i
+            → AreIntended lists.2 i) }
+    {
+        let selected = self.selected(alloc)?;
+        let cells = self.held(alloc)?;
+        let words = self.placed(alloc)?;
+        Ok((
+            Seq::from_vec(selected),
+            Seq::from_vec(cells),
+            Seq::from_vec(words),
+        ))
     }
 }

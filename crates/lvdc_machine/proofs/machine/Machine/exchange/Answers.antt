@@ -1,4 +1,3 @@
-use Rattle.std.proofs.Common.{inl, inr}
 use Rattle.lvdc_plain.proofs.Causes.{since-start}
 use Rattle.lvdc_machine.proofs.Calls.{fit-made}
 use Rattle.lvdc_machine.proofs.machine.Machine.exchange.Goals as goal

@@ -1,6 +1,5 @@
-use Rattle.std.proofs.Common.{sym, ◌∙◌, ap, rules}
+use Rattle.std.proofs.Common.{sym, ◌∙◌, rules}
 use Rattle.lvdc_machine.specs.Resumed.{state_from}
-use Rattle.lvdc_machine.specs.View.{View}
 use Rattle.lvdc_machine.proofs.Calls.{answers-still, answers-made, leaves-kept}
 use Rattle.lvdc_machine.proofs.HandedOut.{told-ended}
 use Rattle.lvdc_machine.proofs.Resuming.{stands-kept}

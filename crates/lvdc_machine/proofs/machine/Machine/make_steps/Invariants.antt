@@ -6,7 +6,7 @@ use Rattle.lvdc_model.specs.Voted.{Voted}
 use Rattle.lvdc_machine.specs.Room.{exchanges_to_come}
 use Rattle.lvdc_machine.specs.Resumed.{StandsFrom}
 use Rattle.lvdc_machine.specs.Steps.{Keeps}
-use Rattle.lvdc_machine.proofs.machine.Machine.run.Given as goal
+use Rattle.lvdc_machine.proofs.machine.Machine.make_steps.Given as goal
 
 abbrev pub invariant-loop-made : goal.invariant-loop-made
 invariant-loop-made g l = record {
