@@ -6,7 +6,7 @@ use Rattle.std.proofs.lemmas.Bool.{eq-eqb, true≢false}
 use Rattle.lvdc_map.specs.Hop.{HopConstant}
 use Rattle.lvdc_map.specs.declared.placed.Placed.{Placed}
 use Rattle.lvdc_port.specs.Device as device
-use Rattle.lvdc_port.specs.Devices.{has_port, count_at}
+use Rattle.lvdc_port.specs.Devices.{has_port, count_at, AreDistinct}
 use Rattle.lvdc_port.proofs.Lists.{has-map, rose-has}
 use Rattle.lvdc_plain.specs.Run.{Opening, run}
 use Rattle.lvdc_plain.specs.Stands as plain
@@ -22,13 +22,13 @@ use Rattle.lvdc_laws_voted.specs.Ends.{IsOpening}
 use Rattle.lvdc_machine.specs.Causes.{HasCause}
 use Rattle.lvdc_machine.specs.Stands.{Stands}
 use Rattle.lvdc_machine.specs.View.{View, answer_of_end}
-use Rattle.lvdc_machine.specs.declared.mode.Mode.{Mode}
+use Rattle.lvdc_machine.specs.declared.mode.Mode.TheVariants.{Guarded}
 use Rattle.lvdc_campaign.specs.Campaign.{program_of, trial_under}
-use Rattle.lvdc_campaign.specs.Ran.{HasRun, HasRunPlainly, NoneFailed, NonePlainlyFailed}
+use Rattle.lvdc_campaign.specs.Ran.{HasRunGuarded, HasRunPlainly, NoneFailed, NonePlainlyFailed}
 use Rattle.lvdc_campaign.specs.Same.{end_by}
 
 -- a list without a port is empty
-none-there : {B : Type 0} (device_of : B → device.Device) (bs : List B) → ((port : ℕ) → has_port device_of port bs ≡ true → ⊥) → map device_of bs ≡ []
+pub none-there : {B : Type 0} (device_of : B → device.Device) (bs : List B) → ((port : ℕ) → has_port device_of port bs ≡ true → ⊥) → map device_of bs ≡ []
 none-there device_of [] none = refl
 none-there device_of (b ∷ bs) none =
     let port = (device_of b).port in
@@ -65,7 +65,7 @@ module _ {B : Type 0} (device_of : B → device.Device) (faults : B → ℕ) (im
       let there : has_port device_of port ready ≡ false = has-map device_of port ready ∙ ap (has_port (λ d. d) port) empty in
       true≢false (sym (left port has) ∙ there)
 
-  empty-after : map device_of new ≡ []
+  pub empty-after : map device_of new ≡ []
   empty-after = none-there device_of new none
 
   unfailed : (end : Option Outcome) → HasCause device_of faults (answer_of_end end) ready new → NoneFailed end
@@ -77,30 +77,35 @@ module _ {B : Type 0} (device_of : B → device.Device) (faults : B → ℕ) (im
       absurd (none port (rose-has device_of faults port (count_at device_of faults port ready) new c.rose))
 
   -- the voted machine
-  pub has_run : (script : List Event) (mode : Mode) (times : ℕ) (m : View) (answer : Outcome)
+  pub has_run_judged : (script : List Event) (times : ℕ) (m : View) (answer : Outcome)
       → IsOpening (record { image = image; banks = banks; start = start; unplugs = unplugs; devices = map device_of old })
-      → m.mode ≡ mode
+      → m.mode ≡ Guarded → m.limit ≡ times → AreDistinct (map device_of new)
       → Stands (record {
         opening = record { image = image; banks = banks; start = start; unplugs = unplugs; devices = map device_of old };
         script = script;
       }) (0 + 3 * times) m (map device_of new)
       → answer ≡ answer_of_end m.end
       → HasCause device_of faults answer ready new
-      → HasRun mode (trial_under (program_of image start banks) script) times m
-  has_run script mode times m answer opens mode_is stands is cause =
+      → HasRunGuarded (trial_under (program_of image start banks) script) times m (map device_of new)
+  has_run_judged script times m answer opens mode_is limit distinct stands is cause =
       let o = trial_under (program_of image start banks) script in
       let S : Opening → Type 0 = λ p. Stands (trial_under p script) (0 + 3 * times) m (map device_of new) in
       let C : Outcome → Type 0 = λ e. HasCause device_of faults e ready new in
       let here : Stands o (0 + 3 * times) m (map device_of new) = subst S is_program stands in
       let later : Stands o (3 * times) m (map device_of new) = subst (λ (n : ℕ). Stands o n m (map device_of new)) (zero-add (3 * times)) here in
       record {
-        opening = subst IsOpening is_program opens;
-        banks = later.shows.banks;
-        script = later.shows.script;
-        mode_is = mode_is;
-        left = [];
-        stands = subst (λ (ds : List device.Device). Stands o (3 * times) m ds) empty-after later;
-        unfailed = unfailed m.end (subst C is cause);
+        run = record {
+          opening = subst IsOpening is_program opens;
+          banks = later.shows.banks;
+          script = later.shows.script;
+          mode_is = mode_is;
+          left = map device_of new;
+          stands = later;
+          unfailed = unfailed m.end (subst C is cause);
+        };
+        stands = later;
+        distinct = distinct;
+        limit = limit;
       }
 
   -- the plain machine

@@ -8,3 +8,5 @@ mod Through
 mod Again
 mod Unhurt
 mod LimitRows
+mod Stationed
+pub mod Onward

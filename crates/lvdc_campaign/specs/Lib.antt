@@ -1,3 +1,4 @@
 pub mod Same
 pub mod Campaign
 pub mod Ran
+pub mod Stations

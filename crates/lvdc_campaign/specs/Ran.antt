@@ -3,6 +3,7 @@ use Rattle.std.specs.Prelude.{◌≡◌, ℕ, ◌*◌, List}
 use Rattle.std.specs.declared.option.Option.{Option}
 use Rattle.std.specs.declared.option.Option.TheVariants.{None, Some}
 use Rattle.lvdc_port.specs.Device as device
+use Rattle.lvdc_port.specs.Devices.{AreDistinct}
 use Rattle.lvdc_plain.specs.Run.{Opening, run}
 use Rattle.lvdc_plain.specs.Stands as plain
 use Rattle.lvdc_plain.specs.View as plain_view
@@ -15,6 +16,7 @@ use Rattle.lvdc_model.specs.declared.outcome.Outcome.{Outcome}
 use Rattle.lvdc_model.specs.declared.outcome.Outcome.TheVariants.{Done, Stopped, Inadmissible, Device}
 use Rattle.lvdc_laws_voted.specs.Ends.{IsOpening}
 use Rattle.lvdc_machine.specs.declared.mode.Mode.{Mode}
+use Rattle.lvdc_machine.specs.declared.mode.Mode.TheVariants.{Guarded}
 use Rattle.lvdc_machine.specs.Stands.{Stands}
 use Rattle.lvdc_machine.specs.View.{View}
 use Rattle.lvdc_campaign.specs.Same.{end_in}
@@ -57,3 +59,11 @@ pub record HasRun (mode : Mode) (o : Trial) (times : ℕ) (m : View) : Type 0 wh
   pub left : List device.Device
   pub stands : Stands o (3 * times) m left
   pub unfailed : NoneFailed m.end
+
+-- a machine that judges has run so many times of a trial, over these devices that are left, of which none has failed, and it may make no
+-- more times in all
+pub record HasRunGuarded (o : Trial) (times : ℕ) (m : View) (left : List device.Device) : Type 0 where
+  pub run : HasRun Guarded o times m
+  pub stands : Stands o (3 * times) m left
+  pub distinct : AreDistinct left
+  pub limit : m.limit ≡ times

@@ -2,12 +2,15 @@
 //! what the fault-free run comes to.
 #![tactic(auto)]
 
+mod copied;
+mod early;
 mod laws;
 mod program;
 mod row;
 mod rows;
 mod runs;
 mod same;
+mod stations;
 
 pub use laws::{
     admissible_is_same, plain_machine_has_run, through_is_guarded, through_is_shown, unhurt_through,

@@ -3,57 +3,42 @@
 ghost use Rattle.std.specs.Prelude.{◌≡◌, ◌≤◌, length, true, IfOk, All};
 ghost use Rattle.lvdc_map.specs.Memory.{are_rising, AllThere};
 ghost use Rattle.lvdc_fault.specs.declared.verdict.Verdict.TheVariants as verdicts;
-ghost use Rattle.lvdc_fault.specs.Events.{IsEvent};
-ghost use Rattle.lvdc_fault.specs.declared.TheConstants.{MOST_EVENTS};
 ghost use Rattle.lvdc_campaign.specs.declared.TheConstants.{MOST_TIMES, MOST_SCRIPTS};
-ghost use Rattle.lvdc_campaign.specs.Campaign.{program_of, opening_of, trial_under, is_same, row_of, rows_of, IsProgram, IsScript};
+ghost use Rattle.lvdc_campaign.specs.Campaign.{program_of, opening_of, row_of, rows_of, IsProgram, IsScript};
 ghost use Rattle.lvdc_campaign.specs.Ran.{HasRunPlainly};
+ghost use Rattle.lvdc_campaign.specs.Stations.{IsStation};
 
 use crate::Row;
 use crate::laws::admissible_is_same;
 use crate::program::Program;
-use crate::runs::{is_admissible, run_plain, run_script, verdict_of};
+use crate::runs::{is_admissible, run_plain, verdict_of};
 use crate::same::is_same;
-use lvdc_fault::{Named, Script};
-use lvdc_machine::{Mode, Orders};
+use crate::stations::{run_late, stations_of};
+use lvdc_fault::Named;
+use lvdc_machine::{Orders, Snapshot};
 use lvdc_map::{Banks, Hop, Placed};
 use lvdc_plain::Plain;
 use lvdc_word::NoMemory;
 use std::alloc::Global;
 
-/// Whether the run of a script through every fault comes to what the plain machine has come to.
-fn compare(
-    alloc: Global,
-    program: &Program<'_>,
-    plain: &Plain,
-    script: Script,
-) -> Result<bool, NoMemory>
-    requires program { IsProgram program.now }
-    requires plain { HasRunPlainly (opening_of program.now) program.now.count plain.now }
-    requires few { length script ≤ MOST_EVENTS }
-    requires events { All IsEvent script }
-    ensures { IfOk result (λ same. same ≡ is_same (trial_under (opening_of program.now) script) program.now.count) }
-{
-    let machine = run_script(alloc, program, Mode::Through, script)?;
-    Ok(is_same(&machine, plain))
-}
-
-/// The row of a script. Only a script that isn't admissible has a second run, through every fault.
+/// The row of a script. The machine that judges a script that isn't admissible goes on from there, through every fault.
 fn make_row(
     alloc: Global,
     program: &Program<'_>,
     plain: &Plain,
+    stations: &[Snapshot],
     named: Named,
 ) -> Result<Row, NoMemory>
     requires program { IsProgram program.now }
     requires plain { HasRunPlainly (opening_of program.now) program.now.count plain.now }
+    requires stations { All (IsStation (opening_of program.now) program.now.count) stations.now }
     requires script { IsScript named }
     ensures row { IfOk result (λ row. row ≡ row_of (opening_of program.now) program.now.count named) }
     ensures admissible { IfOk result (λ row. row.verdict ≡ verdicts.Admissible → row.same ≡ true) }
 {
     admissible_is_same();
     let Named { name, script } = named;
-    let machine = run_script(alloc, program, Mode::Guarded, script)?;
+    let mut machine = run_late(alloc, program, stations, script)?;
     let verdict = verdict_of(&machine);
     if is_admissible(&verdict) {
         let same = true;
@@ -63,8 +48,9 @@ fn make_row(
             same,
         });
     }
-    let again = machine.script(alloc)?;
-    let same = compare(alloc, program, plain, again)?;
+    let mut devices = Vec::new(alloc);
+    machine.go_through(program.orders, &mut devices)?;
+    let same = is_same(&machine, plain);
     Ok(Row {
         name,
         verdict,
@@ -102,9 +88,10 @@ pub fn campaign<'a>(
         count,
     };
     let plain = run_plain(alloc, &program)?;
+    let stations = stations_of(alloc, &program, scripts.len())?;
     let mut rows = Vec::with_capacity(alloc, scripts.len())?;
     for named in scripts {
-        let row = make_row(alloc, &program, &plain, named)?;
+        let row = make_row(alloc, &program, &plain, &stations, named)?;
         rows.push(row)?;
     }
     Ok(rows)

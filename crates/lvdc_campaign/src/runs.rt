@@ -1,6 +1,6 @@
 //! Runs of machines without devices.
 
-ghost use Rattle.std.specs.Prelude.{◌≡◌, ◌≤◌, ◌↔◌, ℕ, length, IsTrue, IfOk, All};
+ghost use Rattle.std.specs.Prelude.{◌≡◌, ◌≤◌, ◌↔◌, ℕ, [], length, map, IsTrue, IfOk, OnOk, All};
 ghost use Rattle.lvdc_fault.specs.declared.verdict.Verdict.TheVariants as verdicts;
 ghost use Rattle.lvdc_model.specs.Judging.{first_bad};
 ghost use Rattle.lvdc_model.specs.Trial.{Trial};
@@ -8,13 +8,14 @@ ghost use Rattle.lvdc_fault.specs.Events.{IsEvent};
 ghost use Rattle.lvdc_machine.specs.declared.mode.Mode.TheVariants.{Guarded};
 ghost use Rattle.lvdc_fault.specs.declared.TheConstants.{MOST_EVENTS};
 ghost use Rattle.lvdc_campaign.specs.Campaign.{opening_of, trial_under, IsProgram};
-ghost use Rattle.lvdc_campaign.specs.Ran.{HasRun, HasRunPlainly, verdict_in};
+ghost use Rattle.lvdc_campaign.specs.Ran.{HasRun, HasRunPlainly, HasRunGuarded, verdict_in};
 
 use crate::program::Program;
 use lvdc_fault::{Script, Verdict};
 use lvdc_laws_guarded::guarded_follows;
 use lvdc_machine::{Machine, Mode, Orders, Outcome};
 use lvdc_plain::Plain;
+use lvdc_port::PortDevice;
 use lvdc_word::NoMemory;
 use std::alloc::Global;
 
@@ -37,17 +38,16 @@ pub(crate) fn run_plain(alloc: Global, program: &Program<'_>) -> Result<Plain, N
     Ok(plain)
 }
 
-/// The voted machine after the times of a program under a script.
+/// The voted machine that judges, after the times of a program under a script.
 pub(crate) fn run_script(
     alloc: Global,
     program: &Program<'_>,
-    mode: Mode,
     script: Script,
 ) -> Result<Machine, NoMemory>
     requires program { IsProgram program.now }
     requires few { length script ≤ MOST_EVENTS }
     requires events { All IsEvent script }
-    ensures { IfOk result (λ machine. HasRun mode (trial_under (opening_of program.now) script) program.now.count machine) }
+    ensures { IfOk result (λ machine. HasRunGuarded (trial_under (opening_of program.now) script) program.now.count machine []) }
 {
     let mut devices = Vec::new(alloc);
     let mut machine = Machine::new(
@@ -57,7 +57,7 @@ pub(crate) fn run_script(
         program.start,
         script,
         Vec::new(alloc),
-        mode,
+        Mode::Guarded,
         program.count,
         &mut devices,
     )?;
@@ -77,7 +77,8 @@ fn verdict_in(end: Option<Outcome>) -> Verdict
 
 /// The verdict of the script of a machine that judges.
 pub fn verdict_of(machine: &Machine) -> Verdict
-    ensures { (o : Trial) (times : ℕ) → HasRun Guarded o times machine.now → result ≡ first_bad o times }
+    ensures first { (o : Trial) (times : ℕ) → HasRun Guarded o times machine.now → result ≡ first_bad o times }
+    ensures end { result ≡ verdict_in machine.now.end }
 {
     guarded_follows();
     verdict_in(machine.ended())
