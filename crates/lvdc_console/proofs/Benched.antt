@@ -1,5 +1,5 @@
 -- Over devices that never fail a run leaves a row, unless memory is wanting.
-use Rattle.std.proofs.Common.{◌≡◌, ℕ, List, map, refl, ◌⊎◌, inl, inr}
+use Rattle.std.proofs.Common.{◌≡◌, ℕ, List, map, refl}
 use Rattle.lvdc_port.specs.Device.{Device}
 use Rattle.lvdc_port.specs.Devices.{count_at, NeverFail}
 use Rattle.lvdc_port.proofs.Lists.{never-rose}
@@ -7,18 +7,9 @@ use Rattle.lvdc_study.specs.Failures.{HasFailed}
 use Rattle.lvdc_study.specs.declared.fault.Unstudied.{Unstudied}
 use Rattle.lvdc_study.specs.declared.fault.Unstudied.TheVariants.{NoMemory, Device as DeviceFailed}
 
--- of one list of devices
+-- so only memory can be wanting
 pub wants_memory : {B : Type 0} (device_of : B → Device) (faults : B → ℕ) (e : Unstudied) (old new : List B) (devices : List Device)
     → map device_of old ≡ devices → NeverFail faults old → HasFailed device_of faults e old new → e ≡ NoMemory
 wants_memory device_of faults NoMemory old new devices are sound failed = refl
 wants_memory device_of faults (DeviceFailed port) old new devices are sound rose =
     absurd (never-rose device_of faults port (count_at device_of faults port new) old sound rose)
-
--- of two
-pub either_wants_memory : {B : Type 0} (device_of : B → Device) (faults : B → ℕ) (e : Unstudied) (first first_after second second_after : List B) (devices : List Device)
-    → map device_of first ≡ devices → NeverFail faults first → NeverFail faults second
-    → HasFailed device_of faults e first first_after ⊎ HasFailed device_of faults e second second_after → e ≡ NoMemory
-either_wants_memory device_of faults e first first_after second second_after devices are sound too (inl failed) =
-    wants_memory device_of faults e first first_after devices are sound failed
-either_wants_memory device_of faults e first first_after second second_after devices are sound too (inr failed) =
-    wants_memory device_of faults e second second_after (map device_of second) refl too failed

@@ -29,8 +29,7 @@ impl Bench for Rack {
         plain: &Plain,
         named: Named,
     ) -> Result<Row, Unstudied> {
-        let mut first = sixteen_devices!(alloc);
-        let mut second = sixteen_devices!(alloc);
-        study_script(alloc, program, plain, named, &mut first, &mut second)
+        let mut devices = sixteen_devices!(alloc);
+        study_script(alloc, program, plain, named, &mut devices)
     }
 }

@@ -1,12 +1,14 @@
 -- Runs over devices that have the words of the TAPE lines.
-use Rattle.std.proofs.Common.{◌≡◌, ℕ, ◌+◌, ◌*◌, List, map, subst, zero-add}
+use Rattle.std.proofs.Common.{◌≡◌, ℕ, ◌+◌, ◌*◌, ◌==◌, true, List, [], ◌∷◌, map, refl, sym, ap, subst, ◌∙◌, zero-add}
+use Rattle.std.specs.Bool.{if◌then◌else◌}
 use Rattle.std.specs.declared.option.Option.{Option}
 use Rattle.std.specs.declared.option.Option.TheVariants.{None, Some}
 use Rattle.lvdc_port.specs.Causes.{Rose}
 use Rattle.lvdc_port.specs.Device as device
-use Rattle.lvdc_port.specs.Devices.{count_at}
+use Rattle.lvdc_port.specs.Devices.{has_port, count_at, AreDistinct}
 use Rattle.lvdc_port.specs.Supplies.{ports_of, supplied}
-use Rattle.lvdc_port.proofs.Lists.{count-same}
+use Rattle.lvdc_port.proofs.Lists.{rose-has, count-same}
+use Rattle.lvdc_plain.specs.Lists.{Since}
 use Rattle.lvdc_plain.specs.Calls as plain_calls
 use Rattle.lvdc_plain.specs.Run.{Opening}
 use Rattle.lvdc_plain.specs.Stands as plain
@@ -23,9 +25,12 @@ use Rattle.lvdc_machine.specs.Causes.{HasCause}
 use Rattle.lvdc_machine.specs.Stands.{Stands, EndsAs}
 use Rattle.lvdc_machine.specs.View.{View, answer_of_end}
 use Rattle.lvdc_machine.specs.declared.mode.Mode.{Mode}
+use Rattle.lvdc_machine.specs.declared.mode.Mode.TheVariants.{Guarded}
 use Rattle.lvdc_campaign.specs.Campaign.{trial_under}
-use Rattle.lvdc_campaign.specs.Ran.{HasRun, HasRunPlainly, NoneFailed, NonePlainlyFailed}
-use Rattle.lvdc_study.specs.Failures.{EndsIn, EndsPlainlyIn, Exchanges, ExchangesPlainly}
+use Rattle.lvdc_campaign.specs.Ran.{HasRunGuarded, HasRunPlainly, NoneFailed, NonePlainlyFailed}
+use Rattle.lvdc_study.specs.Failures.{HasFailed, EndsIn, EndsPlainlyIn, Exchanges, ExchangesPlainly}
+use Rattle.lvdc_study.specs.declared.fault.Unstudied.{Unstudied}
+use Rattle.lvdc_study.specs.declared.fault.Unstudied.TheVariants.{NoMemory, Device as DeviceFailed}
 use Rattle.lvdc_study.specs.Study.{opening_over}
 use Rattle.lvdc_study.specs.declared.program.Program.{Program}
 
@@ -39,7 +44,7 @@ plain-exchange o times m now port (Some (plain_ends.Stopped step stop)) e is = a
 plain-exchange o times m now port (Some (plain_ends.Device step failed)) e is =
     subst (λ (q : ℕ). (step : ℕ) × ExchangesPlainly o times step q) is (step, record { machine = m; left = now; exchange = e })
 
-voted-exchange : (o : Trial) (times : ℕ) (mode : Mode) (steps port : ℕ) (end : Option Outcome) → EndsAs end o (3 * times) mode steps
+pub voted-exchange : (o : Trial) (times : ℕ) (mode : Mode) (steps port : ℕ) (end : Option Outcome) → EndsAs end o (3 * times) mode steps
     → EndsIn end port → (step : ℕ) × Exchanges o times step port
 voted-exchange o times mode steps port None e is = absurd is
 voted-exchange o times mode steps port (Some Done) e is = absurd is
@@ -81,20 +86,26 @@ module _ (p : Program) (devices ready : List device.Device) (unplugs : List Unpl
       → EndsPlainlyIn m.end port → (step : ℕ) × ExchangesPlainly (opening_over p devices) p.count step port
   plainly-asked m now port stands = plain-exchange (opening_over p devices) p.count m now port m.end (plainly-stands m now stands).ends
 
-  pub has-run : (script : List Event) (mode : Mode) (m : View) (now : List device.Device)
-      → IsOpening (record { image = p.image.now; banks = p.banks; start = p.start; unplugs = unplugs; devices = ready }) → m.mode ≡ mode
+  pub has-judged : (script : List Event) (m : View) (now : List device.Device)
+      → IsOpening (record { image = p.image.now; banks = p.banks; start = p.start; unplugs = unplugs; devices = ready }) → m.mode ≡ Guarded
+      → m.limit ≡ p.count → AreDistinct now
       → Stands (trial_under (record { image = p.image.now; banks = p.banks; start = p.start; unplugs = unplugs; devices = ready }) script) (0 + 3 * p.count) m now
-      → NoneFailed m.end → HasRun mode (trial_under (opening_over p devices) script) p.count m
-  has-run script mode m now opens mode_is stands unfailed =
+      → NoneFailed m.end → HasRunGuarded (trial_under (opening_over p devices) script) p.count m now
+  has-judged script m now opens mode_is limit distinct stands unfailed =
       let later = stands-under script m now stands in
       record {
-        opening = subst IsOpening opening-same opens;
-        banks = later.shows.banks;
-        script = later.shows.script;
-        mode_is = mode_is;
-        left = now;
+        run = record {
+          opening = subst IsOpening opening-same opens;
+          banks = later.shows.banks;
+          script = later.shows.script;
+          mode_is = mode_is;
+          left = now;
+          stands = later;
+          unfailed = unfailed;
+        };
         stands = later;
-        unfailed = unfailed;
+        distinct = distinct;
+        limit = limit;
       }
 
   pub asked-under : (script : List Event) (m : View) (now : List device.Device) (port : ℕ)
@@ -104,6 +115,28 @@ module _ (p : Program) (devices ready : List device.Device) (unplugs : List Unpl
       voted-exchange (trial_under (opening_over p devices) script) p.count m.mode m.steps port m.end (stands-under script m now stands).ends
 
 -- ---- devices that fail
+
+-- where none has failed each that is left has the count that it had
+none-rose : {B : Type 0} (device_of : B → device.Device) (faults : B → ℕ) (ready new : List B) (end : Option Outcome) → NoneFailed end
+    → HasCause device_of faults (answer_of_end end) ready new → (port : ℕ) → has_port device_of port new ≡ true
+    → count_at device_of faults port new ≡ count_at device_of faults port ready
+none-rose device_of faults ready new None u c = c
+none-rose device_of faults ready new (Some Done) u c = c
+none-rose device_of faults ready new (Some (Stopped step stop)) u c = c
+none-rose device_of faults ready new (Some (Inadmissible verdict)) u c = c
+none-rose device_of faults ready new (Some (Device step port)) u c = absurd u
+
+-- lists with the same ports have each of them
+has-ports : {B : Type 0} (device_of : B → device.Device) (xs ys : List B) → ports_of (map device_of xs) ≡ ports_of (map device_of ys) → (port : ℕ)
+    → has_port device_of port xs ≡ has_port device_of port ys
+has-ports device_of [] [] e port = refl
+has-ports device_of [] (y ∷ ys) e port = absurd (cc)
+has-ports device_of (x ∷ xs) [] e port = absurd (cc)
+has-ports device_of (x ∷ xs) (y ∷ ys) e port =
+    let place : (device_of x).port ≡ (device_of y).port = cc in
+    let later : ports_of (map device_of xs) ≡ ports_of (map device_of ys) = cc in
+    let rest = has-ports device_of xs ys later port in
+    λ i. if place i == port then true else rest i
 
 module _ {B : Type 0} (device_of : B → device.Device) (faults : B → ℕ) (old ready new : List B)
     (ports : ports_of (map device_of ready) ≡ ports_of (map device_of old)) (counts : map faults ready ≡ map faults old) where
@@ -127,3 +160,22 @@ module _ {B : Type 0} (device_of : B → device.Device) (faults : B → ℕ) (ol
   has-plainly-failed (Some plain_ends.Done) port is c = absurd is
   has-plainly-failed (Some (plain_ends.Stopped step stop)) port is c = absurd is
   has-plainly-failed (Some (plain_ends.Device step failed)) port is c = rose-since failed port is c.rose
+
+  -- nothing has failed of what is left
+  pub since-run : (end : Option Outcome) → NoneFailed end → HasCause device_of faults (answer_of_end end) ready new
+      → ((port : ℕ) → has_port device_of port new ≡ true → has_port device_of port ready ≡ true) → Since device_of faults old new
+  since-run end unfailed cause left = record {
+    left = λ port has. sym (has-ports device_of ready old ports port) ∙ left port has;
+    counts = λ port has. none-rose device_of faults ready new end unfailed cause port has ∙ count-same device_of faults port ready old ports counts;
+  }
+
+-- ---- the machine goes on
+
+-- what failed then has failed since
+pub failed-since : {B : Type 0} (device_of : B → device.Device) (faults : B → ℕ) (old mid new : List B) → Since device_of faults old mid
+    → ((port : ℕ) → has_port device_of port new ≡ true → has_port device_of port mid ≡ true) → (e : Unstudied) → HasFailed device_of faults e mid new
+    → HasFailed device_of faults e old new
+failed-since device_of faults old mid new since left NoMemory failed = tt
+failed-since device_of faults old mid new since left (DeviceFailed port) rose =
+    subst (λ (k : ℕ). Rose k (count_at device_of faults port new))
+    (since.counts port (left port (rose-has device_of faults port (count_at device_of faults port mid) new rose))) rose

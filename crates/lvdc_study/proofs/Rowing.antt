@@ -5,7 +5,6 @@ use Rattle.std.specs.declared.option.Option.TheVariants.{None}
 use Rattle.lvdc_port.specs.Device.{Device}
 use Rattle.lvdc_plain.specs.Run.{Opening}
 use Rattle.lvdc_plain.specs.View as plain_view
-use Rattle.lvdc_fault.specs.declared.event.Event.{Event}
 use Rattle.lvdc_fault.specs.declared.named.Named.{Named}
 use Rattle.lvdc_fault.specs.declared.verdict.Verdict.{Verdict}
 use Rattle.lvdc_fault.specs.declared.verdict.Verdict.TheVariants.{Admissible}
@@ -21,9 +20,7 @@ use Rattle.lvdc_machine.specs.View.{View}
 use Rattle.lvdc_machine.specs.declared.mode.Mode.TheVariants.{Guarded, Through}
 use Rattle.lvdc_campaign.specs.Campaign.{trial_under}
 use Rattle.lvdc_campaign.specs.Ran.{HasRun, HasRunPlainly}
-use Rattle.lvdc_study.specs.Failures.{FailsUnder}
 use Rattle.lvdc_study.specs.declared.difference.Difference.{Difference}
-use Rattle.lvdc_study.specs.declared.fault.Unstudied.{Unstudied}
 use Rattle.lvdc_study.specs.declared.program.Program.{Program}
 use Rattle.lvdc_study.specs.Outcomes.{first_difference}
 use Rattle.lvdc_study.specs.Study.{opening_over, row_with, row_of, IsSame}
@@ -54,18 +51,14 @@ module _ (p : Program) (devices : List Device) (named : Named) (judged : View) (
       row-is (opening_over p devices) p.count named verdict None judged.counts judged.repairs form is (sym (same o p.count run.opening good).difference)
       counted.0 counted.1 is_form
 
-  -- a second machine went through every fault, over devices in the same states
-  pub through-row : (second : List Device) (again : List Event) (m : View) → second ≡ devices → again ≡ judged.script
-      → HasRun Through (trial_under (opening_over p second) again) p.count m
+  -- the machine has gone through every fault
+  pub through-row : (m : View) → HasRun Through o p.count m
       → ((o : Trial) (times : ℕ) (m : View) (h : HasRun Through o times m) → Shows o m h.left (through o (3 * times)))
       → (plain : plain_view.View) → HasRunPlainly (opening_over p devices) p.count plain
       → (difference : Option Difference)
       → ((o : Trial) (times : ℕ) → HasRun Through o times m → HasRunPlainly o.opening times plain → difference ≡ first_difference o times)
       → row_with named.name verdict difference m.counts m.repairs form ≡ row_of (opening_over p devices) p.count named
-  through-row second again m d s went shows plain ran difference differs =
-      let script : again ≡ named.script = s ∙ run.script in
-      let same : trial_under (opening_over p second) again ≡ o = λ i. trial_under (opening_over p (d i)) (script i) in
-      let gone : HasRun Through o p.count m = subst (λ (t : Trial). HasRun Through t p.count m) same went in
+  through-row m gone shows plain ran difference differs =
       let shown = shows o p.count m gone in
       row-is (opening_over p devices) p.count named verdict difference m.counts m.repairs form (tells o p.count run) (differs o p.count gone ran)
       shown.counts shown.repairs is_form
@@ -74,11 +67,3 @@ module _ (p : Program) (devices : List Device) (named : Named) (judged : View) (
   pub form-admits : ((o : Trial) (count : ℕ) → IsOpening o.opening → masks o.script o.opening.banks count ≡ true → Masked o count)
       → form ≡ true → verdict ≡ Admissible
   form-admits law masking = tells o p.count run ∙ (law o p.count run.opening (sym is_form ∙ masking)).verdict
-
-  -- why a second machine wasn't made is why the script has no row
-  pub fails-again : (second : List Device) (again : List Event) → second ≡ devices → again ≡ judged.script → (e : Unstudied)
-      → FailsUnder (trial_under (opening_over p second) again) p.count e → FailsUnder o p.count e
-  fails-again second again d s e fails =
-      let script : again ≡ named.script = s ∙ run.script in
-      let same : trial_under (opening_over p second) again ≡ o = λ i. trial_under (opening_over p (d i)) (script i) in
-      subst (λ (t : Trial). FailsUnder t p.count e) same fails

@@ -1,11 +1,15 @@
 //! Runs of one program, each over devices in their first states.
 
-ghost use Rattle.std.specs.Prelude.{◌≡◌, ◌≤◌, length, map, All, IfOk, IfErr, MatchOption};
+ghost use Rattle.std.specs.Prelude.{◌≡◌, ◌≤◌, ℕ, true, length, map, All, OnOk, IfOk, IfErr, MatchOption};
 ghost use Rattle.lvdc_fault.specs.Events.{IsEvent};
-ghost use Rattle.lvdc_port.specs.Devices.{AreDistinct};
+ghost use Rattle.lvdc_port.specs.Devices.{has_port, AreDistinct};
+ghost use Rattle.lvdc_plain.specs.Lists.{Since};
+ghost use Rattle.lvdc_machine.specs.Onward.{HasRefused};
+ghost use Rattle.lvdc_machine.specs.declared.mode.Mode.TheVariants.{Through};
+ghost use Rattle.lvdc_model.specs.Trial.{Trial};
 ghost use Rattle.lvdc_fault.specs.declared.TheConstants.{MOST_EVENTS};
 ghost use Rattle.lvdc_campaign.specs.Campaign.{trial_under};
-ghost use Rattle.lvdc_campaign.specs.Ran.{HasRun, HasRunPlainly, NoneFailed, NonePlainlyFailed};
+ghost use Rattle.lvdc_campaign.specs.Ran.{HasRun, HasRunPlainly, HasRunGuarded, NoneFailed, NonePlainlyFailed};
 ghost use Rattle.lvdc_study.specs.Failures.{HasFailed, FailsUnder, FailsPlainly, EndsIn, EndsPlainlyIn};
 ghost use Rattle.lvdc_study.specs.Study.{opening_over, IsProgram};
 
@@ -13,8 +17,9 @@ use crate::{Program, Unstudied};
 use lvdc_campaign::plain_machine_has_run;
 use lvdc_fault::Script;
 use lvdc_machine::{Machine, Mode, Outcome};
-use lvdc_plain::{Plain, PlainEnd};
+use lvdc_plain::{Plain, PlainEnd, Stop};
 use lvdc_port::{PortDevice, supply_all};
+use lvdc_word::NoMemory;
 use std::alloc::Global;
 
 /// The port of the device whose failure is the end, if it is one.
@@ -68,11 +73,10 @@ pub fn run_plain(
     }
 }
 
-/// The voted machine after the times of a program under a script, over devices in their first states.
+/// The voted machine that judges, after the times of a program under a script, over devices in their first states.
 pub(crate) fn run_script(
     alloc: Global,
     program: &Program<'_>,
-    mode: Mode,
     script: Script,
     devices: &mut Vec<Box<dyn PortDevice>>,
 ) -> Result<Machine, Unstudied>
@@ -80,7 +84,9 @@ pub(crate) fn run_script(
     requires few { length script ≤ MOST_EVENTS }
     requires events { All IsEvent script }
     requires distinct { AreDistinct (map device_of devices.old.items) }
-    ensures run { IfOk result (λ machine. HasRun mode (trial_under (opening_over program.now (map device_of devices.old.items)) script) program.now.count machine) }
+    ensures judged { IfOk result (λ machine. HasRunGuarded (trial_under (opening_over program.now (map device_of devices.old.items)) script) program.now.count machine
+        (map device_of devices.new.items)) }
+    ensures since { OnOk result (Since device_of faults devices.old.items devices.new.items) }
     ensures failed { IfErr result (λ e. HasFailed device_of faults e devices.old.items devices.new.items) }
     ensures fails { IfErr result (λ e. FailsUnder (trial_under (opening_over program.now (map device_of devices.old.items)) script) program.now.count e) }
 {
@@ -93,7 +99,7 @@ pub(crate) fn run_script(
         program.start,
         script,
         unplugs,
-        mode,
+        Mode::Guarded,
         program.count,
         devices,
     )?;
@@ -101,5 +107,32 @@ pub(crate) fn run_script(
     match failed_port(&machine) {
         Some(port) => Err(Unstudied::Device(port)),
         None => Ok(machine),
+    }
+}
+
+/// Lets a machine that has said something against a step go on from there, through every fault, over the same devices.
+pub(crate) fn go_through(
+    program: &Program<'_>,
+    machine: &mut Machine,
+    devices: &mut Vec<Box<dyn PortDevice>>,
+) -> Result<(), Unstudied>
+    requires refused { HasRefused machine.old }
+    requires distinct { AreDistinct (map device_of devices.old.items) }
+    ensures run { OnOk result ((o : Trial) (times : ℕ) → HasRunGuarded o times machine.old (map device_of devices.old.items) → HasRun Through o times machine.new) }
+    ensures left { (port : ℕ) → has_port device_of port devices.new.items ≡ true → has_port device_of port devices.old.items ≡ true }
+    ensures failed { IfErr result (λ e. HasFailed device_of faults e devices.old.items devices.new.items) }
+    ensures fails { IfErr result (λ e. (o : Trial) (times : ℕ) → HasRunGuarded o times machine.old (map device_of devices.old.items) → FailsUnder o times e) }
+{
+    match machine.go_through(program.orders, devices) {
+        Ok(Outcome::Device { port, .. }) => Err(Unstudied::Device(port)),
+        Ok(
+            Outcome::Done
+            | Outcome::Inadmissible(_)
+            | Outcome::Stopped {
+                stop: Stop::Shift | Stop::Exm | Stop::Memory(_),
+                ..
+            },
+        ) => Ok(()),
+        Err(NoMemory) => Err(Unstudied::NoMemory),
     }
 }

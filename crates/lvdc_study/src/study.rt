@@ -1,6 +1,6 @@
 //! The row of a script.
 
-ghost use Rattle.std.specs.Prelude.{◌≡◌, map, true, IfOk, IfErr, ◌⊎◌};
+ghost use Rattle.std.specs.Prelude.{◌≡◌, map, true, IfOk, IfErr};
 ghost use Rattle.lvdc_fault.specs.declared.verdict.Verdict.TheVariants as verdicts;
 ghost use Rattle.lvdc_masks.specs.Form.{masks};
 ghost use Rattle.lvdc_port.specs.Devices.{AreDistinct};
@@ -12,12 +12,12 @@ ghost use Rattle.lvdc_study.specs.Study.{opening_over, IsProgram, first_step, ro
 
 use crate::compare::first_difference;
 use crate::laws::{admissible_comes_to_the_same, judged_goes_through};
-use crate::runs::run_script;
+use crate::runs::{go_through, run_script};
 use crate::{Difference, Program, Row, Unstudied};
 use lvdc_campaign::{is_admissible, through_is_shown, verdict_of};
 use lvdc_fault::{Named, Script, Verdict};
 use lvdc_laws_masking::form_masks;
-use lvdc_machine::{Machine, Mode};
+use lvdc_machine::Machine;
 use lvdc_masks::first_unmet;
 use lvdc_model::Repair;
 use lvdc_plain::Plain;
@@ -64,31 +64,28 @@ fn masks(alloc: Global, program: &Program<'_>, script: &Script) -> Result<bool, 
     Ok(unmet.is_none())
 }
 
-/// The row of a script, beside the plain run of the same program. Each run has devices of its own, in their first states: a script
-/// that isn't admissible has a second run, through every fault, over the second ones.
+/// The row of a script, beside the plain run of the same program, over devices in their first states. The machine that judges a script
+/// that isn't admissible goes on from there, through every fault.
 pub fn study_script(
     alloc: Global,
     program: &Program<'_>,
     plain: &Plain,
     named: Named,
-    first: &mut Vec<Box<dyn PortDevice>>,
-    second: &mut Vec<Box<dyn PortDevice>>,
+    devices: &mut Vec<Box<dyn PortDevice>>,
 ) -> Result<Row, Unstudied>
     requires program { IsProgram program.now }
-    requires plain { HasRunPlainly (opening_over program.now (map device_of first.old.items)) program.now.count plain.now }
+    requires plain { HasRunPlainly (opening_over program.now (map device_of devices.old.items)) program.now.count plain.now }
     requires script { IsScript named }
-    requires distinct { AreDistinct (map device_of first.old.items) }
-    requires alike { map device_of second.old.items ≡ map device_of first.old.items }
+    requires distinct { AreDistinct (map device_of devices.old.items) }
 
     // The row of the definition. The orders of latching don't matter.
-    ensures row { IfOk result (λ row. row ≡ row_of (opening_over program.now (map device_of first.old.items)) program.now.count named) }
+    ensures row { IfOk result (λ row. row ≡ row_of (opening_over program.now (map device_of devices.old.items)) program.now.count named) }
 
     // Each admissible script comes to what the plain run comes to, and one that masks by form is admissible.
     ensures same { IfOk result (λ row. row.verdict ≡ verdicts.Admissible → row.difference ≡ None) }
     ensures form { IfOk result (λ row. row.masks ≡ true → row.verdict ≡ verdicts.Admissible) }
-    ensures failed { IfErr result (λ e. HasFailed device_of faults e first.old.items first.new.items
-        ⊎ HasFailed device_of faults e second.old.items second.new.items) }
-    ensures fails { IfErr result (λ e. FailsUnder (trial_under (opening_over program.now (map device_of first.old.items)) named.script) program.now.count e) }
+    ensures failed { IfErr result (λ e. HasFailed device_of faults e devices.old.items devices.new.items) }
+    ensures fails { IfErr result (λ e. FailsUnder (trial_under (opening_over program.now (map device_of devices.old.items)) named.script) program.now.count e) }
 {
     admissible_comes_to_the_same();
     form_masks();
@@ -96,16 +93,15 @@ pub fn study_script(
     through_is_shown();
     let Named { name, script } = named;
     let masks = masks(alloc, program, &script)?;
-    let machine = run_script(alloc, program, Mode::Guarded, script, first)?;
+    let mut machine = run_script(alloc, program, script, devices)?;
     let verdict = verdict_of(&machine);
     if is_admissible(&verdict) {
         return Ok(row_with(name, verdict, None, &machine, masks));
     }
-    let again = machine.script(alloc)?;
-    let machine = match run_script(alloc, program, Mode::Through, again, second) {
-        Ok(machine) => machine,
+    match go_through(program, &mut machine, devices) {
+        Ok(()) => {}
         Err(e) => return Err(e),
-    };
+    }
     let difference = first_difference(&machine, plain);
     Ok(row_with(name, verdict, difference, &machine, masks))
 }

@@ -51,9 +51,8 @@ impl Bench for OneTape {
         plain: &Plain,
         named: Named,
     ) -> Result<Row, Unstudied> {
-        let mut first = one_tape(alloc, self.fails)?;
-        let mut second = one_tape(alloc, self.fails)?;
-        study_script(alloc, program, plain, named, &mut first, &mut second)
+        let mut devices = one_tape(alloc, self.fails)?;
+        study_script(alloc, program, plain, named, &mut devices)
     }
 }
 

@@ -1,4 +1,4 @@
-use Rattle.std.proofs.Common.{◌≡◌, List, IfOk, IfErr, sym, subst, ◌∙◌}
+use Rattle.std.proofs.Common.{◌≡◌, List, IfOk, IfErr, sym, subst}
 use Rattle.std.proofs.lemmas.Result.{IfErr-weaker}
 use Rattle.lvdc_port.specs.Device.{Device}
 use Rattle.lvdc_campaign.specs.Campaign.{trial_under}
@@ -6,16 +6,13 @@ use Rattle.lvdc_campaign.specs.Ran.{HasRunPlainly}
 use Rattle.lvdc_study.specs.Failures.{FailsUnder}
 use Rattle.lvdc_study.specs.Study.{opening_over, row_of}
 use Rattle.lvdc_console.specs.Rack.{rack}
-use Rattle.lvdc_console.proofs.Benched.{either_wants_memory}
+use Rattle.lvdc_console.proofs.Benched.{wants_memory}
 use Rattle.lvdc_console.proofs.bench.RackBench.study_script.Goals as goal
 
 pub study_script-requires-clause-plain : goal.study_script-requires-clause-plain
 study_script-requires-clause-plain c =
     subst (λ (ds : List Device). HasRunPlainly (opening_over c.args.program.now ds) c.args.program.now.count c.args.plain.now)
     (sym c.is_whole.ensures.rack) c.requires.plain
-
-pub study_script-requires-clause-alike : goal.study_script-requires-clause-alike
-study_script-requires-clause-alike c = c.is_whole-2.ensures.rack ∙ sym c.is_whole.ensures.rack
 
 pub returns-clause-row : goal.returns-clause-row
 returns-clause-row c =
@@ -30,4 +27,4 @@ returns-clause-failed c =
 pub returns-clause-unfailed : goal.returns-clause-unfailed
 returns-clause-unfailed c =
     IfErr-weaker c.study_script.result _ _
-    (λ e failed sound. either_wants_memory _ _ e _ _ _ _ rack c.is_whole.ensures.rack c.is_whole.ensures.never_fail c.is_whole-2.ensures.never_fail failed) c.study_script.ensures.failed
+    (λ e failed sound. wants_memory _ _ e _ _ rack c.is_whole.ensures.rack c.is_whole.ensures.never_fail failed) c.study_script.ensures.failed

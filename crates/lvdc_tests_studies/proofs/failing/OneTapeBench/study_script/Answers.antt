@@ -1,4 +1,4 @@
-use Rattle.std.proofs.Common.{◌≡◌, List, IfOk, IfErr, sym, subst, ◌∙◌}
+use Rattle.std.proofs.Common.{◌≡◌, List, IfOk, IfErr, sym, subst}
 use Rattle.lvdc_port.specs.Device.{Device}
 use Rattle.lvdc_campaign.specs.Campaign.{trial_under}
 use Rattle.lvdc_campaign.specs.Ran.{HasRunPlainly}
@@ -9,17 +9,14 @@ use Rattle.lvdc_tests_studies.proofs.failing.OneTapeBench.study_script.Goals as 
 pub study_script-requires-clause-plain : goal.study_script-requires-clause-plain
 study_script-requires-clause-plain c =
     subst (λ (ds : List Device). HasRunPlainly (opening_over c.args.program.now ds) c.args.program.now.count c.args.plain.now)
-    (sym c.in_ok-first.ensures.one) c.requires.plain
-
-pub study_script-requires-clause-alike : goal.study_script-requires-clause-alike
-study_script-requires-clause-alike c = c.in_ok-second.ensures.one ∙ sym c.in_ok-first.ensures.one
+    (sym c.in_ok-devices.ensures.one) c.requires.plain
 
 pub returns-clause-row : goal.returns-clause-row
 returns-clause-row c =
     subst (λ (ds : List Device). IfOk c.study_script.result (λ row. row ≡ row_of (opening_over c.args.program.now ds) c.args.program.now.count c.args.named))
-    c.in_ok-first.ensures.one c.study_script.ensures.row
+    c.in_ok-devices.ensures.one c.study_script.ensures.row
 
 pub returns-clause-failed : goal.returns-clause-failed
 returns-clause-failed c =
     subst (λ (ds : List Device). IfErr c.study_script.result (λ e. FailsUnder (trial_under (opening_over c.args.program.now ds) c.args.named.script) c.args.program.now.count e))
-    c.in_ok-first.ensures.one c.study_script.ensures.fails
+    c.in_ok-devices.ensures.one c.study_script.ensures.fails
