@@ -15,14 +15,14 @@ use Rattle.lvdc_model.specs.Voted.{Voted, voted_start}
 use Rattle.lvdc_machine.specs.Calls.{IsFresh}
 use Rattle.lvdc_machine.specs.Resumed.{state_from, EndsFrom, StandsFrom}
 use Rattle.lvdc_machine.specs.Shows.{Shows}
-use Rattle.lvdc_machine.specs.Snapshot.{IsWhole, Means}
+use Rattle.lvdc_snapshot.specs.Snapshot.{IsWhole, Means}
 use Rattle.lvdc_machine.specs.Stands.{Stands}
 use Rattle.lvdc_machine.specs.Steps.{run_of, Keeps}
 use Rattle.lvdc_machine.specs.View.{View}
 use Rattle.lvdc_machine.specs.declared.mode.Mode.{Mode}
 use Rattle.lvdc_machine.specs.declared.mode.Mode.TheVariants.{Guarded}
 use Rattle.lvdc_machine.specs.declared.mode.Pace.{Pace}
-use Rattle.lvdc_machine.specs.declared.snapshot.Snapshot.{Snapshot}
+use Rattle.lvdc_snapshot.specs.declared.snapshot.Snapshot.{Snapshot}
 use Rattle.lvdc_campaign.specs.Campaign.{program_of, trial_under}
 use Rattle.lvdc_campaign.specs.Ran.{HasRunGuarded, NoneFailed}
 use Rattle.lvdc_campaign.specs.Stations.{fault_free_at, IsUnderWay, IsStation}

@@ -4,12 +4,12 @@ use Rattle.std.specs.declared.option.Option.TheVariants.{None}
 use Rattle.lvdc_plain.specs.Run.{Opening}
 use Rattle.lvdc_model.specs.Voted.{Voted}
 use Rattle.lvdc_laws_voted.specs.Ends.{IsOpening}
-use Rattle.lvdc_machine.specs.Snapshot.{IsWhole, Means}
+use Rattle.lvdc_snapshot.specs.Snapshot.{IsWhole, Means}
 use Rattle.lvdc_machine.specs.Stands.{Stands}
 use Rattle.lvdc_machine.specs.Steps.{run_of}
 use Rattle.lvdc_machine.specs.View.{View}
 use Rattle.lvdc_machine.specs.declared.mode.Mode.TheVariants.{Guarded}
-use Rattle.lvdc_machine.specs.declared.snapshot.Snapshot.{Snapshot}
+use Rattle.lvdc_snapshot.specs.declared.snapshot.Snapshot.{Snapshot}
 use Rattle.lvdc_campaign.specs.Campaign.{trial_under}
 
 -- the state of a machine that judges, after so many steps of a program without faults

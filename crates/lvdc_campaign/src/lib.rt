@@ -2,7 +2,6 @@
 //! what the fault-free run comes to.
 #![tactic(auto)]
 
-mod copied;
 mod early;
 mod laws;
 mod program;

@@ -17,7 +17,6 @@ ghost use Rattle.lvdc_campaign.specs.Campaign.{opening_of, trial_under, IsProgra
 ghost use Rattle.lvdc_campaign.specs.Ran.{HasRunGuarded, NoneFailed};
 ghost use Rattle.lvdc_campaign.specs.Stations.{IsStation, IsUnderWay};
 
-use crate::copied::copied;
 use crate::early::{first_step, last_before};
 use crate::program::Program;
 use crate::runs::run_script;
@@ -134,7 +133,7 @@ fn machine_at(
     ensures fresh { IfOk result (IsFresh Guarded ByStep program.now.count station.now.steps) }
 {
     machines_may_begin_late();
-    let snapshot = copied(alloc, station)?;
+    let snapshot = station.once_more(alloc)?;
     let mut devices = Vec::new(alloc);
     let machine = Machine::from_snapshot(
         alloc,

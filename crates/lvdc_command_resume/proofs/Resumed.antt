@@ -11,7 +11,7 @@ use Rattle.lvdc_model.specs.declared.outcome.Outcome.TheVariants.{Done, Stopped,
 use Rattle.lvdc_machine.specs.Causes.{HasCause}
 use Rattle.lvdc_machine.specs.Resumed.{EndsFrom, StandsFrom, state_from}
 use Rattle.lvdc_machine.specs.Shows.{Shows}
-use Rattle.lvdc_machine.specs.Snapshot.{Means}
+use Rattle.lvdc_snapshot.specs.Snapshot.{Means}
 use Rattle.lvdc_machine.specs.View.{View, answer_of_end}
 use Rattle.lvdc_machine.specs.declared.mode.Mode.{Mode}
 use Rattle.lvdc_machine.specs.declared.mode.Mode.TheVariants.{Guarded}

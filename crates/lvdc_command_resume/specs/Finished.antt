@@ -5,7 +5,7 @@ use Rattle.lvdc_model.specs.Trial.{Trial}
 use Rattle.lvdc_model.specs.Voted.{Voted}
 use Rattle.lvdc_machine.specs.Causes.{HasCause}
 use Rattle.lvdc_machine.specs.Resumed.{StandsFrom}
-use Rattle.lvdc_machine.specs.Snapshot.{Means}
+use Rattle.lvdc_snapshot.specs.Snapshot.{Means}
 use Rattle.lvdc_machine.specs.View.{View, answer_of_end}
 use Rattle.lvdc_machine.specs.declared.mode.Mode.TheVariants.{Guarded}
 use Rattle.lvdc_save.specs.declared.saved.Saved.{Saved}

@@ -8,7 +8,7 @@ use Rattle.lvdc_model.specs.Trial.{Trial}
 use Rattle.lvdc_model.specs.Voted.{Voted}
 use Rattle.lvdc_model.specs.declared.outcome.Outcome.TheVariants.{Device}
 use Rattle.lvdc_machine.specs.Resumed.{state_from, FailedFrom}
-use Rattle.lvdc_machine.specs.Snapshot.{IsWhole, voted_in, meant}
+use Rattle.lvdc_snapshot.specs.Snapshot.{IsWhole, voted_in, meant}
 use Rattle.lvdc_machine.specs.Steps.{run_from}
 use Rattle.lvdc_machine.specs.declared.mode.Mode.TheVariants.{Guarded}
 use Rattle.lvdc_save.specs.declared.saved.Saved.{Saved}

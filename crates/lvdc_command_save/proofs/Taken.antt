@@ -3,8 +3,8 @@ use Rattle.std.proofs.Common.{◌≡◌, ℕ, All, sym, ap, ◌∙◌}
 use Rattle.std.specs.List.{concat}
 use Rattle.lvdc_map.specs.Address.{IsAddress}
 use Rattle.lvdc_model.specs.Voted.{Voted}
-use Rattle.lvdc_machine.specs.Snapshot.{IsWhole, Means}
-use Rattle.lvdc_machine.specs.declared.snapshot.Snapshot.{Snapshot}
+use Rattle.lvdc_snapshot.specs.Snapshot.{IsWhole, Means}
+use Rattle.lvdc_snapshot.specs.declared.snapshot.Snapshot.{Snapshot}
 use Rattle.lvdc_command_save.specs.Snapshots.{latches_in, snapshot_of}
 use Rattle.lvdc_command_save.proofs.Listed.{latches_listed, counts_listed}
 use Rattle.lvdc_command_save.proofs.Cells.{cells_rise, cells_left}

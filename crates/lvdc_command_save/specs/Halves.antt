@@ -5,7 +5,7 @@ use Rattle.lvdc_port.specs.Device.{Device}
 use Rattle.lvdc_port.specs.Devices.{AreDistinct}
 use Rattle.lvdc_model.specs.Voted.{Voted}
 use Rattle.lvdc_laws_voted.specs.Ends.{IsOpening}
-use Rattle.lvdc_machine.specs.Snapshot.{IsWhole, Means}
+use Rattle.lvdc_snapshot.specs.Snapshot.{IsWhole, Means}
 use Rattle.lvdc_deck.specs.declared.deck.Deck.{Deck}
 use Rattle.lvdc_save.specs.Printed.{IsPrinted, IsOfADeck}
 use Rattle.lvdc_save.specs.Saved.{entries_of, saved_text}

@@ -9,7 +9,7 @@ use Rattle.lvdc_twin.specs.declared.held.Held.{Held}
 use Rattle.lvdc_vote.specs.Copies.{Copies}
 use Rattle.lvdc_model.specs.Twins.{Twins}
 use Rattle.lvdc_model.specs.Voted.{Voted}
-use Rattle.lvdc_machine.specs.declared.snapshot.Snapshot.{Snapshot}
+use Rattle.lvdc_snapshot.specs.declared.snapshot.Snapshot.{Snapshot}
 
 -- the latches of the copies of all modules, by module, copy and index
 abbrev pub latches_in : List Copies → List ℕ

@@ -5,7 +5,7 @@ ghost use Rattle.lvdc_port.specs.Device.{Device};
 ghost use Rattle.lvdc_model.specs.Trial.{Trial};
 ghost use Rattle.lvdc_model.specs.Voted.{Voted};
 ghost use Rattle.lvdc_machine.specs.Shows.{Shows};
-ghost use Rattle.lvdc_machine.specs.Snapshot.{IsWhole, Means};
+ghost use Rattle.lvdc_snapshot.specs.Snapshot.{IsWhole, Means};
 ghost use Rattle.lvdc_machine.specs.declared.mode.Mode.TheVariants as modes;
 ghost use Rattle.lvdc_save.specs.Saved.{saved_text};
 ghost use Rattle.lvdc_command_save.specs.Answers.{saved_by};

@@ -8,10 +8,10 @@ use Rattle.lvdc_plain.specs.declared.records.Exchange.{Exchange}
 use Rattle.lvdc_logic.specs.Listing.{copies_of}
 use Rattle.lvdc_machine.specs.declared.mode.Mode.{Mode}
 use Rattle.lvdc_machine.specs.declared.mode.Mode.TheVariants.{Guarded, Through}
-use Rattle.lvdc_machine.specs.declared.snapshot.Snapshot.{Snapshot}
-use Rattle.lvdc_machine.specs.Notes.{IsLog, AreRepairs}
+use Rattle.lvdc_snapshot.specs.declared.snapshot.Snapshot.{Snapshot}
+use Rattle.lvdc_snapshot.specs.Notes.{IsLog, AreRepairs}
 use Rattle.lvdc_machine.specs.Room.{IsInTime}
-use Rattle.lvdc_machine.specs.Snapshot.{IsWhole}
+use Rattle.lvdc_snapshot.specs.Snapshot.{IsWhole}
 use Rattle.lvdc_machine.specs.View.{bus_of_votes}
 
 -- of steps that rise from one on there are no more than are left

@@ -13,7 +13,7 @@ use Rattle.lvdc_plain.specs.declared.records.Exchange.{Exchange}
 use Rattle.lvdc_model.specs.Exchanges.{stop_of}
 use Rattle.lvdc_model.specs.declared.outcome.Outcome.{Outcome}
 use Rattle.lvdc_model.specs.declared.repair.Repair.{Repair}
-use Rattle.lvdc_machine.specs.Notes.{IsLog, IsNoted, AreRepairs}
+use Rattle.lvdc_snapshot.specs.Notes.{IsLog, IsNoted, AreRepairs}
 use Rattle.lvdc_machine.specs.Steps.{noted, repair_noted}
 
 -- one item more, that all others stand in the relation to

@@ -6,8 +6,6 @@ pub mod Stands
 pub mod Causes
 pub mod Sound
 pub mod Resumed
-pub mod Snapshot
 pub mod Made
-pub mod Notes
 pub mod Calls
 pub mod Onward

@@ -13,7 +13,7 @@ use Rattle.lvdc_machine.specs.declared.mode.Mode.TheVariants.{Guarded}
 use Rattle.lvdc_machine.specs.declared.mode.Pace.TheVariants.{ByTime}
 use Rattle.lvdc_memory.specs.OnMemory.{on_memory}
 use Rattle.lvdc_machine.specs.Room.{pace_of, exchanges_left, repairs_left, IsInTime}
-use Rattle.lvdc_machine.specs.Notes.{IsLog, AreRepairs}
+use Rattle.lvdc_snapshot.specs.Notes.{IsLog, AreRepairs}
 use Rattle.lvdc_machine.specs.View.{bus_of_votes, end_seen}
 
 -- what is known of the copies is what the script does in the step in force, if one is: what is in force on each, which are wrong, and

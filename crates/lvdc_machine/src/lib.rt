@@ -18,9 +18,9 @@ mod views;
 
 pub use lvdc_model::{Outcome, Repair};
 pub use lvdc_orders::{Order, Orders, OrdersFull};
+pub use lvdc_snapshot::Snapshot;
 pub use machine::Machine;
 pub use made::Made;
 pub use mode::{Mode, Pace};
 pub use resumed::resumed_goes_on;
 pub use shown::Shown;
-pub use snapshot::Snapshot;

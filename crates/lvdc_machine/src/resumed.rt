@@ -1,36 +1,33 @@
 //! A machine that goes on from a snapshot.
 
-ghost use Rattle.std.specs.Prelude.{◌≡◌, ℕ, ◌+◌, ◌-◌, ◌*◌, ◌≤◌, ◌<◌, ◌^◌, List, All, length, map, IfOk, None, vec_len, vec_capacity};
+ghost use Rattle.std.specs.Prelude.{◌≡◌, ℕ, ◌+◌, ◌-◌, ◌*◌, ◌≤◌, ◌<◌, ◌^◌, List, All, length, map, IfOk, None};
 ghost use Rattle.lvdc_port.specs.Device as device;
 ghost use Rattle.lvdc_port.specs.Devices.{AreDistinct};
 ghost use Rattle.lvdc_plain.specs.Lists.{AreFit};
-ghost use Rattle.lvdc_fault.specs.Activity.{Fits};
 ghost use Rattle.lvdc_model.specs.Known.{last_made};
 ghost use Rattle.lvdc_model.specs.Trial.{Trial};
 ghost use Rattle.lvdc_model.specs.Voted.{Voted, voted_start};
 ghost use Rattle.lvdc_fault.specs.Events.{IsEvent};
-ghost use Rattle.lvdc_memory.specs.Holds.{Holds};
 ghost use Rattle.lvdc_machine.specs.declared.mode.Mode.TheVariants.{Guarded};
 ghost use Rattle.lvdc_machine.specs.declared.mode.Pace.TheVariants.{ByStep};
 ghost use Rattle.lvdc_machine.specs.Resumed.{StandsFrom};
 ghost use Rattle.lvdc_machine.specs.Calls.{IsFresh};
 ghost use Rattle.lvdc_machine.specs.Room.{exchanges_to_come};
-ghost use Rattle.lvdc_machine.specs.Snapshot.{IsWhole, Means, meant};
+ghost use Rattle.lvdc_snapshot.specs.Snapshot.{IsWhole, Means, meant};
 ghost use Rattle.lvdc_logic.specs.Parts.{AreForces};
 ghost use Rattle.lvdc_machine.specs.Sound.{KnowsForce};
 ghost use Rattle.lvdc_machine.specs.Stands.{Stands};
 ghost use Rattle.lvdc_machine.specs.Steps.{run_of};
-ghost use Rattle.lvdc_machine.specs.declared.snapshot.Snapshot.{Snapshot};
+ghost use Rattle.lvdc_snapshot.specs.declared.snapshot.Snapshot.{Snapshot};
 ghost use Rattle.lvdc_machine.specs.View.{View};
 
 use crate::{Machine, Mode, Pace, Snapshot};
-use lvdc_fault::{Active, Script};
+use lvdc_fault::Script;
 use lvdc_logic::{Forces, Logic};
-use lvdc_memory::{VotedMemory, memory_events, put_last_in_force};
-use lvdc_model::Repair;
-use lvdc_plain::{Exchange, Unplug};
+use lvdc_memory::memory_events;
+use lvdc_plain::Unplug;
 use lvdc_port::{PortDevice, prepare_all};
-use lvdc_word::{NoMemory, Seq, Word};
+use lvdc_word::{NoMemory, Word};
 use std::alloc::Global;
 
 impl Machine {
@@ -87,9 +84,9 @@ impl Machine {
         let banks = snapshot.banks;
         let logic = Logic::from_latches(snapshot.latches.items(), snapshot.differed.items());
         let on_memory = memory_events(alloc, &script)?;
-        let (active, memory) = memory_of(alloc, &snapshot, &on_memory)?;
+        let (active, memory) = snapshot.memory(alloc, &on_memory)?;
         let forces = forces_before(alloc, &script, steps)?;
-        let (log, repairs) = noted_in(snapshot, 3 * limit - steps)?;
+        let (log, repairs) = snapshot.into_noted(3 * limit - steps)?;
         Ok(Machine {
             banks,
             bus: logic.bus(Word::ZERO, Word::ZERO),
@@ -109,56 +106,6 @@ impl Machine {
             end: None,
         })
     }
-}
-
-/// The port exchanges and the repairs of a snapshot, and room for so many more of each.
-fn noted_in(snapshot: Snapshot, more: u64) -> Result<(Vec<Exchange>, Vec<Repair>), NoMemory>
-    ensures log { IfOk result (λ noted. noted.0.items ≡ snapshot.log) }
-    ensures log_room { IfOk result (λ noted. vec_len noted.0 + more ≤ vec_capacity noted.0) }
-    ensures repairs { IfOk result (λ noted. noted.1.items ≡ snapshot.repairs) }
-    ensures repairs_room { IfOk result (λ noted. vec_len noted.1 + more ≤ vec_capacity noted.1) }
-{
-    let log = with_room(snapshot.log, more)?;
-    let repairs = with_room(snapshot.repairs, more)?;
-    Ok((log, repairs))
-}
-
-/// The items of a list, and room for so many more.
-fn with_room<T: Drop>(list: Seq<T>, more: u64) -> Result<Vec<T>, NoMemory>
-    ensures items { IfOk result (λ made. made.items ≡ list) }
-    ensures room { IfOk result (λ made. vec_len made + more ≤ vec_capacity made) }
-{
-    let mut made = list.into_vec();
-    made.reserve_exact(more as usize)?;
-    Ok(made)
-}
-
-/// The memory that a snapshot means, in which what a script sticks and kills in the step before is in force; and by which of
-/// its events it is.
-fn memory_of(
-    alloc: Global,
-    snapshot: &Snapshot,
-    script: &Script,
-) -> Result<(Active, VotedMemory), NoMemory>
-    requires whole { IsWhole snapshot.now }
-    requires events { All IsEvent script.now }
-    ensures fits { IfOk result (λ made. Fits script.now made.0) }
-    ensures within { IfOk result (λ made. All (λ position. position < length script.now) made.0.held) }
-    ensures last { IfOk result (λ made. made.0.last ≡ last_made snapshot.now.steps) }
-    ensures holds { IfOk result (λ made. (o : Trial) (v : Voted) → o.script ≡ script.now → o.opening.banks ≡ snapshot.now.banks
-        → Means snapshot.now v → Holds o made.0.last made.1 v.twins v.intended) }
-    ensures banks { IfOk result (λ made. made.1.twins.banks ≡ snapshot.now.banks) }
-{
-    let mut active = Active::for_script(alloc, script)?;
-    let mut memory = VotedMemory::from_cells(
-        alloc,
-        snapshot.cells.items(),
-        snapshot.selected.items(),
-        snapshot.words.items(),
-        snapshot.banks,
-    )?;
-    put_last_in_force(script, snapshot.steps, &mut active, &mut memory);
-    Ok((active, memory))
 }
 
 /// What is in force on the copies in the step before this one, if there is one.

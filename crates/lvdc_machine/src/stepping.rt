@@ -20,7 +20,7 @@ ghost use Rattle.lvdc_model.specs.declared.outcome.Outcome.TheVariants.{Inadmiss
 ghost use Rattle.lvdc_machine.specs.declared.mode.Mode.TheVariants.{Guarded, Through};
 ghost use Rattle.lvdc_machine.specs.Causes.{Fails, HasCause};
 ghost use Rattle.lvdc_machine.specs.Room.{exchanges_to_come, MayExchange, MayRepair, IsDue};
-ghost use Rattle.lvdc_machine.specs.Notes.{IsNoted};
+ghost use Rattle.lvdc_snapshot.specs.Notes.{IsNoted};
 ghost use Rattle.lvdc_machine.specs.Made.{of_port, without_a_word, read_made, exchange_made, made_next, told_by};
 ghost use Rattle.lvdc_modules.specs.declared.wanted.Wanted.TheVariants.{PortWrite};
 ghost use Rattle.lvdc_machine.specs.Resumed.{state_from, StandsFrom};

@@ -3,7 +3,7 @@ use Rattle.std.specs.Prelude.{ℕ, zero, suc, ◌+◌, ◌/◌, ◌%◌, ◌==�
 use Rattle.std.specs.List.{range_with_len}
 use Rattle.lvdc_vote.specs.Numbers.{latches_of}
 use Rattle.lvdc_orders.specs.Orders.{orders_of}
-use Rattle.lvdc_machine.specs.declared.snapshot.Snapshot.{Snapshot}
+use Rattle.lvdc_snapshot.specs.declared.snapshot.Snapshot.{Snapshot}
 use Rattle.lvdc_report.specs.Report.{lines_of}
 use Rattle.lvdc_save.specs.declared.entry.CopyState.{CopyState}
 use Rattle.lvdc_save.specs.declared.entry.Entry.{Entry}

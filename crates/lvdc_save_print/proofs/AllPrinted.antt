@@ -13,8 +13,8 @@ use Rattle.lvdc_orders.specs.Orders.{orders_of}
 use Rattle.lvdc_orders.proofs.Permutations.{order_from_full}
 use Rattle.lvdc_plain.specs.declared.records.Unplug.{Unplug}
 use Rattle.lvdc_model.specs.declared.repair.Repair.{Repair}
-use Rattle.lvdc_machine.specs.declared.snapshot.Snapshot.{Snapshot}
-use Rattle.lvdc_machine.specs.Snapshot.{IsWhole}
+use Rattle.lvdc_snapshot.specs.declared.snapshot.Snapshot.{Snapshot}
+use Rattle.lvdc_snapshot.specs.Snapshot.{IsWhole}
 use Rattle.lvdc_fault.specs.Events.{TIMES}
 use Rattle.lvdc_report.specs.Report.{IsInRange}
 use Rattle.lvdc_save.specs.declared.entry.Entry.{Entry}

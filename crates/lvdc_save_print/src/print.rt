@@ -7,7 +7,7 @@ ghost use Rattle.lvdc_vote.specs.Copies.{IsFullOrder};
 ghost use Rattle.lvdc_save.specs.Printed.{IsSupply, IsUnplug, IsOfADeck, IsPrinted};
 ghost use Rattle.lvdc_vote.specs.Numbers.{latches_of};
 ghost use Rattle.lvdc_orders.specs.Orders.{orders_of};
-ghost use Rattle.lvdc_machine.specs.Snapshot.{IsWhole};
+ghost use Rattle.lvdc_snapshot.specs.Snapshot.{IsWhole};
 ghost use Rattle.lvdc_report.specs.Report.{lines_of};
 ghost use Rattle.lvdc_save.specs.declared.entry.Entry.TheVariants as says;
 ghost use Rattle.lvdc_save.specs.Lines.{copy_line, entry_line};

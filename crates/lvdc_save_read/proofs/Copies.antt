@@ -8,8 +8,8 @@ use Rattle.std.proofs.lemmas.List.{get_or_at, length-take, length-drop, length_p
 use Rattle.std.proofs.lemmas.List.FromFn.{get_or-range_with_len, length-range_with_len}
 use Rattle.lvdc_vote.specs.Numbers.{latches_of}
 use Rattle.lvdc_port.specs.Device.{Device}
-use Rattle.lvdc_machine.specs.declared.snapshot.Snapshot.{Snapshot}
-use Rattle.lvdc_machine.specs.Snapshot.{IsWhole}
+use Rattle.lvdc_snapshot.specs.declared.snapshot.Snapshot.{Snapshot}
+use Rattle.lvdc_snapshot.specs.Snapshot.{IsWhole}
 use Rattle.lvdc_save.specs.declared.entry.Entry.TheVariants as says
 use Rattle.lvdc_save.specs.declared.saved.Saved.{Saved}
 use Rattle.lvdc_save.specs.declared.section.Section.TheVariants as section

@@ -5,7 +5,7 @@ use Rattle.std.proofs.lemmas.Bool.{eqb-true, le-leb, eq-eqb}
 use Rattle.std.proofs.lemmas.List.{take_all}
 use Rattle.lvdc_port.specs.Device.{Device}
 use Rattle.lvdc_orders.specs.Orders.{orders_of}
-use Rattle.lvdc_machine.specs.Snapshot.{IsWhole}
+use Rattle.lvdc_snapshot.specs.Snapshot.{IsWhole}
 use Rattle.lvdc_save.specs.declared.entry.Entry.{Entry}
 use Rattle.lvdc_save.specs.declared.entry.Entry.TheVariants as says
 use Rattle.lvdc_save.specs.declared.fault.SaveFault.{SaveFault}

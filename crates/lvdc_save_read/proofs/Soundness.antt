@@ -19,8 +19,8 @@ use Rattle.lvdc_fault.specs.Events.{IsEvent}
 use Rattle.lvdc_port.specs.Device.{Device}
 use Rattle.lvdc_plain.specs.declared.records.Exchange.{Exchange}
 use Rattle.lvdc_model.specs.declared.repair.Repair.{Repair}
-use Rattle.lvdc_machine.specs.Notes.{IsLog, AreRepairs}
-use Rattle.lvdc_machine.specs.Snapshot.{IsWhole}
+use Rattle.lvdc_snapshot.specs.Notes.{IsLog, AreRepairs}
+use Rattle.lvdc_snapshot.specs.Snapshot.{IsWhole}
 use Rattle.lvdc_save.specs.declared.entry.CopyState.{CopyState}
 use Rattle.lvdc_save.specs.declared.entry.Entry.{Entry}
 use Rattle.lvdc_save.specs.declared.entry.Entry.TheVariants as says

@@ -10,7 +10,7 @@ use Rattle.lvdc_port.specs.declared.requests.Supply.{Supply}
 use Rattle.lvdc_plain.specs.declared.records.Unplug.{Unplug}
 use Rattle.lvdc_fault.specs.Events.{EVENTS}
 use Rattle.lvdc_orders.specs.Orders.{ORDERS, orders_of}
-use Rattle.lvdc_machine.specs.Snapshot.{IsWhole}
+use Rattle.lvdc_snapshot.specs.Snapshot.{IsWhole}
 use Rattle.lvdc_save.specs.declared.saved.Saved.{Saved}
 
 -- the kind of the device at a port, where there is one

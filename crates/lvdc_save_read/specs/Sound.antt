@@ -7,7 +7,7 @@ use Rattle.lvdc_map.specs.Memory.{AllThere}
 use Rattle.lvdc_twin.specs.Store.{slot_of}
 use Rattle.lvdc_twin.specs.Cells.{NamesPlace, are_rising}
 use Rattle.lvdc_fault.specs.Events.{TIMES, EVENTS, IsEvent}
-use Rattle.lvdc_machine.specs.Notes.{IsLog, AreRepairs}
+use Rattle.lvdc_snapshot.specs.Notes.{IsLog, AreRepairs}
 use Rattle.lvdc_map.specs.declared.placed.Placed.{Placed}
 use Rattle.lvdc_twin.specs.declared.held.Held.{Held}
 use Rattle.lvdc_fault.specs.declared.event.Event.{Event}

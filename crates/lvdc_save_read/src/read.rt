@@ -1,6 +1,6 @@
 ghost use Rattle.std.specs.Prelude.{◌≡◌, ◌≢◌, ◌-◌, ◌^◌, ◌*◌, ◌/◌, ◌<◌, ◌≤◌, All, length, map, IfOk, IfErr, Ok, Err};
 ghost use Rattle.lvdc_fault.specs.Events.{TIMES, EVENTS, IsEvent};
-ghost use Rattle.lvdc_machine.specs.Snapshot.{IsWhole};
+ghost use Rattle.lvdc_snapshot.specs.Snapshot.{IsWhole};
 ghost use Rattle.lvdc_save.specs.Reading.{saved_of};
 ghost use Rattle.lvdc_save_read.specs.Accepted.{AreStates, AreUnplugs};
 ghost use Rattle.lvdc_save.specs.declared.fault.SaveFault.TheVariants.{NoMemory as WantsMemory};

@@ -4,7 +4,7 @@ ghost use Rattle.lvdc_port.specs.Supplies.{kind_at};
 ghost use Rattle.std.specs.List.{list_any};
 ghost use Rattle.lvdc_vote.specs.Bits.{majority};
 ghost use Rattle.lvdc_fault.specs.Events.{TIMES, EVENTS, IsEvent};
-ghost use Rattle.lvdc_machine.specs.Snapshot.{IsWhole};
+ghost use Rattle.lvdc_snapshot.specs.Snapshot.{IsWhole};
 ghost use Rattle.lvdc_orders.specs.Orders.{ORDERS};
 ghost use Rattle.lvdc_save_read.specs.Sound.{IsSound};
 ghost use Rattle.lvdc_save.specs.declared.entry.Entry.TheVariants as says;

@@ -1,9 +1,9 @@
 use Rattle.std.proofs.Common.{sym, subst, ap, ◌∙◌}
 use Rattle.lvdc_machine.specs.Calls.{IsFresh}
-use Rattle.lvdc_machine.specs.Snapshot.{Means}
+use Rattle.lvdc_snapshot.specs.Snapshot.{Means}
 use Rattle.lvdc_machine.specs.declared.mode.Mode.TheVariants.{Guarded}
 use Rattle.lvdc_machine.specs.declared.mode.Pace.TheVariants.{ByStep}
-use Rattle.lvdc_machine.specs.declared.snapshot.Snapshot.{Snapshot}
+use Rattle.lvdc_snapshot.specs.declared.snapshot.Snapshot.{Snapshot}
 use Rattle.lvdc_campaign.proofs.Stationed.{stands-late}
 use Rattle.lvdc_campaign.proofs.stations.machine_at.Goals as goal
 

@@ -1,24 +1,25 @@
 -- Snapshots of the voted machine: when one is whole, and which state one means.
-use Rattle.std.specs.Prelude.{◌≡◌, ◌≢◌, ◌/◌, ◌%◌, ◌≤◌, ◌<◌, true, List, All, length}
+use Rattle.std.specs.Prelude.{◌≡◌, ◌≢◌, ◌/◌, ◌%◌, ◌≤◌, ◌<◌, true, List, All, length, map}
 use Rattle.std.specs.declared.option.Option.TheVariants.{None}
 use Rattle.lvdc_word.specs.Cell.{code_of}
 use Rattle.lvdc_map.specs.Memory as image
 use Rattle.lvdc_map.specs.Memory.{memory_of, AllThere}
 use Rattle.lvdc_port.specs.Device as device
 use Rattle.lvdc_twin.specs.Cells.{NamesPlace, cells_of, are_rising}
+use Rattle.lvdc_vote.specs.Copies.{vote_of}
+use Rattle.lvdc_modules.specs.Rows.{bus_of}
 use Rattle.lvdc_modules.specs.declared.bus.Bus.{Bus}
 use Rattle.lvdc_model.specs.Voted.{Voted}
 use Rattle.lvdc_logic.specs.Listing.{copies_of, counts_of}
 use Rattle.lvdc_memory.specs.Holds.{StoreCells, AreIntended}
-use Rattle.lvdc_machine.specs.declared.snapshot.Snapshot.{Snapshot}
-use Rattle.lvdc_machine.specs.Notes.{IsLog, AreRepairs}
-use Rattle.lvdc_machine.specs.View.{bus_of_votes}
+use Rattle.lvdc_snapshot.specs.declared.snapshot.Snapshot.{Snapshot}
+use Rattle.lvdc_snapshot.specs.Notes.{IsLog, AreRepairs}
 
 -- ---- whole
 
 -- the bus of the votes over the copies
 abbrev pub voted_in : Snapshot → Bus
-voted_in s = bus_of_votes (copies_of s.latches)
+voted_in s = bus_of (map vote_of (copies_of s.latches)) 0 0
 
 -- there are 45 latches, 21 counts and four selections, each in its range; whole times were made, the votes say that a time
 -- begins and that nothing has stopped; cells and words rise, name places that are there, and leave out the word 0; and the log

@@ -1,5 +1,5 @@
 use Rattle.std.proofs.Common.{◌∙◌, sym}
-use Rattle.lvdc_machine.proofs.resumed.memory_of.Goals as goal
+use Rattle.lvdc_snapshot.proofs.snapshot.Snapshot.memory.Goals as goal
 
 pub returns-clause-holds : goal.returns-clause-holds
 returns-clause-holds c = λ o v script banks means.

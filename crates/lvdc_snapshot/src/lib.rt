@@ -1,0 +1,8 @@
+//! Snapshots: what the voted machine has between two instruction times, but for its script and its devices.
+#![tactic(auto)]
+
+mod lists;
+mod snapshot;
+
+pub use lists::logic_lists;
+pub use snapshot::Snapshot;
