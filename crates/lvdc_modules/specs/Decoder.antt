@@ -8,9 +8,13 @@ use Rattle.lvdc_modules.specs.declared.seen.Doing.TheVariants.{Fetching}
 use Rattle.lvdc_modules.specs.Seen.{doing, here}
 use Rattle.lvdc_modules.specs.States.{decoder_latches}
 
--- INSTR changes only where an instruction is fetched: it is the syllable of the memory word that the place names
+-- the state with the instruction at the place h: the syllable of the memory word that it names
+abbrev pub decoder_at : Bus → HopConstant → DecoderState
+decoder_at b h = record { instr = syllable_at h b.memory }
+
+-- INSTR changes only where an instruction is fetched
 abbrev pub decoder_by : Doing → Bus → HopConstant → DecoderState
-decoder_by Fetching b h = record { instr = syllable_at h b.memory }
+decoder_by Fetching b h = decoder_at b h
 decoder_by _ b h = b.decoder
 
 -- DECODER: what its latch becomes in a phase

@@ -26,6 +26,10 @@ hold_after A b op = b.timer.hold
 hold_after B b op = b.timer.hold
 hold_after C b op = if hold b == 0 then held_by op else hold b - 1
 
+-- the timer after an instruction that no hold keeps from being executed
+abbrev pub held_timer : Op → TimerState
+held_timer op = record { phase = 0; hold = held_by op }
+
 -- TIMER: what its latches become in a phase
 abbrev pub timer : Bus → TimerState
 timer b = record { phase = phase_after (phase b); hold = hold_after (phase b) b (instruction b).op }

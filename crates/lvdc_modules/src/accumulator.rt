@@ -70,7 +70,7 @@ impl Vote for AccumulatorState {
 }
 
 /// What the operation makes of the accumulator.
-fn accumulated(op: Op, bus: &Bus, address: u16) -> Word
+pub(crate) fn accumulated(op: Op, bus: &Bus, address: u16) -> Word
     ensures { result ≡ accumulated op bus.now address }
 {
     let AccumulatorState { a, operand } = bus.accumulator;
@@ -88,7 +88,7 @@ fn accumulated(op: Op, bus: &Bus, address: u16) -> Word
 }
 
 /// The operand word that the address names.
-fn operand_named(bus: &Bus, address: u16) -> Word
+pub(crate) fn operand_named(bus: &Bus, address: u16) -> Word
     ensures { result ≡ operand_from (operand_kind address) bus.now }
 {
     match OperandKind::of(address) {
@@ -119,11 +119,10 @@ fn operand_taken(bus: &Bus, doing: Doing, instruction: Instr) -> Word
     }
 }
 
-/// The accumulator: the product of an MPH where it lands, whatever is done in this phase.
-fn a_after(bus: &Bus, doing: Doing, instruction: Instr) -> Word
-    ensures { result ≡ a_landed (kind (working bus.now)) (landing bus.now) (a_by doing bus.now instruction) }
+/// The accumulator: the product of an MPH where it lands, whatever else this phase has made of it.
+pub(crate) fn a_landed(bus: &Bus, executed: Word) -> Word
+    ensures { result ≡ a_landed (kind (working bus.now)) (landing bus.now) executed }
 {
-    let executed = a_executed(bus, doing, instruction);
     let unit = working(bus);
     match unit.kind() {
         Kind::MultiplyHigh => unit.lands().unwrap_or(executed),
@@ -147,7 +146,7 @@ impl LogicModule for Accumulator {
         let doing = doing_of(bus);
         let instruction = instruction_of(bus);
         AccumulatorState {
-            a: a_after(bus, doing, instruction),
+            a: a_landed(bus, a_executed(bus, doing, instruction)),
             operand: operand_taken(bus, doing, instruction),
         }
     }

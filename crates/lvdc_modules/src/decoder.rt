@@ -1,7 +1,8 @@
-ghost use Rattle.std.specs.Prelude.{refl};
+ghost use Rattle.std.specs.Prelude.{◌≡◌, refl};
 ghost use Rattle.std.proofs.Common.{ap};
 ghost use Rattle.lvdc_modules.specs.States.{decoder_latches, decoder_of};
-ghost use Rattle.lvdc_modules.specs.Decoder.{decoder_row};
+ghost use Rattle.lvdc_modules.specs.Decoder.{decoder_at, decoder_row};
+ghost use Rattle.lvdc_modules.specs.Seen.{here};
 
 use crate::Bus;
 use crate::seen::{Doing, doing_of};
@@ -50,6 +51,16 @@ impl Vote for DecoderState {
     ghost exact = { λ s t e. ap decoder_of e };
 }
 
+/// The instruction that the memory word has at the place.
+pub(crate) fn decoder_at(bus: &Bus) -> DecoderState
+    ensures { result ≡ decoder_at bus.now (here bus.now) }
+{
+    let syllable = Hop::of(bus.locator.place).syllable(bus.memory);
+    DecoderState {
+        instr: Word::within(u32::from(syllable.value())),
+    }
+}
+
 /// The decoder, module 3: it keeps the instruction that was fetched.
 pub struct Decoder;
 
@@ -64,10 +75,7 @@ impl LogicModule for Decoder {
 
     fn next(bus: &Bus) -> DecoderState {
         if doing_of(bus) == Doing::Fetching {
-            let syllable = Hop::of(bus.locator.place).syllable(bus.memory);
-            DecoderState {
-                instr: Word::within(u32::from(syllable.value())),
-            }
+            decoder_at(bus)
         } else {
             bus.decoder
         }

@@ -68,7 +68,7 @@ impl Vote for ExchangeState {
 }
 
 /// What the operation asks for.
-fn requested(op: Op, place: Hop, address: u16) -> Request
+pub(crate) fn requested(op: Op, place: Hop, address: u16) -> Request
     requires { address < 2 ^ 9 }
     ensures value { result ≡ requested op place address }
     ensures ranges { IsRequest result }
@@ -92,7 +92,7 @@ fn requested(op: Op, place: Hop, address: u16) -> Request
 }
 
 /// What the operation makes of STOP.
-fn stopped(op: Op, stop: Word) -> Word
+pub(crate) fn stopped(op: Op, stop: Word) -> Word
     ensures { result ≡ stopped op stop }
 {
     match op {

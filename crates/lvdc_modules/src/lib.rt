@@ -11,6 +11,7 @@ mod locator;
 mod multiplier;
 mod next;
 mod numbers;
+mod renewal;
 mod request;
 mod seen;
 mod selector;

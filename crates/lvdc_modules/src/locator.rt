@@ -107,7 +107,7 @@ fn jumps(place: Hop, address: u16) -> LocatorState
 }
 
 /// Where the operation goes on.
-fn located(op: Op, bus: &Bus, place: Hop, address: u16) -> LocatorState
+pub(crate) fn located(op: Op, bus: &Bus, place: Hop, address: u16) -> LocatorState
     ensures { result ≡ located op bus.now place address }
 {
     let a = bus.accumulator.a;

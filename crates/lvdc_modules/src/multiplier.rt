@@ -94,7 +94,7 @@ pub(crate) fn working(bus: &Bus) -> Unit
 }
 
 /// PQ and the unit after the unit's phase: a result lands in PQ, and the unit is idle then.
-fn after_phase(bus: &Bus) -> (Word, Unit)
+pub(crate) fn after_phase(bus: &Bus) -> (Word, Unit)
     ensures pq { result.0 ≡ unit_pq bus.now }
     ensures unit { result.1 ≡ unit_working bus.now }
 {
@@ -106,7 +106,7 @@ fn after_phase(bus: &Bus) -> (Word, Unit)
 }
 
 /// What the operation makes of PQ, which the unit's phase has left so.
-fn pq_after(op: Op, bus: &Bus, address: u16, pq: Word) -> Word
+pub(crate) fn pq_after(op: Op, bus: &Bus, address: u16, pq: Word) -> Word
     requires { pq ≡ unit_pq bus.now }
     ensures { result ≡ pq_after op bus.now address }
 {
@@ -118,7 +118,7 @@ fn pq_after(op: Op, bus: &Bus, address: u16, pq: Word) -> Word
 }
 
 /// What the operation makes of the unit, which its phase has left so.
-fn working_after(op: Op, bus: &Bus, address: u16, unit: Unit) -> Unit
+pub(crate) fn working_after(op: Op, bus: &Bus, address: u16, unit: Unit) -> Unit
     requires { unit ≡ unit_working bus.now }
     ensures { result ≡ working_after op bus.now address }
 {
@@ -137,7 +137,7 @@ fn working_after(op: Op, bus: &Bus, address: u16, unit: Unit) -> Unit
 }
 
 /// The latches of PQ and the unit.
-fn latched(pq: Word, unit: Unit) -> MultiplierState
+pub(crate) fn latched(pq: Word, unit: Unit) -> MultiplierState
     ensures { result ≡ multiplier_with pq unit }
 {
     let Unit { control, m, h, q } = unit;

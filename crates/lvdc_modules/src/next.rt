@@ -3,10 +3,9 @@
 ghost use Rattle.lvdc_modules.specs.Next.{IsNext};
 
 use crate::{
-    Accumulator, AccumulatorState, Bus, Decoder, DecoderState, ExchangeState, Exchanger, Locator,
-    LocatorState, Multiplier, MultiplierState, Selector, SelectorState, Timer, TimerState,
+    AccumulatorState, Bus, DecoderState, ExchangeState, LocatorState, MultiplierState,
+    SelectorState, TimerState,
 };
-use lvdc_vote::LogicModule;
 
 /// The state that follows for each module from one bus. It is worked out once a step, however many copies latch it.
 #[derive(Clone, Copy, Debug)]
@@ -25,14 +24,16 @@ impl Next {
     pub fn of(bus: &Bus) -> Next
         ensures { IsNext bus.now result }
     {
+        let mut renewed = *bus;
+        renewed.renew();
         Next {
-            timer: Timer::next(bus),
-            locator: Locator::next(bus),
-            decoder: Decoder::next(bus),
-            selector: Selector::next(bus),
-            accumulator: Accumulator::next(bus),
-            multiplier: Multiplier::next(bus),
-            exchange: Exchanger::next(bus),
+            timer: renewed.timer,
+            locator: renewed.locator,
+            decoder: renewed.decoder,
+            selector: renewed.selector,
+            accumulator: renewed.accumulator,
+            multiplier: renewed.multiplier,
+            exchange: renewed.exchange,
         }
     }
 }

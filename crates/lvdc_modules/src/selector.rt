@@ -67,7 +67,7 @@ pub fn data_word(place: Hop) -> Word
 }
 
 /// Where operands stand after the operation.
-fn selected(op: Op, bus: &Bus, place: Hop, address: u16) -> SelectorState
+pub(crate) fn selected(op: Op, bus: &Bus, place: Hop, address: u16) -> SelectorState
     ensures { result ≡ selected op bus.now place address }
 {
     match op {

@@ -1,7 +1,7 @@
 ghost use Rattle.std.specs.Prelude.{◌≡◌, refl};
 ghost use Rattle.std.proofs.Common.{ap};
 ghost use Rattle.lvdc_modules.specs.States.{timer_latches, timer_of};
-ghost use Rattle.lvdc_modules.specs.Timer.{held_by, timer_row};
+ghost use Rattle.lvdc_modules.specs.Timer.{held_by, held_timer, timer, timer_row};
 
 use crate::Bus;
 use crate::seen::{Phase, hold_of, instruction_of, phase_of};
@@ -75,6 +75,40 @@ fn held_by(op: Op) -> Word
     }
 }
 
+/// The timer after an instruction, which may begin a hold.
+pub(crate) fn held_timer(op: Op) -> TimerState
+    ensures { result ≡ held_timer op }
+{
+    TimerState {
+        phase: Word::ZERO,
+        hold: held_by(op),
+    }
+}
+
+/// The timer after this phase.
+pub(crate) fn timer_after(bus: &Bus) -> TimerState
+    ensures { result ≡ timer bus.now }
+{
+    let hold = bus.timer.hold;
+    match phase_of(bus) {
+        Phase::A => TimerState {
+            phase: Word::within(1),
+            hold,
+        },
+        Phase::B => TimerState {
+            phase: Word::within(2),
+            hold,
+        },
+        Phase::C => match hold_of(bus) {
+            0 => held_timer(instruction_of(bus).op),
+            left => TimerState {
+                phase: Word::ZERO,
+                hold: Word::within(left - 1),
+            },
+        },
+    }
+}
+
 /// The timer, module 1: it counts phases, and instruction times for which nothing is fetched.
 pub struct Timer;
 
@@ -88,24 +122,7 @@ impl LogicModule for Timer {
     const NUMBER: u8 = 1;
 
     fn next(bus: &Bus) -> TimerState {
-        let hold = bus.timer.hold;
-        match phase_of(bus) {
-            Phase::A => TimerState {
-                phase: Word::within(1),
-                hold,
-            },
-            Phase::B => TimerState {
-                phase: Word::within(2),
-                hold,
-            },
-            Phase::C => TimerState {
-                phase: Word::ZERO,
-                hold: match hold_of(bus) {
-                    0 => held_by(instruction_of(bus).op),
-                    left => Word::within(left - 1),
-                },
-            },
-        }
+        timer_after(bus)
     }
 
     ghost fits = { λ bus. refl };

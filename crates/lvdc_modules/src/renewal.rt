@@ -1,0 +1,119 @@
+//! Each module goes on to what follows for it, in place. The place and the instruction are seen once, and what can't change in
+//! the phase isn't written.
+
+ghost use Rattle.std.specs.Prelude.{◌≡◌, ◌<◌};
+ghost use Rattle.lvdc_modules.specs.declared.seen.Phase.TheVariants.{A, B, C};
+ghost use Rattle.lvdc_modules.specs.Seen.{phase, hold};
+ghost use Rattle.lvdc_modules.specs.Next.{next_states, renewed, after_unit, after_operation};
+
+use crate::Bus;
+use crate::accumulator::{a_landed, accumulated, operand_named};
+use crate::decoder::decoder_at;
+use crate::exchange::{requested, stopped};
+use crate::locator::located;
+use crate::multiplier::{after_phase, latched, pq_after, working, working_after};
+use crate::seen::{Phase, here_of, hold_of, instruction_of, phase_of};
+use crate::selector::selected;
+use crate::timer::{held_timer, timer_after};
+use lvdc_isa::Instr;
+use lvdc_mul::Kind;
+use lvdc_word::Word;
+
+impl Bus {
+    /// Goes on to the next phase, as all modules do side by side.
+    pub fn renew(&mut self)
+        ensures { self.new ≡ renewed self.old }
+    {
+        if hold_of(self) > 0 {
+            self.wait();
+        } else {
+            match phase_of(self) {
+                Phase::A => self.fetch(),
+                Phase::B => self.take(),
+                Phase::C => self.execute(),
+            }
+        }
+        self.memory = Word::ZERO;
+        self.port = Word::ZERO;
+    }
+
+    /// A phase of a hold.
+    fn wait(&mut self)
+        requires { 0 < hold self.old }
+        ensures { self.new ≡ next_states self.old }
+    {
+        self.timer = timer_after(self);
+        self.exchange.request = Word::ZERO;
+        self.run_unit();
+    }
+
+    /// Phase A: the instruction is fetched.
+    fn fetch(&mut self)
+        requires hold { hold self.old ≡ 0 }
+        requires phase { phase self.old ≡ A }
+        ensures { self.new ≡ next_states self.old }
+    {
+        self.timer = timer_after(self);
+        self.decoder = decoder_at(self);
+        self.exchange.request = Word::ZERO;
+        self.run_unit();
+    }
+
+    /// Phase B: the operand is taken, and what phase C exchanges is requested.
+    fn take(&mut self)
+        requires hold { hold self.old ≡ 0 }
+        requires phase { phase self.old ≡ B }
+        ensures { self.new ≡ next_states self.old }
+    {
+        let Instr { op, address } = instruction_of(self);
+        self.timer = timer_after(self);
+        self.exchange.request = requested(op, here_of(self), address).to_word();
+        if op.takes_operand() {
+            self.accumulator.operand = operand_named(self, address);
+        }
+        self.run_unit();
+    }
+
+    /// Phase C: the instruction is executed.
+    fn execute(&mut self)
+        requires hold { hold self.old ≡ 0 }
+        requires phase { phase self.old ≡ C }
+        ensures { self.new ≡ next_states self.old }
+    {
+        let instruction = instruction_of(self);
+        let Instr { op, address } = instruction;
+        let place = here_of(self);
+        self.timer = held_timer(op);
+        self.locator = located(op, self, place, address);
+        self.selector = selected(op, self, place, address);
+        self.exchange.stop = stopped(op, self.exchange.stop);
+        self.exchange.request = Word::ZERO;
+        self.operate(instruction);
+    }
+
+    /// The arithmetic unit makes its phase, and no instruction is executed.
+    fn run_unit(&mut self)
+        ensures { self.new ≡ after_unit self.old }
+    {
+        if working(self).kind() == Kind::Idle {
+            return;
+        }
+        self.accumulator.a = a_landed(self, self.accumulator.a);
+        let (pq, unit) = after_phase(self);
+        self.multiplier = latched(pq, unit);
+    }
+
+    /// The arithmetic unit makes its phase, and then the instruction is executed.
+    fn operate(&mut self, instruction: Instr)
+        ensures { self.new ≡ after_operation instruction self.old }
+    {
+        let Instr { op, address } = instruction;
+        let a = a_landed(self, accumulated(op, self, address));
+        let (pq, unit) = after_phase(self);
+        self.multiplier = latched(
+            pq_after(op, self, address, pq),
+            working_after(op, self, address, unit),
+        );
+        self.accumulator.a = a;
+    }
+}
