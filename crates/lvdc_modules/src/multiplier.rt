@@ -3,8 +3,8 @@ ghost use Rattle.std.proofs.Common.{ap};
 ghost use Rattle.lvdc_modules.specs.States.{multiplier_latches, multiplier_of};
 ghost use Rattle.lvdc_modules.specs.Multiplier.{working, unit_pq, unit_working, pq_after, working_after, multiplier_with, multiplier_row};
 
-use crate::Bus;
 use crate::seen::{Doing, doing_of, instruction_of};
+use crate::{AccumulatorState, Bus};
 use lvdc_isa::{Instr, Op};
 use lvdc_map::OperandKind;
 use lvdc_mul::Unit;
@@ -83,14 +83,7 @@ impl Vote for MultiplierState {
 pub(crate) fn working(bus: &Bus) -> Unit
     ensures { result ≡ working bus.now }
 {
-    let MultiplierState {
-        control,
-        m,
-        h,
-        q,
-        ..
-    } = bus.multiplier;
-    Unit { control, m, h, q }
+    bus.multiplier.unit()
 }
 
 /// PQ and the unit after the unit's phase: a result lands in PQ, and the unit is idle then.
@@ -102,37 +95,6 @@ pub(crate) fn after_phase(bus: &Bus) -> (Word, Unit)
     match unit.lands() {
         Some(landed) => (landed, unit.phase().cancel()),
         None => (bus.multiplier.pq, unit.phase()),
-    }
-}
-
-/// What the operation makes of PQ, which the unit's phase has left so.
-pub(crate) fn pq_after(op: Op, bus: &Bus, address: u16, pq: Word) -> Word
-    requires { pq ≡ unit_pq bus.now }
-    ensures { result ≡ pq_after op bus.now address }
-{
-    if op == Op::Sto && OperandKind::of(address) == OperandKind::Pq {
-        bus.accumulator.a
-    } else {
-        pq
-    }
-}
-
-/// What the operation makes of the unit, which its phase has left so.
-pub(crate) fn working_after(op: Op, bus: &Bus, address: u16, unit: Unit) -> Unit
-    requires { unit ≡ unit_working bus.now }
-    ensures { result ≡ working_after op bus.now address }
-{
-    let a = bus.accumulator.a;
-    let m = bus.accumulator.operand;
-    match op {
-        Op::Mpy => Unit::issue_multiply(a, m, false),
-        Op::Mph => Unit::issue_multiply(a, m, true),
-        Op::Div => Unit::issue_divide(a, m),
-        Op::Sto => match OperandKind::of(address) {
-            OperandKind::Pq => unit.cancel(),
-            OperandKind::Memory | OperandKind::Saver => unit,
-        },
-        _ => unit,
     }
 }
 
@@ -150,6 +112,40 @@ pub(crate) fn latched(pq: Word, unit: Unit) -> MultiplierState
     }
 }
 
+impl MultiplierState {
+    /// The arithmetic unit with these working latches.
+    fn unit(&self) -> Unit
+        ensures { result ≡ record { control = self.now.control; m = self.now.m; h = self.now.h; q = self.now.q } }
+    {
+        let MultiplierState {
+            control,
+            m,
+            h,
+            q,
+            ..
+        } = *self;
+        Unit { control, m, h, q }
+    }
+
+    /// What the operation makes of the latches as the unit's phase has left them. A new multiply or divide takes the place of
+    /// the unit's work, and a store to PQ ends it.
+    pub(crate) fn issue(&mut self, op: Op, address: u16, a: Word, operand: Word)
+        ensures { (b : Bus) → b.accumulator.a ≡ a → b.accumulator.operand ≡ operand → self.old ≡ multiplier_with (unit_pq b) (unit_working b)
+            → self.new ≡ multiplier_with (pq_after op b address) (working_after op b address) }
+    {
+        match op {
+            Op::Mpy => *self = latched(self.pq, Unit::issue_multiply(a, operand, false)),
+            Op::Mph => *self = latched(self.pq, Unit::issue_multiply(a, operand, true)),
+            Op::Div => *self = latched(self.pq, Unit::issue_divide(a, operand)),
+            Op::Sto => match OperandKind::of(address) {
+                OperandKind::Pq => *self = latched(a, self.unit().cancel()),
+                OperandKind::Memory | OperandKind::Saver => {}
+            },
+            _ => {}
+        }
+    }
+}
+
 /// The multiplier, module 6: it keeps PQ, and runs the arithmetic unit.
 pub struct Multiplier;
 
@@ -164,15 +160,13 @@ impl LogicModule for Multiplier {
 
     fn next(bus: &Bus) -> MultiplierState {
         let (pq, unit) = after_phase(bus);
+        let mut next = latched(pq, unit);
         if doing_of(bus) == Doing::Executing {
             let Instr { op, address } = instruction_of(bus);
-            latched(
-                pq_after(op, bus, address, pq),
-                working_after(op, bus, address, unit),
-            )
-        } else {
-            latched(pq, unit)
+            let AccumulatorState { a, operand } = bus.accumulator;
+            next.issue(op, address, a, operand);
         }
+        next
     }
 
     ghost fits = { λ bus. refl };

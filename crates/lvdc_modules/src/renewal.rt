@@ -6,15 +6,15 @@ ghost use Rattle.lvdc_modules.specs.declared.seen.Phase.TheVariants.{A, B, C};
 ghost use Rattle.lvdc_modules.specs.Seen.{phase, hold};
 ghost use Rattle.lvdc_modules.specs.Next.{next_states, renewed, after_unit, after_operation};
 
-use crate::Bus;
 use crate::accumulator::{a_landed, accumulated, operand_named};
 use crate::decoder::decoder_at;
 use crate::exchange::{requested, stopped};
 use crate::locator::located;
-use crate::multiplier::{after_phase, latched, pq_after, working, working_after};
+use crate::multiplier::{after_phase, latched, working};
 use crate::seen::{Phase, here_of, hold_of, instruction_of, phase_of};
 use crate::selector::selected;
 use crate::timer::{held_timer, timer_after};
+use crate::{AccumulatorState, Bus};
 use lvdc_isa::Instr;
 use lvdc_mul::Kind;
 use lvdc_word::Word;
@@ -108,12 +108,9 @@ impl Bus {
         ensures { self.new ≡ after_operation instruction self.old }
     {
         let Instr { op, address } = instruction;
-        let a = a_landed(self, accumulated(op, self, address));
-        let (pq, unit) = after_phase(self);
-        self.multiplier = latched(
-            pq_after(op, self, address, pq),
-            working_after(op, self, address, unit),
-        );
-        self.accumulator.a = a;
+        let AccumulatorState { a, operand } = self.accumulator;
+        self.accumulator.a = accumulated(op, self, address);
+        self.run_unit();
+        self.multiplier.issue(op, address, a, operand);
     }
 }
