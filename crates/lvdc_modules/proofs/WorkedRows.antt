@@ -4,7 +4,7 @@ use Rattle.std.specs.Prelude.{ℕ, [], ◌∷◌}
 use Rattle.lvdc_modules.specs.declared.bus.Bus.{Bus}
 use Rattle.lvdc_modules.specs.declared.wanted.Wanted.TheVariants.{Nothing, Fetch, Store, PortRead, PortWrite}
 use Rattle.lvdc_modules.specs.Rows.{bus_of}
-use Rattle.lvdc_modules.specs.States.{locator_of, selector_of, accumulator_of, exchange_of}
+use Rattle.lvdc_modules.specs.States.{locator_of, selector_of, accumulator_of, multiplier_of, exchange_of}
 use Rattle.lvdc_modules.specs.Timer.{timer_row}
 use Rattle.lvdc_modules.specs.Locator.{locator_row}
 use Rattle.lvdc_modules.specs.Decoder.{decoder_row}
@@ -13,6 +13,7 @@ use Rattle.lvdc_modules.specs.Accumulator.{accumulator_row}
 use Rattle.lvdc_modules.specs.Multiplier.{multiplier_row}
 use Rattle.lvdc_modules.specs.Exchange.{exchange_row}
 use Rattle.lvdc_modules.specs.Wish.{wish}
+use Rattle.lvdc_modules.specs.Next.{renewed}
 
 -- the bus in a phase at location 004 with data sector 1: A has 24, OPERAND 5 and the saver 77; 17003 comes from memory
 abbrev bus : ℕ → ℕ → ℕ → ℕ → Bus
@@ -67,6 +68,36 @@ sub_takes_the_operand_from_a = refl
 
 exm_stops : exchange_row (bus 2 0 0o16600 0) ≡ 2 ∷ 0 ∷ []
 exm_stops = refl
+
+-- ---- all modules
+
+-- the same bus, for which nothing has come from memory yet
+abbrev empty : ℕ → ℕ → ℕ → ℕ → Bus
+empty phase hold instr request = record (bus phase hold instr request) { memory = 0 }
+
+-- the same bus with an MPH under way, of which CONTROL and Q are these
+abbrev with_mph : Bus → ℕ → ℕ → Bus
+with_mph b control q = record b { multiplier = multiplier_of (0 ∷ control ∷ 1 ∷ 0 ∷ q ∷ []) }
+
+phase_a_changes_instr : renewed (bus 0 0 0 0o77762) ≡ empty 1 0 0o17003 0
+phase_a_changes_instr = refl
+
+phase_b_changes_operand : renewed (bus 1 0 0o07000 0o77762) ≡ record (empty 2 0 0o07000 0) { accumulator = accumulator_of (24 ∷ 0o17003 ∷ []) }
+phase_b_changes_operand = refl
+
+phase_b_of_sto_changes_request : renewed (bus 1 0 0o13776 0o77764) ≡ empty 2 0 0o13776 0o77762
+phase_b_of_sto_changes_request = refl
+
+phase_c_of_sub_changes_place_and_a :
+    renewed (bus 2 0 0o02000 0o77762)
+    ≡ record (empty 0 0 0o02000 0) {
+      locator = locator_of (0o12004 ∷ 0o77 ∷ []);
+      accumulator = accumulator_of (19 ∷ 5 ∷ []);
+    }
+phase_c_of_sub_changes_place_and_a = refl
+
+the_unit_works_in_a_hold : renewed (with_mph (bus 0 4 0o05000 0o77762) 0o62 6) ≡ with_mph (empty 1 4 0o05000 0) 0o56 0o40000001
+the_unit_works_in_a_hold = refl
 
 -- ---- patterns that no run has
 

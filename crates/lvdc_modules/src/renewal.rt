@@ -95,9 +95,16 @@ impl Bus {
     fn run_unit(&mut self)
         ensures { self.new ≡ after_unit self.old }
     {
-        if working(self).kind() == Kind::Idle {
-            return;
+        if working(self).kind() != Kind::Idle {
+            self.work();
         }
+    }
+
+    /// The arithmetic unit makes its phase, whatever it works on.
+    #[inline(never)]
+    fn work(&mut self)
+        ensures { self.new ≡ after_unit self.old }
+    {
         self.accumulator.a = a_landed(self, self.accumulator.a);
         let (pq, unit) = after_phase(self);
         self.multiplier = latched(pq, unit);
