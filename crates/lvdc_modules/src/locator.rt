@@ -1,6 +1,7 @@
 ghost use Rattle.std.specs.Prelude.{◌≡◌, refl};
 ghost use Rattle.std.proofs.Common.{ap};
 ghost use Rattle.lvdc_modules.specs.States.{locator_latches, locator_of};
+ghost use Rattle.lvdc_modules.specs.Seen.{here};
 ghost use Rattle.lvdc_modules.specs.Locator.{place_fields, moves_on, moves_to, jumps, located, locator_row};
 
 use crate::Bus;
@@ -80,9 +81,10 @@ pub fn place_word(place: Hop) -> Word
 }
 
 /// On to the next location.
-fn moves_on(bus: &Bus, place: Hop) -> LocatorState
-    ensures { result ≡ moves_on bus.now place }
+fn moves_on(bus: &Bus) -> LocatorState
+    ensures { result ≡ moves_on bus.now (here bus.now) }
 {
+    let place = here_of(bus);
     LocatorState {
         place: place_word(place.after()),
         saver: bus.locator.saver,
@@ -90,9 +92,10 @@ fn moves_on(bus: &Bus, place: Hop) -> LocatorState
 }
 
 /// To another place; the way back is saved.
-fn moves_to(place: Hop, to: Hop) -> LocatorState
-    ensures { result ≡ moves_to place to }
+fn moves_to(bus: &Bus, to: Hop) -> LocatorState
+    ensures { result ≡ moves_to (here bus.now) to }
 {
+    let place = here_of(bus);
     LocatorState {
         place: place_word(to),
         saver: place.after().to_word(),
@@ -100,36 +103,36 @@ fn moves_to(place: Hop, to: Hop) -> LocatorState
 }
 
 /// To the syllable and location of an address in the same sector.
-fn jumps(place: Hop, address: u16) -> LocatorState
-    ensures { result ≡ jumps place address }
+fn jumps(bus: &Bus, address: u16) -> LocatorState
+    ensures { result ≡ jumps (here bus.now) address }
 {
-    moves_to(place, place.jumped(address))
+    moves_to(bus, here_of(bus).jumped(address))
 }
 
 /// Where the operation goes on.
-pub(crate) fn located(op: Op, bus: &Bus, place: Hop, address: u16) -> LocatorState
-    ensures { result ≡ located op bus.now place address }
+pub(crate) fn located(op: Op, bus: &Bus, address: u16) -> LocatorState
+    ensures { result ≡ located op bus.now (here bus.now) address }
 {
     let a = bus.accumulator.a;
     match op {
-        Op::Hop => moves_to(place, Hop::of(bus.accumulator.operand)),
-        Op::Tra => jumps(place, address),
+        Op::Hop => moves_to(bus, Hop::of(bus.accumulator.operand)),
+        Op::Tra => jumps(bus, address),
         Op::Tnz => {
             if a == Word::ZERO {
-                moves_on(bus, place)
+                moves_on(bus)
             } else {
-                jumps(place, address)
+                jumps(bus, address)
             }
         }
         Op::Tmi => {
             if a.is_negative() {
-                jumps(place, address)
+                jumps(bus, address)
             } else {
-                moves_on(bus, place)
+                moves_on(bus)
             }
         }
         Op::WrongShift | Op::Exm => bus.locator,
-        _ => moves_on(bus, place),
+        _ => moves_on(bus),
     }
 }
 
@@ -148,7 +151,7 @@ impl LogicModule for Locator {
     fn next(bus: &Bus) -> LocatorState {
         if doing_of(bus) == Doing::Executing {
             let instruction = instruction_of(bus);
-            located(instruction.op, bus, here_of(bus), instruction.address)
+            located(instruction.op, bus, instruction.address)
         } else {
             bus.locator
         }

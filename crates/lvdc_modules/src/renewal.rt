@@ -1,9 +1,10 @@
-//! Each module goes on to what follows for it, in place. The place and the instruction are seen once, and what can't change in
-//! the phase isn't written.
+//! Each module goes on to what follows for it, in place. The instruction is decoded once at most, and what can't change in the
+//! phase isn't written.
 
-ghost use Rattle.std.specs.Prelude.{◌≡◌, ◌<◌};
-ghost use Rattle.lvdc_modules.specs.declared.seen.Phase.TheVariants.{A, B, C};
-ghost use Rattle.lvdc_modules.specs.Seen.{phase, hold};
+ghost use Rattle.std.specs.Prelude.{◌≡◌};
+ghost use Rattle.lvdc_modules.specs.declared.seen.Phase.TheVariants.{C};
+ghost use Rattle.lvdc_modules.specs.declared.seen.Doing.TheVariants.{Fetching, Taking, Waiting};
+ghost use Rattle.lvdc_modules.specs.Seen.{phase, hold, doing};
 ghost use Rattle.lvdc_modules.specs.Next.{next_states, renewed, after_unit, after_operation};
 
 use crate::accumulator::{a_landed, accumulated, operand_named};
@@ -11,7 +12,7 @@ use crate::decoder::decoder_at;
 use crate::exchange::{requested, stopped};
 use crate::locator::located;
 use crate::multiplier::{after_phase, latched, working};
-use crate::seen::{Phase, here_of, hold_of, instruction_of, phase_of};
+use crate::seen::{Doing, doing_of, here_of, instruction_of};
 use crate::selector::selected;
 use crate::timer::{held_timer, timer_after};
 use crate::{AccumulatorState, Bus};
@@ -20,18 +21,15 @@ use lvdc_mul::Kind;
 use lvdc_word::Word;
 
 impl Bus {
-    /// Goes on to the next phase, as all modules do side by side.
+    /// Goes on to the next phase: all modules do so side by side, and no words have come yet.
     pub fn renew(&mut self)
         ensures { self.new ≡ renewed self.old }
     {
-        if hold_of(self) > 0 {
-            self.wait();
-        } else {
-            match phase_of(self) {
-                Phase::A => self.fetch(),
-                Phase::B => self.take(),
-                Phase::C => self.execute(),
-            }
+        match doing_of(self) {
+            Doing::Waiting => self.wait(),
+            Doing::Fetching => self.fetch(),
+            Doing::Taking => self.take(),
+            Doing::Executing => self.execute(),
         }
         self.memory = Word::ZERO;
         self.port = Word::ZERO;
@@ -39,7 +37,7 @@ impl Bus {
 
     /// A phase of a hold.
     fn wait(&mut self)
-        requires { 0 < hold self.old }
+        requires { doing self.old ≡ Waiting }
         ensures { self.new ≡ next_states self.old }
     {
         self.timer = timer_after(self);
@@ -49,8 +47,7 @@ impl Bus {
 
     /// Phase A: the instruction is fetched.
     fn fetch(&mut self)
-        requires hold { hold self.old ≡ 0 }
-        requires phase { phase self.old ≡ A }
+        requires { doing self.old ≡ Fetching }
         ensures { self.new ≡ next_states self.old }
     {
         self.timer = timer_after(self);
@@ -61,8 +58,7 @@ impl Bus {
 
     /// Phase B: the operand is taken, and what phase C exchanges is requested.
     fn take(&mut self)
-        requires hold { hold self.old ≡ 0 }
-        requires phase { phase self.old ≡ B }
+        requires { doing self.old ≡ Taking }
         ensures { self.new ≡ next_states self.old }
     {
         let Instr { op, address } = instruction_of(self);
@@ -82,10 +78,10 @@ impl Bus {
     {
         let instruction = instruction_of(self);
         let Instr { op, address } = instruction;
-        let place = here_of(self);
+        let selector = selected(op, self, address);
         self.timer = held_timer(op);
-        self.locator = located(op, self, place, address);
-        self.selector = selected(op, self, place, address);
+        self.locator = located(op, self, address);
+        self.selector = selector;
         self.exchange.stop = stopped(op, self.exchange.stop);
         self.exchange.request = Word::ZERO;
         self.operate(instruction);

@@ -1,4 +1,6 @@
 ghost use Rattle.std.specs.Prelude.{◌≡◌, ◌<◌, ◌^◌};
+ghost use Rattle.lvdc_modules.specs.declared.seen.Phase.TheVariants.{C};
+ghost use Rattle.lvdc_modules.specs.declared.seen.Doing.TheVariants.{Executing};
 ghost use Rattle.lvdc_modules.specs.Seen.{phase, hold, doing, instruction, here};
 
 use crate::Bus;
@@ -44,7 +46,8 @@ pub(crate) fn hold_of(bus: &Bus) -> u32
 
 /// What is done in this phase.
 pub(crate) fn doing_of(bus: &Bus) -> Doing
-    ensures { result ≡ doing bus.now }
+    ensures value { result ≡ doing bus.now }
+    ensures executing { result ≡ Executing → (hold bus.now ≡ 0) × (phase bus.now ≡ C) }
 {
     if hold_of(bus) > 0 {
         return Doing::Waiting;

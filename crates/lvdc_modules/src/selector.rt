@@ -1,6 +1,7 @@
 ghost use Rattle.std.specs.Prelude.{◌≡◌, refl};
 ghost use Rattle.std.proofs.Common.{ap};
 ghost use Rattle.lvdc_modules.specs.States.{selector_latches, selector_of};
+ghost use Rattle.lvdc_modules.specs.Seen.{here};
 ghost use Rattle.lvdc_modules.specs.Selector.{data_fields, selected, selector_row};
 
 use crate::Bus;
@@ -67,15 +68,15 @@ pub fn data_word(place: Hop) -> Word
 }
 
 /// Where operands stand after the operation.
-pub(crate) fn selected(op: Op, bus: &Bus, place: Hop, address: u16) -> SelectorState
-    ensures { result ≡ selected op bus.now place address }
+pub(crate) fn selected(op: Op, bus: &Bus, address: u16) -> SelectorState
+    ensures { result ≡ selected op bus.now (here bus.now) address }
 {
     match op {
         Op::Hop => SelectorState {
             hold_place: data_word(Hop::of(bus.accumulator.operand)),
         },
         Op::Cds => SelectorState {
-            hold_place: data_word(place.with_data(address)),
+            hold_place: data_word(here_of(bus).with_data(address)),
         },
         _ => bus.selector,
     }
@@ -96,7 +97,7 @@ impl LogicModule for Selector {
     fn next(bus: &Bus) -> SelectorState {
         if doing_of(bus) == Doing::Executing {
             let instruction = instruction_of(bus);
-            selected(instruction.op, bus, here_of(bus), instruction.address)
+            selected(instruction.op, bus, instruction.address)
         } else {
             bus.selector
         }
