@@ -71,7 +71,7 @@ exm_stops = refl
 
 -- ---- all modules
 
--- the same bus, for which nothing has come from memory yet
+-- the same bus, for which nothing has come from memory or port yet
 abbrev empty : ℕ → ℕ → ℕ → ℕ → Bus
 empty phase hold instr request = record (bus phase hold instr request) { memory = 0 }
 
@@ -79,7 +79,7 @@ empty phase hold instr request = record (bus phase hold instr request) { memory 
 abbrev with_mph : Bus → ℕ → ℕ → Bus
 with_mph b control q = record b { multiplier = multiplier_of (0 ∷ control ∷ 1 ∷ 0 ∷ q ∷ []) }
 
-phase_a_changes_instr : renewed (bus 0 0 0 0o77762) ≡ empty 1 0 0o17003 0
+phase_a_changes_instr : renewed (record (bus 0 0 0 0o77762) { port = 7 }) ≡ empty 1 0 0o17003 0
 phase_a_changes_instr = refl
 
 phase_b_changes_operand : renewed (bus 1 0 0o07000 0o77762) ≡ record (empty 2 0 0o07000 0) { accumulator = accumulator_of (24 ∷ 0o17003 ∷ []) }
