@@ -11,14 +11,12 @@ use Rattle.lvdc_modules.specs.Selector.{selector_row}
 use Rattle.lvdc_modules.specs.Accumulator.{accumulator_row}
 use Rattle.lvdc_modules.specs.Multiplier.{multiplier_row}
 use Rattle.lvdc_modules.specs.Exchange.{exchange_row}
-use Rattle.lvdc_modules.specs.Next.{IsNext}
 use Rattle.lvdc_modules.specs.declared.bus.Bus.{Bus}
-use Rattle.lvdc_modules.specs.declared.next.Next.{Next}
 use Rattle.lvdc_fault.specs.declared.event.Event.{Event}
 use Rattle.lvdc_model.specs.Voted.{next_copy, next_copies}
 use Rattle.lvdc_logic.specs.declared.triples.Triples.{Triples}
-use Rattle.lvdc_logic.specs.Untouched.{IsUntouched}
-use Rattle.lvdc_logic.specs.Latching.{copies_in, latches_in, row_of, new_latches, latched_named, after_named, after_next, after_numbers, after_steps, AllFresh}
+use Rattle.lvdc_forces.specs.Untouched.{IsUntouched}
+use Rattle.lvdc_logic.specs.Latching.{copies_in, latches_in, row_of, new_latches, latched_named, after_named, after_numbers, after_steps, AllFresh}
 
 -- a list has each of the 21 numbers that is named
 abbrev HasNamed : (ℕ → Bool) → List ℕ → Type 0
@@ -83,20 +81,7 @@ steps_are script step t named order voted words fresh are all others =
       module_steps t.exchange named order 18 words (exchange_row voted) (latched 18) (latched 19) (latched 20) fresh.exchange all (omega arith) (each 18 (omega arith)) (each 19 (omega arith)) (each 20 (omega arith)),
     ) refl
 
--- what follows for the modules from the votes is what they become
-pub next_is : (t : Triples) (voted : Bus) (n : Next) → IsNext voted n → after_next t n ≡ after_steps t voted
-next_is t voted n is = λ j.
-    record {
-      timer = after_settle t.timer (is.timer j);
-      locator = after_settle t.locator (is.locator j);
-      decoder = after_settle t.decoder (is.decoder j);
-      selector = after_settle t.selector (is.selector j);
-      accumulator = after_settle t.accumulator (is.accumulator j);
-      multiplier = after_settle t.multiplier (is.multiplier j);
-      exchange = after_settle t.exchange (is.exchange j);
-    }
-
--- and after it no copy of a module has latched
+-- after a step no copy of a module has latched
 step_fresh : (t : Copies) (next : List ℕ) → IsFresh (after_settle t next)
 step_fresh t next = record { one = refl; two = refl; three = refl }
 

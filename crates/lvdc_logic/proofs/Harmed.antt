@@ -2,7 +2,7 @@
 use Rattle.std.proofs.Common.{◌≡◌, ℕ, zero, suc, ◌+◌, ◌/◌, ◌%◌, ◌<◌, Bool, true, false, ◌&&◌, if◌then◌else◌, List, [], ◌∷◌, refl, sym, ◌∙◌, ap, arith}
 use Rattle.std.specs.Prelude.{All, Some, None}
 use Rattle.std.specs.List.{list_any}
-use Rattle.lvdc_vote.specs.Copies.{Copies, settled}
+use Rattle.lvdc_vote.specs.Copies.{Copies, settled, IsFresh}
 use Rattle.lvdc_vote.specs.Harms.{harmed, harmed_by}
 use Rattle.lvdc_modules.specs.Next.{IsNext}
 use Rattle.lvdc_modules.specs.Rows.{rows}
@@ -19,13 +19,14 @@ use Rattle.lvdc_modules.specs.declared.next.Next.{Next}
 use Rattle.lvdc_fault.specs.Events.{IsEvent}
 use Rattle.lvdc_fault.specs.declared.event.Event.{Event}
 use Rattle.lvdc_model.specs.Voted.{inputs, next_copies}
-use Rattle.lvdc_logic.specs.InForce.{after_harms, faults_at, harm_on, latched_under, mark_at, three_harmed, IsInForce}
-use Rattle.lvdc_logic.specs.Latching.{copies_in, latches_in, row_of, new_latches, AllSized}
-use Rattle.lvdc_logic.specs.declared.in_force.Faults.{Faults}
-use Rattle.lvdc_logic.specs.declared.in_force.InForce.{InForce}
+use Rattle.lvdc_forces.specs.InForce.{faults_at, harm_on, mark_at, IsInForce}
+use Rattle.lvdc_logic.specs.Harmed.{after_harms, latched_under, three_harmed}
+use Rattle.lvdc_logic.specs.Latching.{copies_in, latches_in, row_of, new_latches, AllFresh, AllSized}
+use Rattle.lvdc_forces.specs.declared.in_force.Faults.{Faults}
+use Rattle.lvdc_forces.specs.declared.in_force.InForce.{InForce}
 use Rattle.lvdc_logic.specs.declared.triples.Triples.{Triples}
 use Rattle.lvdc_logic.proofs.Commits.{untouched_copy}
-use Rattle.lvdc_logic.proofs.PartLaws.{neither}
+use Rattle.lvdc_forces.proofs.PartLaws.{neither}
 use Rattle.lvdc_logic.proofs.Under.{latched_is, HarmSuffices}
 
 -- where none of all copies is deaf, each hears the votes
@@ -75,3 +76,19 @@ harms_are suffices script step f t voted n sized events in_force hears is =
       three_are f 15 t.multiplier (multiplier_latches n.multiplier) (multiplier_row voted) (latched 15) (latched 16) (latched 17) is.multiplier (each 15 (omega arith)) (each 16 (omega arith)) (each 17 (omega arith)),
       three_are f 18 t.exchange (exchange_latches n.exchange) (exchange_row voted) (latched 18) (latched 19) (latched 20) is.exchange (each 18 (omega arith)) (each 19 (omega arith)) (each 20 (omega arith)),
     ) refl
+
+-- and no copy has latched since
+three_fresh : (f : InForce) (first : ℕ) (t : Copies) (next : List ℕ) → IsFresh (three_harmed f first t next)
+three_fresh f first t next = record { one = refl; two = refl; three = refl }
+
+pub harms_fresh : (f : InForce) (t : Triples) (n : Next) → AllFresh (after_harms f t n)
+harms_fresh f t n =
+    record {
+      timer = three_fresh f 0 t.timer (timer_latches n.timer);
+      locator = three_fresh f 3 t.locator (locator_latches n.locator);
+      decoder = three_fresh f 6 t.decoder (decoder_latches n.decoder);
+      selector = three_fresh f 9 t.selector (selector_latches n.selector);
+      accumulator = three_fresh f 12 t.accumulator (accumulator_latches n.accumulator);
+      multiplier = three_fresh f 15 t.multiplier (multiplier_latches n.multiplier);
+      exchange = three_fresh f 18 t.exchange (exchange_latches n.exchange);
+    }

@@ -4,7 +4,6 @@ pub mod Listed
 pub mod Numbers
 pub mod Under
 pub mod Commits
+pub mod Alike
 pub mod Harmed
 mod Rows
-pub mod Joins
-pub mod PartLaws

@@ -8,9 +8,9 @@ use Rattle.lvdc_logic.specs.declared.triples.Triples.{Triples}
 use Rattle.lvdc_modules.specs.declared.bus.Bus.{Bus}
 use Rattle.lvdc_model.specs.Voted.{inputs}
 use Rattle.lvdc_logic.specs.Seven.{of_seven}
-use Rattle.lvdc_logic.specs.InForce.{latched_under}
+use Rattle.lvdc_logic.specs.Harmed.{latched_under}
 use Rattle.lvdc_logic.specs.Latching.{copies_in, latched_at, latched_named, after_named, after_number, after_numbers, triple_in, AllFresh}
-use Rattle.lvdc_logic.specs.declared.in_force.Faults.{Faults}
+use Rattle.lvdc_forces.specs.declared.in_force.Faults.{Faults}
 
 -- a fact of each of seven modules
 pub seven : (P : ℕ → Type 0) → P 0 → P 1 → P 2 → P 3 → P 4 → P 5 → P 6 → (k : ℕ) → k < 7 → P k

@@ -11,10 +11,11 @@ use Rattle.lvdc_fault.specs.Script.{is_deaf}
 use Rattle.lvdc_fault.specs.declared.event.Event.{Event}
 use Rattle.lvdc_model.specs.Voted.{inputs, hurts_on}
 use Rattle.lvdc_fault.specs.Events.{IsEvent}
-use Rattle.lvdc_logic.specs.InForce.{faults_at, latched_under, IsInForce}
+use Rattle.lvdc_forces.specs.InForce.{faults_at, IsInForce}
+use Rattle.lvdc_logic.specs.Harmed.{latched_under}
 use Rattle.lvdc_logic.specs.Latching.{copies_in, latches_in, row_of, new_latches, AllSized}
 use Rattle.lvdc_logic.specs.Seven.{of_seven}
-use Rattle.lvdc_logic.specs.declared.in_force.InForce.{InForce}
+use Rattle.lvdc_forces.specs.declared.in_force.InForce.{InForce}
 use Rattle.lvdc_logic.specs.declared.triples.Triples.{Triples}
 use Rattle.lvdc_logic.proofs.HurtsFit.{hurts_fit}
 use Rattle.lvdc_logic.proofs.Numbers.{seven}

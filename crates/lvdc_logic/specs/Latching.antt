@@ -1,6 +1,7 @@
 -- Seven triples whose copies, numbered from 0 to 20, latch one after another.
-use Rattle.std.specs.Prelude.{◌≡◌, ℕ, ◌+◌, ◌/◌, ◌%◌, Bool, false, Option, List, [], ◌∷◌, ◌==◌, if◌then◌else◌}
-use Rattle.lvdc_vote.specs.Copies.{Copies, copy_of, latched_in, after_latch, after_settle, differs_of, IsFresh, IsSized}
+use Rattle.std.specs.Prelude.{◌≡◌, ℕ, ◌+◌, ◌/◌, ◌%◌, Bool, true, false, Option, List, [], ◌∷◌, ◌==◌, if◌then◌else◌, map}
+use Rattle.lvdc_vote.specs.Copies.{Copies, copy_of, vote_of, latched_in, after_latch, after_settle, IsFresh, IsSized}
+use Rattle.lvdc_modules.specs.Rows.{bus_of}
 use Rattle.lvdc_modules.specs.Timer.{timer_row}
 use Rattle.lvdc_modules.specs.Locator.{locator_row}
 use Rattle.lvdc_modules.specs.Decoder.{decoder_row}
@@ -10,11 +11,28 @@ use Rattle.lvdc_modules.specs.Multiplier.{multiplier_row}
 use Rattle.lvdc_modules.specs.Exchange.{exchange_row}
 use Rattle.lvdc_modules.specs.States.{timer_latches, locator_latches, decoder_latches, selector_latches, accumulator_latches, multiplier_latches, exchange_latches}
 use Rattle.lvdc_modules.specs.declared.bus.Bus.{Bus}
-use Rattle.lvdc_modules.specs.declared.next.Next.{Next}
 use Rattle.lvdc_fault.specs.declared.event.Event.{Event}
-use Rattle.lvdc_model.specs.Voted.{next_copy}
+use Rattle.lvdc_model.specs.Voted.{next_copy, thrice}
 use Rattle.lvdc_logic.specs.Seven.{of_seven}
 use Rattle.lvdc_logic.specs.declared.triples.Triples.{Triples}
+
+-- three equal copies of each state on a bus
+abbrev pub alike : Bus → Triples
+alike b =
+    record {
+      timer = thrice (timer_latches b.timer);
+      locator = thrice (locator_latches b.locator);
+      decoder = thrice (decoder_latches b.decoder);
+      selector = thrice (selector_latches b.selector);
+      accumulator = thrice (accumulator_latches b.accumulator);
+      multiplier = thrice (multiplier_latches b.multiplier);
+      exchange = thrice (exchange_latches b.exchange);
+    }
+
+-- the copies that stand by themselves, or else those that are alike on the bus
+abbrev pub copies_by : Bool → Triples → Bus → Triples
+copies_by true t b = t
+copies_by false t b = alike b
 
 -- the copies of the modules, in order
 abbrev pub copies_in : Triples → List Copies
@@ -101,19 +119,6 @@ after_steps t voted =
       exchange = after_settle t.exchange (exchange_row voted);
     }
 
--- the same where these states follow for the modules
-abbrev pub after_next : Triples → Next → Triples
-after_next t n =
-    record {
-      timer = after_settle t.timer (timer_latches n.timer);
-      locator = after_settle t.locator (locator_latches n.locator);
-      decoder = after_settle t.decoder (decoder_latches n.decoder);
-      selector = after_settle t.selector (selector_latches n.selector);
-      accumulator = after_settle t.accumulator (accumulator_latches n.accumulator);
-      multiplier = after_settle t.multiplier (multiplier_latches n.multiplier);
-      exchange = after_settle t.exchange (exchange_latches n.exchange);
-    }
-
 -- no copy has latched since the last commit
 pub record AllFresh (t : Triples) : Type 0 where
   pub timer : IsFresh t.timer
@@ -124,16 +129,6 @@ pub record AllFresh (t : Triples) : Type 0 where
   pub multiplier : IsFresh t.multiplier
   pub exchange : IsFresh t.exchange
 
--- no copy differs from its vote
-pub record AllAgree (t : Triples) : Type 0 where
-  pub timer : (copy : ℕ) → differs_of t.timer copy ≡ false
-  pub locator : (copy : ℕ) → differs_of t.locator copy ≡ false
-  pub decoder : (copy : ℕ) → differs_of t.decoder copy ≡ false
-  pub selector : (copy : ℕ) → differs_of t.selector copy ≡ false
-  pub accumulator : (copy : ℕ) → differs_of t.accumulator copy ≡ false
-  pub multiplier : (copy : ℕ) → differs_of t.multiplier copy ≡ false
-  pub exchange : (copy : ℕ) → differs_of t.exchange copy ≡ false
-
 -- each copy has as many latches as its module
 pub record AllSized (t : Triples) : Type 0 where
   pub timer : IsSized 2 t.timer
@@ -143,3 +138,10 @@ pub record AllSized (t : Triples) : Type 0 where
   pub accumulator : IsSized 2 t.accumulator
   pub multiplier : IsSized 5 t.multiplier
   pub exchange : IsSized 2 t.exchange
+
+-- what is true of every logic: no copy has latched since the last step, each has as many latches as its module, and the bus is that of
+-- the votes
+pub record IsVoted (t : Triples) (b : Bus) : Type 0 where
+  pub fresh : AllFresh t
+  pub sized : AllSized t
+  pub votes : b ≡ bus_of (map vote_of (copies_in t)) 0 0

@@ -1,9 +1,6 @@
 pub mod Counts
-pub mod Untouched
-pub mod InForce
 pub mod Latching
 pub mod Listing
 pub mod Logic
 pub mod Seven
-pub mod Shares
-pub mod Parts
+pub mod Harmed

@@ -3,15 +3,9 @@
 #![tactic(auto)]
 
 mod counts;
-mod forces;
-mod in_force;
-mod known;
 mod listing;
 mod logic;
-mod parts;
-mod shares;
 mod triples;
+mod words;
 
-pub use forces::Forces;
-pub use in_force::{Faults, InForce};
 pub use logic::Logic;

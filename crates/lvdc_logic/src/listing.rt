@@ -28,10 +28,7 @@ impl Logic {
         ensures counts { result.counts ≡ counts_of counts.now }
         ensures differed { (most : ℕ) → All (λ count. count ≤ most) counts.now → DifferedAtMost most result.counts }
     {
-        Logic {
-            triples: triples_of(latches),
-            counts: counts_of(counts),
-        }
+        Logic::of_copies(triples_of(latches), counts_of(counts))
     }
 
     /// The 45 latches, by module, copy and index.
@@ -39,15 +36,11 @@ impl Logic {
         ensures count { IfOk result (λ latches. length latches.items ≡ 45) }
         ensures copies { IfOk result (λ latches. copies_of latches.items ≡ self.now.copies) }
     {
-        let mut latches = Vec::with_capacity(alloc, 45)?;
-        latches.extend_from_slice(&timer_words(&self.triples.timer))?;
-        latches.extend_from_slice(&locator_words(&self.triples.locator))?;
-        latches.extend_from_slice(&decoder_words(&self.triples.decoder))?;
-        latches.extend_from_slice(&selector_words(&self.triples.selector))?;
-        latches.extend_from_slice(&accumulator_words(&self.triples.accumulator))?;
-        latches.extend_from_slice(&multiplier_words(&self.triples.multiplier))?;
-        latches.extend_from_slice(&exchange_words(&self.triples.exchange))?;
-        Ok(latches)
+        if self.apart {
+            latches_in(alloc, &self.triples)
+        } else {
+            latches_in(alloc, &Triples::alike(&self.bus))
+        }
     }
 
     /// In how many steps each copy differed from the vote: 21 counts, by module and copy.
@@ -66,6 +59,24 @@ impl Logic {
         counts.extend_from_slice(&self.counts.exchange)?;
         Ok(counts)
     }
+}
+
+/// The 45 latches of these copies.
+fn latches_in(alloc: Global, triples: &Triples) -> Result<Vec<Word>, NoMemory>
+    requires fresh { AllFresh triples.now }
+    requires sized { AllSized triples.now }
+    ensures count { IfOk result (λ latches. length latches.items ≡ 45) }
+    ensures copies { IfOk result (λ latches. copies_of latches.items ≡ copies_in triples.now) }
+{
+    let mut latches = Vec::with_capacity(alloc, 45)?;
+    latches.extend_from_slice(&timer_words(&triples.timer))?;
+    latches.extend_from_slice(&locator_words(&triples.locator))?;
+    latches.extend_from_slice(&decoder_words(&triples.decoder))?;
+    latches.extend_from_slice(&selector_words(&triples.selector))?;
+    latches.extend_from_slice(&accumulator_words(&triples.accumulator))?;
+    latches.extend_from_slice(&multiplier_words(&triples.multiplier))?;
+    latches.extend_from_slice(&exchange_words(&triples.exchange))?;
+    Ok(latches)
 }
 
 /// The triples with these latches.

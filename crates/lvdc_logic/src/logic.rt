@@ -5,37 +5,44 @@ ghost use Rattle.lvdc_vote.specs.Numbers.{latches_of};
 ghost use Rattle.lvdc_fault.specs.declared.event.Event.{Event};
 ghost use Rattle.lvdc_model.specs.Voted.{next_copies, counted, thrice};
 ghost use Rattle.lvdc_fault.specs.Events.{IsEvent};
-ghost use Rattle.lvdc_logic.specs.InForce.{IsInForce};
+ghost use Rattle.lvdc_logic.specs.Counts.{counts_in};
+ghost use Rattle.lvdc_forces.specs.InForce.{IsInForce};
+ghost use Rattle.lvdc_logic.specs.Latching.{alike, copies_in, AllFresh, AllSized};
 ghost use Rattle.lvdc_logic.specs.Logic.{latch_of, vote_at, is_outvoted, count_of, DifferedAtMost};
 
 use crate::counts::Counts;
-use crate::in_force::InForce;
 use crate::triples::Triples;
+use crate::words::latch_on;
+use lvdc_forces::InForce;
 use lvdc_map::Hop;
-use lvdc_modules::{Bus, Next};
+use lvdc_modules::{
+    AccumulatorState, Bus, DecoderState, ExchangeState, LocatorState, MultiplierState,
+    SelectorState, TimerState, data_word, place_word,
+};
 use lvdc_orders::Order;
-use lvdc_vote::{Vote, harm_suffices};
 use lvdc_word::Word;
 use std::marker::Model;
 
 /// Three copies of each of the seven modules, and of each copy in how many steps it differed from the vote. Contracts see
-/// the lists of both.
+/// the lists of both. The bus is that of the votes; where no copy stands apart, it is all that is kept of the copies.
 #[derive(Drop)]
 pub struct Logic {
+    pub(crate) bus: Bus,
+    pub(crate) apart: bool,
     pub(crate) triples: Triples,
     pub(crate) counts: Counts,
 }
 
 impl Model for Logic {
     ghost use Rattle.lvdc_logic.specs.Counts.{counts_in};
-    ghost use Rattle.lvdc_logic.specs.Latching.{copies_in, AllFresh, AllSized};
+    ghost use Rattle.lvdc_logic.specs.Latching.{copies_by, copies_in, IsVoted};
     ghost use Rattle.lvdc_logic.specs.Logic.{LogicState};
 
     ghost Value = { LogicState };
 
-    ghost view = { λ l. record { copies = copies_in l.triples; counts = counts_in l.counts } };
+    ghost view = { λ l. record { copies = copies_in (copies_by l.apart l.triples l.bus); counts = counts_in l.counts } };
 
-    ghost invariant = { λ l. AllFresh l.triples × AllSized l.triples };
+    ghost invariant = { λ l. IsVoted (copies_by l.apart l.triples l.bus) l.bus };
 }
 
 impl Logic {
@@ -45,38 +52,62 @@ impl Logic {
         ensures counts { result.counts ≡ replicate 7 (0 ∷ 0 ∷ 0 ∷ []) }
         ensures differed { DifferedAtMost 0 result.counts }
     {
+        let bus = bus_at_start(start);
         Logic {
-            triples: Triples::new(start),
+            bus,
+            apart: false,
+            triples: Triples::alike(&bus),
             counts: Counts::none(),
         }
     }
 
-    /// The votes, with these words from memory and port.
-    pub fn bus(&self, memory: Word, port: Word) -> Bus
-        ensures { result ≡ bus_of (map vote_of self.now.copies) memory port }
+    /// The logic with these copies, and with these counts.
+    pub(crate) fn of_copies(triples: Triples, counts: Counts) -> Logic
+        requires fresh { AllFresh triples }
+        requires sized { AllSized triples }
+        ensures copies { result.copies ≡ copies_in triples }
+        ensures counts { result.counts ≡ counts_in counts }
     {
-        self.triples.voted_bus(memory, port)
+        Logic {
+            bus: triples.voted_bus(Word::ZERO, Word::ZERO),
+            apart: true,
+            triples,
+            counts,
+        }
     }
 
-    /// Makes a step with this in force, in which the copies latch in this order: each from this bus of the votes and of words from
+    /// The bus of the votes, without a word from memory or port.
+    pub fn bus(&self) -> &Bus
+        ensures { result.now ≡ bus_of (map vote_of self.now.copies) 0 0 }
+    {
+        &self.bus
+    }
+
+    /// Makes a step with this in force, in which the copies latch in this order: each from the bus of the votes with these words from
     /// memory and port, or where it is deaf from the copies of its own number, and with what is in force on it. Then each copy that
     /// differs from the new vote is counted. It is the step of each script that puts this in force, and doesn't depend on the order.
-    pub fn step_under(&mut self, order: &Order, force: &InForce, voted: &Bus)
+    pub fn step_under(&mut self, order: &Order, force: &InForce, memory: Word, port: Word)
         requires differed { DifferedAtMost (2 ^ 63) self.old.counts }
         ensures copies { (script : List Event) (step : ℕ) → All IsEvent script → IsInForce script step force.now
-            → self.new.copies ≡ next_copies script step 1 rows self.old.copies self.old.copies voted.now }
+            → self.new.copies ≡ next_copies script step 1 rows self.old.copies self.old.copies (bus_of (map vote_of self.old.copies) memory port) }
         ensures counts { self.new.counts ≡ counted self.new.copies self.old.counts }
         ensures differed { (most : ℕ) → DifferedAtMost most self.old.counts → DifferedAtMost (most + 1) self.new.counts }
     {
-        harm_suffices();
-        if !force.any {
-            self.triples.renew(Next::of(voted));
-        } else if force.deaf {
-            self.triples.latch_named(order, force, voted);
-            self.triples.settle(voted, &mut self.counts);
+        if force.any {
+            let voted = Bus {
+                memory,
+                port,
+                ..self.bus
+            };
+            self.triples.stand_apart(self.apart, &self.bus);
+            self.apart = true;
+            self.triples.step(order, force, &voted, &mut self.counts);
+            self.bus = self.triples.voted_bus(Word::ZERO, Word::ZERO);
         } else {
-            self.triples
-                .renew_under(force, Next::of(voted), &mut self.counts);
+            self.bus.memory = memory;
+            self.bus.port = port;
+            self.bus.renew();
+            self.apart = false;
         }
     }
 
@@ -100,15 +131,10 @@ impl Logic {
         requires index { index < latches_of number }
         ensures { result ≡ latch_of self.now.copies number copy index }
     {
-        let copy = copy - 1;
-        match number {
-            1 => self.triples.timer.word(copy, index),
-            2 => self.triples.locator.word(copy, index),
-            3 => self.triples.decoder.word(copy, index),
-            4 => self.triples.selector.word(copy, index),
-            5 => self.triples.accumulator.word(copy, index),
-            6 => self.triples.multiplier.word(copy, index),
-            _ => self.triples.exchange.word(copy, index),
+        if self.apart {
+            self.triples.word(number, copy, index)
+        } else {
+            latch_on(&self.bus, number, index)
         }
     }
 
@@ -119,14 +145,10 @@ impl Logic {
         requires index { index < latches_of number }
         ensures { result ≡ vote_at self.now.copies number index }
     {
-        match number {
-            1 => self.triples.timer.voted().latch(index),
-            2 => self.triples.locator.voted().latch(index),
-            3 => self.triples.decoder.voted().latch(index),
-            4 => self.triples.selector.voted().latch(index),
-            5 => self.triples.accumulator.voted().latch(index),
-            6 => self.triples.multiplier.voted().latch(index),
-            _ => self.triples.exchange.voted().latch(index),
+        if self.apart {
+            self.triples.voted_word(number, index)
+        } else {
+            latch_on(&self.bus, number, index)
         }
     }
 
@@ -138,14 +160,46 @@ impl Logic {
         requires last_copy { copy ≤ 3 }
         ensures { result ≡ is_outvoted self.now.copies number copy }
     {
-        match number {
-            1 => self.triples.timer.differs(copy - 1),
-            2 => self.triples.locator.differs(copy - 1),
-            3 => self.triples.decoder.differs(copy - 1),
-            4 => self.triples.selector.differs(copy - 1),
-            5 => self.triples.accumulator.differs(copy - 1),
-            6 => self.triples.multiplier.differs(copy - 1),
-            _ => self.triples.exchange.differs(copy - 1),
-        }
+        self.apart && self.triples.is_outvoted(number, copy)
+    }
+}
+
+/// The bus at a start: all latches are 0 but the place and the data place.
+fn bus_at_start(start: Hop) -> Bus
+    ensures copies { copies_in (alike result) ≡ map thrice (start_latches start) }
+    ensures memory { result.memory ≡ 0 }
+    ensures port { result.port ≡ 0 }
+{
+    let zero_word = Word::ZERO;
+    Bus {
+        timer: TimerState {
+            phase: zero_word,
+            hold: zero_word,
+        },
+        locator: LocatorState {
+            place: place_word(start),
+            saver: zero_word,
+        },
+        decoder: DecoderState { instr: zero_word },
+        selector: SelectorState {
+            hold_place: data_word(start),
+        },
+        accumulator: AccumulatorState {
+            a: zero_word,
+            operand: zero_word,
+        },
+        multiplier: MultiplierState {
+            pq: zero_word,
+            control: zero_word,
+            m: zero_word,
+            h: zero_word,
+            q: zero_word,
+        },
+        exchange: ExchangeState {
+            stop: zero_word,
+            request: zero_word,
+        },
+        memory: zero_word,
+        port: zero_word,
     }
 }

@@ -1,23 +1,23 @@
-ghost use Rattle.std.specs.Prelude.{◌≡◌, ℕ, ◌≤◌, ◌<◌, ◌+◌, ◌/◌, ◌%◌, ◌^◌, None, map, slice_index};
+ghost use Rattle.std.specs.Prelude.{◌≡◌, ℕ, ◌≤◌, ◌<◌, ◌+◌, ◌/◌, ◌%◌, ◌^◌, None, List, All, map, slice_index, true};
 ghost use Rattle.lvdc_vote.specs.Copies.{copy_of, shadow_of, vote_of, after_settle, IsFresh, IsFullOrder, IsSized};
 ghost use Rattle.lvdc_vote.specs.Harms.{harmed};
-ghost use Rattle.lvdc_modules.specs.Rows.{bus_of, start_latches};
-ghost use Rattle.lvdc_model.specs.Voted.{counted, counted_three, thrice};
+ghost use Rattle.lvdc_modules.specs.Rows.{rows, bus_of};
+ghost use Rattle.lvdc_model.specs.Voted.{next_copies, counted, counted_three};
+ghost use Rattle.lvdc_fault.specs.Events.{IsEvent};
+ghost use Rattle.lvdc_fault.specs.declared.event.Event.{Event};
 ghost use Rattle.lvdc_logic.specs.Counts.{counts_in};
-ghost use Rattle.lvdc_logic.specs.InForce.{after_harms, three_harmed, faults_at, latched_under, mark_at};
-ghost use Rattle.lvdc_logic.specs.Latching.{copies_in, row_of, latches_in, triple_in, after_next, after_number, after_numbers, after_steps, AllAgree, AllFresh, AllSized};
+ghost use Rattle.lvdc_forces.specs.InForce.{faults_at, mark_at, IsInForce};
+ghost use Rattle.lvdc_logic.specs.Harmed.{after_harms, three_harmed, latched_under};
+ghost use Rattle.lvdc_logic.specs.Latching.{alike, copies_by, copies_in, row_of, latches_in, triple_in, after_number, after_numbers, after_steps, AllFresh, AllSized};
 ghost use Rattle.lvdc_logic.specs.Logic.{DifferedAtMost};
 
 use crate::counts::Counts;
-use crate::in_force::{Faults, InForce};
-use lvdc_map::Hop;
+use lvdc_forces::{Faults, InForce};
 use lvdc_modules::{
-    Accumulator, AccumulatorState, Bus, Decoder, DecoderState, ExchangeState, Exchanger, Locator,
-    LocatorState, Multiplier, MultiplierState, Next, Selector, SelectorState, Timer, TimerState,
-    data_word, place_word,
+    Accumulator, Bus, Decoder, Exchanger, Locator, Multiplier, Next, Selector, Timer,
 };
 use lvdc_orders::Order;
-use lvdc_vote::{Harm, LogicModule, Triple};
+use lvdc_vote::{Harm, LogicModule, Triple, harm_suffices};
 use lvdc_word::Word;
 
 /// Three copies of each module, and what each has latched.
@@ -33,41 +33,27 @@ pub struct Triples {
 }
 
 impl Triples {
-    /// Equal copies with all latches 0 but the place and the data place.
-    pub fn new(start: Hop) -> Triples
-        ensures copies { copies_in result ≡ map thrice (start_latches start) }
-        ensures fresh { AllFresh result }
-        ensures sized { AllSized result }
+    /// Three equal copies of each state on a bus.
+    pub fn alike(votes: &Bus) -> Triples
+        ensures { result ≡ alike votes.now }
     {
-        let zero_word = Word::ZERO;
         Triples {
-            timer: Triple::new(TimerState {
-                phase: zero_word,
-                hold: zero_word,
-            }),
-            locator: Triple::new(LocatorState {
-                place: place_word(start),
-                saver: zero_word,
-            }),
-            decoder: Triple::new(DecoderState { instr: zero_word }),
-            selector: Triple::new(SelectorState {
-                hold_place: data_word(start),
-            }),
-            accumulator: Triple::new(AccumulatorState {
-                a: zero_word,
-                operand: zero_word,
-            }),
-            multiplier: Triple::new(MultiplierState {
-                pq: zero_word,
-                control: zero_word,
-                m: zero_word,
-                h: zero_word,
-                q: zero_word,
-            }),
-            exchange: Triple::new(ExchangeState {
-                stop: zero_word,
-                request: zero_word,
-            }),
+            timer: Triple::new(votes.timer),
+            locator: Triple::new(votes.locator),
+            decoder: Triple::new(votes.decoder),
+            selector: Triple::new(votes.selector),
+            accumulator: Triple::new(votes.accumulator),
+            multiplier: Triple::new(votes.multiplier),
+            exchange: Triple::new(votes.exchange),
+        }
+    }
+
+    /// The copies that stand apart; where none does, those that are alike on the bus.
+    pub fn stand_apart(&mut self, apart: bool, votes: &Bus)
+        ensures { self.new ≡ copies_by apart self.old votes.now }
+    {
+        if !apart {
+            *self = Triples::alike(votes);
         }
     }
 
@@ -85,6 +71,27 @@ impl Triples {
             exchange: self.exchange.voted(),
             memory,
             port,
+        }
+    }
+
+    /// Makes a step with this in force, from this bus. Each copy that differs from the new vote is counted.
+    pub fn step(&mut self, order: &Order, force: &InForce, voted: &Bus, counts: &mut Counts)
+        requires fresh { AllFresh self.old }
+        requires sized { AllSized self.old }
+        requires any { force.now.any ≡ true }
+        requires differed { DifferedAtMost (2 ^ 63) (counts_in counts.old) }
+        ensures copies { (script : List Event) (step : ℕ) → All IsEvent script → IsInForce script step force.now
+            → copies_in self.new ≡ next_copies script step 1 rows (copies_in self.old) (copies_in self.old) voted.now }
+        ensures counts { counts_in counts.new ≡ counted (copies_in self.new) (counts_in counts.old) }
+        ensures fresh { AllFresh self.new }
+        ensures sized { AllSized self.new }
+    {
+        harm_suffices();
+        if force.deaf {
+            self.latch_named(order, force, voted);
+            self.settle(voted, counts);
+        } else {
+            self.renew_under(force, Next::of(voted), counts);
         }
     }
 
@@ -141,7 +148,7 @@ impl Triples {
 
     /// The copies that are marked latch by themselves in this order, each with what is in force on it. What comes of it doesn't depend on the
     /// order.
-    pub fn latch_named(&mut self, order: &Order, force: &InForce, voted: &Bus)
+    fn latch_named(&mut self, order: &Order, force: &InForce, voted: &Bus)
         requires fresh { AllFresh self.old }
         ensures value { self.new ≡ after_numbers self.old (mark_at force.now.marks) order.now
             (λ n. latched_under (faults_at force.now.copies n) self.old voted.now n) }
@@ -154,25 +161,9 @@ impl Triples {
         }
     }
 
-    /// No copy latches by itself: each has what follows for its module, and none differs.
-    pub fn renew(&mut self, next: Next)
-        requires fresh { AllFresh self.old }
-        ensures value { self.new ≡ after_next self.old next }
-        ensures agree { AllAgree self.new }
-        ensures sized { AllSized self.new }
-    {
-        self.timer.renew(next.timer);
-        self.locator.renew(next.locator);
-        self.decoder.renew(next.decoder);
-        self.selector.renew(next.selector);
-        self.accumulator.renew(next.accumulator);
-        self.multiplier.renew(next.multiplier);
-        self.exchange.renew(next.exchange);
-    }
-
     /// No copy is deaf: each that is marked latches what follows for its module under what is wrong with it, and every other one has what
     /// follows. No copy waits for another, so there is no order. Each copy that differs from the new vote is counted.
-    pub fn renew_under(&mut self, force: &InForce, next: Next, counts: &mut Counts)
+    fn renew_under(&mut self, force: &InForce, next: Next, counts: &mut Counts)
         requires fresh { AllFresh self.old }
         requires differed { DifferedAtMost (2 ^ 63) (counts_in counts.old) }
         ensures value { self.new ≡ after_harms force.now self.old next }
@@ -226,7 +217,7 @@ impl Triples {
 
     /// What each copy latched takes its place, and that of a copy that hasn't latched what follows from the votes, which is worked
     /// out once for a module. Each copy that differs from the new vote is counted.
-    pub fn settle(&mut self, voted: &Bus, counts: &mut Counts)
+    fn settle(&mut self, voted: &Bus, counts: &mut Counts)
         requires differed { DifferedAtMost (2 ^ 63) (counts_in counts.old) }
         ensures value { self.new ≡ after_steps self.old voted.now }
         ensures counts { counts_in counts.new ≡ counted (copies_in self.new) (counts_in counts.old) }

@@ -14,8 +14,8 @@ use Rattle.lvdc_model.specs.Exchanges.{wished}
 use Rattle.lvdc_model.specs.Runs.{own_verdict, own_logic, own_memory, recovers, read_of_wish}
 use Rattle.lvdc_machine.specs.View.{View}
 use Rattle.lvdc_machine.specs.Shows.{Shows}
-use Rattle.lvdc_logic.specs.Parts.{IsKnown}
-use Rattle.lvdc_logic.specs.declared.known.Known.{Known}
+use Rattle.lvdc_forces.specs.Parts.{IsKnown}
+use Rattle.lvdc_forces.specs.declared.known.Known.{Known}
 use Rattle.lvdc_machine.specs.Sound.{KnowsForce}
 
 -- the module that is found wrong

@@ -9,7 +9,6 @@ use Rattle.lvdc_vote.specs.Copies.{Copies, vote_of}
 use Rattle.lvdc_modules.specs.Rows.{rows, bus_of}
 use Rattle.lvdc_modules.specs.declared.bus.Bus.{Bus}
 use Rattle.lvdc_plain.specs.declared.records.Exchange.{Exchange}
-use Rattle.lvdc_fault.specs.declared.event.Event.{Event}
 use Rattle.lvdc_model.specs.Exchanges.{stop_of, latches}
 use Rattle.lvdc_model.specs.Known.{last_begun}
 use Rattle.lvdc_model.specs.Trial.{Trial}
@@ -22,7 +21,7 @@ use Rattle.lvdc_machine.specs.declared.mode.Pace.TheVariants.{ByTime, ByStep}
 use Rattle.lvdc_machine.specs.Room.{exchanges_left, repairs_left, MayExchange, MayRepair}
 use Rattle.lvdc_machine.specs.Shows.{Shows}
 use Rattle.lvdc_machine.specs.Steps.{noted, noting, MadeAs}
-use Rattle.lvdc_machine.specs.View.{View, bus_of_votes}
+use Rattle.lvdc_machine.specs.View.{View}
 
 -- ---- room
 
@@ -87,13 +86,6 @@ ends-by (suc (suc k)) steps = (omega arith, omega arith)
 -- so it is by the end that the vote means
 pub ends-made : (k steps : ℕ) (end : Option Outcome) → end ≡ stop_of k steps → MadeAs end steps (steps + 1)
 ends-made k steps end is = rw is (ends-by k steps)
-
--- the copies latched from the votes and the words that were brought
-pub latched-from : (script : List Event) (steps : ℕ) (old new : List Copies) (bus : Bus) (b : Brought)
-    → new ≡ next_copies script steps 1 rows old old (record bus { memory = b.memory; port = b.port }) → bus ≡ bus_of_votes old
-    → new ≡ next_copies script steps 1 rows old old (bus_of (map vote_of old) b.memory b.port)
-latched-from script steps old new bus b is votes =
-    is ∙ ap (λ (v : Bus). next_copies script steps 1 rows old old (record v { memory = b.memory; port = b.port })) votes
 
 -- what is noted and latched is what the definition notes and latches
 pub shows-made : {o : Trial} {m : View} {ds : List device.Device} {v : Voted} → Shows o m ds v → (b : Brought)

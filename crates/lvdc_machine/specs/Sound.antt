@@ -6,8 +6,8 @@ use Rattle.lvdc_fault.specs.Activity.{Fits}
 use Rattle.lvdc_fault.specs.declared.event.Event.{Event}
 use Rattle.lvdc_fault.specs.Events.{IsEvent}
 use Rattle.lvdc_logic.specs.Logic.{DifferedAtMost}
-use Rattle.lvdc_logic.specs.Parts.{AreForces, IsKnown}
-use Rattle.lvdc_logic.specs.declared.known.Known.{Known}
+use Rattle.lvdc_forces.specs.Parts.{AreForces, IsKnown}
+use Rattle.lvdc_forces.specs.declared.known.Known.{Known}
 use Rattle.lvdc_machine.specs.declared.machine.Machine.TheInside.{Inside}
 use Rattle.lvdc_machine.specs.declared.mode.Mode.TheVariants.{Guarded}
 use Rattle.lvdc_machine.specs.declared.mode.Pace.TheVariants.{ByTime}
@@ -23,8 +23,7 @@ KnowsForce script last known = IfSome last (λ step. IsKnown script step known)
 
 -- the script is in range, the events on memory are those of it, and what is active fits them; what is kept of the copies fits the script,
 -- and what is known of them is so in the step in force, and there is room for what may still come; the log of a machine with the room of its mode is of its own steps alone; a machine with room by times
--- judges, and one that judges has phases that go with the steps; the bus is that of the votes, and where no end has come they are
--- against a stop; and what is noted is of steps that were made
+-- judges, and one that judges has phases that go with the steps; where no end has come the votes are against a stop; and what is noted is of steps that were made
 pub record IsSound (m : Inside) : Type 0 where
   pub events : All IsEvent m.script
   pub on_memory : m.on_memory ≡ on_memory m.script
@@ -42,7 +41,6 @@ pub record IsSound (m : Inside) : Type 0 where
   pub limit : m.limit ≤ 1000000
   pub judges : m.pace ≡ ByTime → m.mode ≡ Guarded
   pub timed : IsInTime m.mode m.logic.copies m.steps
-  pub bus : m.bus ≡ bus_of_votes m.logic.copies
   pub going : end_seen m.end ≡ None → (bus_of_votes m.logic.copies).exchange.stop % 4 ≡ 0
   pub logged : IsLog ((m.steps + 2) / 3) m.log.items
   pub noted : AreRepairs m.banks m.steps m.repairs.items

@@ -19,24 +19,22 @@ use crate::made::Made;
 use crate::start::Start;
 use crate::{Mode, Order, Orders, Pace};
 use lvdc_fault::{Active, Script};
-use lvdc_logic::{Forces, Logic};
+use lvdc_forces::Forces;
+use lvdc_logic::Logic;
 use lvdc_map::{Banks, Hop, Placed, is_hop_constant};
 use lvdc_memory::{VotedMemory, memory_events};
 use lvdc_model::{Outcome, Repair};
-use lvdc_modules::Bus;
 use lvdc_plain::{Exchange, Unplug};
 use lvdc_port::{PortDevice, prepare_all};
-use lvdc_word::{NoMemory, Word};
+use lvdc_word::NoMemory;
 use std::alloc::Global;
 use std::marker::Model;
 
-/// The voted machine, without its devices. Steps are counted from 0, three in an instruction time. The bus of the votes is built
-/// once a step, when all copies have latched; what is in force on each copy, which copies are wrong, and which module has two of them,
-/// is worked out where an event begins or has ended. The memory goes by a script of the events on it alone.
+/// The voted machine, without its devices. Steps are counted from 0, three in an instruction time. What is in force on each copy,
+/// which copies are wrong, and which module has two of them, is worked out where an event begins or has ended. The memory goes by a script of the events on it alone.
 pub struct Machine {
     pub(crate) banks: Banks,
     pub(crate) logic: Logic,
-    pub(crate) bus: Bus,
     pub(crate) memory: VotedMemory,
     pub(crate) script: Script,
     pub(crate) on_memory: Script,
@@ -85,7 +83,6 @@ impl Drop for Machine {
         let Machine {
             banks: _,
             logic: _,
-            bus: _,
             memory: _,
             script: _,
             on_memory: _,
@@ -182,11 +179,9 @@ impl Machine {
         let active = Active::for_script(alloc, &on_memory)?;
         let forces = Forces::for_script(alloc, &script)?;
         let (log, repairs) = room_for(alloc, pace.exchanges(limit), pace.repairs(limit))?;
-        let logic = Logic::new(start);
         Ok(Machine {
             banks,
-            bus: logic.bus(Word::ZERO, Word::ZERO),
-            logic,
+            logic: Logic::new(start),
             memory,
             script,
             on_memory,

@@ -14,7 +14,7 @@ ghost use Rattle.lvdc_machine.specs.Resumed.{StandsFrom};
 ghost use Rattle.lvdc_machine.specs.Calls.{IsFresh};
 ghost use Rattle.lvdc_machine.specs.Room.{exchanges_to_come};
 ghost use Rattle.lvdc_snapshot.specs.Snapshot.{IsWhole, Means, meant};
-ghost use Rattle.lvdc_logic.specs.Parts.{AreForces};
+ghost use Rattle.lvdc_forces.specs.Parts.{AreForces};
 ghost use Rattle.lvdc_machine.specs.Sound.{KnowsForce};
 ghost use Rattle.lvdc_machine.specs.Stands.{Stands};
 ghost use Rattle.lvdc_machine.specs.Steps.{run_of};
@@ -23,11 +23,12 @@ ghost use Rattle.lvdc_machine.specs.View.{View};
 
 use crate::{Machine, Mode, Pace, Snapshot};
 use lvdc_fault::Script;
-use lvdc_logic::{Forces, Logic};
+use lvdc_forces::Forces;
+use lvdc_logic::Logic;
 use lvdc_memory::memory_events;
 use lvdc_plain::Unplug;
 use lvdc_port::{PortDevice, prepare_all};
-use lvdc_word::{NoMemory, Word};
+use lvdc_word::NoMemory;
 use std::alloc::Global;
 
 impl Machine {
@@ -89,7 +90,6 @@ impl Machine {
         let (log, repairs) = snapshot.into_noted(3 * limit - steps)?;
         Ok(Machine {
             banks,
-            bus: logic.bus(Word::ZERO, Word::ZERO),
             logic,
             memory,
             script,

@@ -143,7 +143,7 @@ impl Machine {
         ensures there { IsThereFor self.now.banks result }
         ensures due { IsDue self.now.pace self.now.steps result }
     {
-        wish(&self.bus, self.banks)
+        wish(self.logic.bus(), self.banks)
     }
 
     /// What is said of the address that is to be read.
@@ -214,12 +214,8 @@ impl Machine {
     {
         note(&mut self.log, brought.line);
         note(&mut self.repairs, brought.repair);
-        self.bus.memory = brought.memory;
-        self.bus.port = brought.port;
-        self.logic
-            .step_under(order, self.forces.in_force(), &self.bus);
-        self.bus = self.logic.bus(Word::ZERO, Word::ZERO);
-        self.end = stop_of(self.bus.exchange.stop, self.steps);
+        self.logic.step_under(order, self.forces.in_force(), brought.memory, brought.port);
+        self.end = stop_of(self.logic.bus().exchange.stop, self.steps);
         self.steps += 1;
     }
 
@@ -366,6 +362,7 @@ impl Machine {
 
     /// Makes the exchange that is wanted, lets all copies latch, and answers what was made. An error is the port of the device that
     /// failed; then nothing has changed.
+    #[inline(always)]
     pub(crate) fn exchange(
         &mut self,
         order: &Order,

@@ -48,7 +48,7 @@ impl Machine {
         ensures registers { result ≡ visible_of self.now }
         ensures few { result.times ≤ Self.LIMIT }
     {
-        registers_on(&self.bus, self.steps)
+        registers_on(self.logic.bus(), self.steps)
     }
 
     /// The intended word of an address whose bank is there, where it can be recovered: told of the state where the machine stands.
@@ -150,7 +150,7 @@ impl Machine {
     pub fn holding(&self) -> bool
         ensures { IsTrue result ↔ (0 < hold (bus_of_votes self.now.copies)) }
     {
-        self.bus.timer.hold.value() % 8 > 0
+        self.logic.bus().timer.hold.value() % 8 > 0
     }
 
     /// The end that has come; none where every call has answered `Done`.

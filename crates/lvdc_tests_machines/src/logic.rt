@@ -3,7 +3,8 @@ ghost use Rattle.lvdc_fault.specs.Events.{IsEvent};
 
 use crate::same::same;
 use lvdc_fault::{Event, Script};
-use lvdc_logic::{Forces, Logic};
+use lvdc_forces::Forces;
+use lvdc_logic::Logic;
 use lvdc_map::{Address, Banks, Hop};
 use lvdc_modules::{Bus, Wanted, wish};
 use lvdc_orders::Order;
@@ -51,9 +52,8 @@ fn run_script(alloc: Global, script: &Script, order: &Order, steps: u64) -> Resu
     let mut logic = Logic::new(Hop::of(Word::within(0o16)));
     for step in 0..steps {
         forces.go_to(script, step);
-        let voted = logic.bus(Word::ZERO, Word::ZERO);
-        let memory = memory(&voted);
-        logic.step_under(order, forces.in_force(), &Bus { memory, ..voted });
+        let memory = memory(logic.bus());
+        logic.step_under(order, forces.in_force(), memory, Word::ZERO);
     }
     Ok(logic)
 }
@@ -72,7 +72,7 @@ fn shown(logic: &Logic, number: u8) -> [u64; 4]
     requires last { number ≤ 7 }
 {
     [
-        u64::from(logic.bus(Word::ZERO, Word::ZERO).accumulator.a.value()),
+        u64::from(logic.bus().accumulator.a.value()),
         logic.differed(number, 1),
         logic.differed(number, 2),
         logic.differed(number, 3),

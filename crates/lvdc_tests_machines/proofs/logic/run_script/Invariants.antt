@@ -1,5 +1,5 @@
 use Rattle.lvdc_logic.specs.Logic.{DifferedAtMost}
-use Rattle.lvdc_logic.specs.Parts.{AreForces}
+use Rattle.lvdc_forces.specs.Parts.{AreForces}
 use Rattle.lvdc_tests_machines.proofs.logic.run_script.Given as goal
 
 -- what the next step asks for

@@ -1,80 +1,73 @@
-use Rattle.std.proofs.Common.{rules, arith, ℕ, ◌∷◌, [], Bool, false, ◌&&◌, ◌+◌, ◌^◌, refl, sym, ◌∙◌, ap, subst}
+use Rattle.std.proofs.Common.{rules, arith, [], ◌∷◌, Bool, false, ◌&&◌, ◌+◌, ◌^◌, refl, sym, ◌∙◌, ap, subst}
 use Rattle.std.proofs.lemmas.Bool.{false≢true}
+use Rattle.lvdc_vote.proofs.Differences.{none_differs}
+use Rattle.lvdc_modules.specs.States.{timer_latches, locator_latches, decoder_latches, selector_latches, accumulator_latches, multiplier_latches, exchange_latches}
+use Rattle.lvdc_modules.specs.Rows.{rows}
+use Rattle.lvdc_modules.specs.declared.bus.Bus.{Bus}
+use Rattle.lvdc_model.specs.Voted.{next_copies, thrice}
 use Rattle.lvdc_logic.specs.Logic.{DifferedAtMost}
-use Rattle.lvdc_logic.specs.InForce.{faults_at, latched_under, mark_at}
-use Rattle.lvdc_logic.specs.Latching.{copies_in, new_latches, after_steps}
+use Rattle.lvdc_forces.specs.InForce.{mark_at}
 use Rattle.lvdc_logic.specs.Counts.{counts_in}
+use Rattle.lvdc_logic.specs.Latching.{alike, copies_by, copies_in, new_latches}
 use Rattle.lvdc_logic.specs.declared.triples.Triples.{Triples}
-use Rattle.lvdc_logic.proofs.Commits.{next_is, steps_are}
-use Rattle.lvdc_logic.proofs.Differing.{counted_at_most, agreed_counted}
-use Rattle.lvdc_logic.proofs.Harmed.{harms_are}
-use Rattle.lvdc_logic.proofs.Under.{latched_is}
+use Rattle.lvdc_logic.proofs.Alike.{alike_voted, renewed_alike, votes_with}
+use Rattle.lvdc_logic.proofs.Commits.{steps_are}
+use Rattle.lvdc_logic.proofs.Differing.{agreed_counted, counted_at_most}
 use Rattle.lvdc_logic.proofs.logic.Logic.step_under.Goals as goal
 
-pub settle-requires : goal.settle-requires
-settle-requires c = record { differed = subst (DifferedAtMost (2 ^ 63)) (ap (λ v. v.counts) (sym c.self.view_is)) c.requires.differed }
-
-pub renew_under-requires-clause-differed : goal.renew_under-requires-clause-differed
-renew_under-requires-clause-differed c = subst (DifferedAtMost (2 ^ 63)) (ap (λ v. v.counts) (sym c.self.view_is)) c.requires.differed
-
-pub returns-then-not-force-clause-copies : goal.returns-then-not-force-clause-copies
-returns-then-not-force-clause-copies c script step events in_force =
-    let t = c.self.inside.triples in
+pub returns-else-force-clause-copies : goal.returns-else-force-clause-copies
+returns-else-force-clause-copies c script step events in_force =
+    let l = c.self.inside in
+    let t = copies_by l.apart l.triples l.bus in
     let force = c.args.force.now in
-    let voted = c.args.voted.now in
-    let none = λ (n : ℕ). false in
+    let votes = votes_with (copies_in t) l.bus c.args.memory c.args.port c.self.invariant.votes in
+    let voted : Bus = record l.bus { memory = c.args.memory; port = c.args.port } in
     rw (← c.self.view_is)
-    (ap copies_in (c.renew.ensures.value ∙ next_is t voted c.of.result c.of.ensures)
-    ∙ steps_are script step t none [] voted (new_latches script step t voted) c.self.invariant.0 (λ n h. refl) (λ n h e. absurd (false≢true e))
-    (λ n h off. in_force.others n h (ap (λ (any : Bool). any && mark_at force.marks n) c.if-not-force.true)))
+    (ap (λ (b : Bus). copies_in (alike b)) c.renew.ensures
+    ∙ ap copies_in (renewed_alike t voted c.self.invariant.fresh)
+    ∙ steps_are script step t (λ n. false) [] voted (new_latches script step t voted) c.self.invariant.fresh (λ n h. refl) (λ n h e. absurd (false≢true e))
+    (λ n h off. in_force.others n h (ap (λ (any : Bool). any && mark_at force.marks n) c.if-force.false))
+    ∙ ap (next_copies script step 1 rows (copies_in t) (copies_in t)) votes)
 
-pub returns-then-not-force-clause-counts : goal.returns-then-not-force-clause-counts
-returns-then-not-force-clause-counts c =
-    let t = c.renew.new.self in
+pub returns-else-force-clause-counts : goal.returns-else-force-clause-counts
+returns-else-force-clause-counts c =
+    let b = c.renew.new.self in
     let counts = c.self.inside.counts in
-    let agree = c.renew.ensures.agree in
     rw (← c.self.view_is)
-    (λ j.
-    agreed_counted t.timer counts.timer (search rules) agree.timer j
-    ∷ agreed_counted t.locator counts.locator (search rules) agree.locator j
-    ∷ agreed_counted t.decoder counts.decoder (search rules) agree.decoder j
-    ∷ agreed_counted t.selector counts.selector (search rules) agree.selector j
-    ∷ agreed_counted t.accumulator counts.accumulator (search rules) agree.accumulator j
-    ∷ agreed_counted t.multiplier counts.multiplier (search rules) agree.multiplier j
-    ∷ agreed_counted t.exchange counts.exchange (search rules) agree.exchange j
+    (λ i.
+    agreed_counted (thrice (timer_latches b.timer)) counts.timer (search rules) (none_differs (timer_latches b.timer)) i
+    ∷ agreed_counted (thrice (locator_latches b.locator)) counts.locator (search rules) (none_differs (locator_latches b.locator)) i
+    ∷ agreed_counted (thrice (decoder_latches b.decoder)) counts.decoder (search rules) (none_differs (decoder_latches b.decoder)) i
+    ∷ agreed_counted (thrice (selector_latches b.selector)) counts.selector (search rules) (none_differs (selector_latches b.selector)) i
+    ∷ agreed_counted (thrice (accumulator_latches b.accumulator)) counts.accumulator (search rules) (none_differs (accumulator_latches b.accumulator)) i
+    ∷ agreed_counted (thrice (multiplier_latches b.multiplier)) counts.multiplier (search rules) (none_differs (multiplier_latches b.multiplier)) i
+    ∷ agreed_counted (thrice (exchange_latches b.exchange)) counts.exchange (search rules) (none_differs (exchange_latches b.exchange)) i
     ∷ [])
 
-pub returns-then-not-force-clause-differed : goal.returns-then-not-force-clause-differed
-returns-then-not-force-clause-differed c most before number copy =
+pub returns-else-force-clause-differed : goal.returns-else-force-clause-differed
+returns-else-force-clause-differed c most before number copy =
     omega (arith, subst (DifferedAtMost most) (ap (λ v. v.counts) (sym c.self.view_is)) before number copy)
 
 pub returns-then-force-clause-copies : goal.returns-then-force-clause-copies
 returns-then-force-clause-copies c script step events in_force =
-    let order = c.args.order.now in
-    let t = c.self.inside.triples in
-    let force = c.args.force.now in
-    let voted = c.args.voted.now in
+    let l = c.self.inside in
+    let t = copies_by l.apart l.triples l.bus in
     rw (← c.self.view_is)
-    (ap copies_in (c.settle.ensures.value ∙ ap (λ (t : Triples). after_steps t voted) c.latch_named.ensures.value)
-    ∙ steps_are script step t (mark_at force.marks) order voted (λ n. latched_under (faults_at force.copies n) t voted n) c.self.invariant.0
-    (latched_is c.harm_suffices.ensures script step force t voted c.self.invariant.1 events in_force)
-    (λ n h e. c.latch_named.ensures.full.all n h)
-    (λ n h off. in_force.others n h (ap (λ (any : Bool). any && mark_at force.marks n) c.if-not-force.false ∙ off)))
+    (c.step.ensures.copies script step events in_force
+    ∙ ap (λ (t : Triples). next_copies script step 1 rows (copies_in t) (copies_in t) (record l.bus { memory = c.args.memory; port = c.args.port })) c.stand_apart.ensures
+    ∙ ap (next_copies script step 1 rows (copies_in t) (copies_in t)) (votes_with (copies_in t) l.bus c.args.memory c.args.port c.self.invariant.votes))
+
+pub returns-then-force-clause-counts : goal.returns-then-force-clause-counts
+returns-then-force-clause-counts c = rw (← c.self.view_is) c.step.ensures.counts
 
 pub returns-then-force-clause-differed : goal.returns-then-force-clause-differed
 returns-then-force-clause-differed c most before =
-    subst (DifferedAtMost (most + 1)) (sym c.settle.ensures.counts)
-    (counted_at_most most (copies_in c.settle.new.self) (counts_in c.self.inside.counts) (subst (DifferedAtMost most) (ap (λ v. v.counts) (sym c.self.view_is)) before))
+    subst (DifferedAtMost (most + 1)) (sym c.step.ensures.counts)
+    (counted_at_most most (copies_in c.step.new.self) (counts_in c.self.inside.counts) (subst (DifferedAtMost most) (ap (λ v. v.counts) (sym c.self.view_is)) before))
 
-pub returns-else-force-clause-copies : goal.returns-else-force-clause-copies
-returns-else-force-clause-copies c script step events in_force =
-    let t = c.self.inside.triples in
-    rw (← c.self.view_is)
-    (ap copies_in c.renew_under.ensures.value
-    ∙ harms_are c.harm_suffices.ensures script step c.args.force.now t c.args.voted.now c.of-else-force.result c.self.invariant.1 events in_force
-    c.if-force.false c.of-else-force.ensures)
+pub step-requires-clause-differed : goal.step-requires-clause-differed
+step-requires-clause-differed c = subst (DifferedAtMost (2 ^ 63)) (ap (λ v. v.counts) (sym c.self.view_is)) c.requires.differed
 
-pub returns-else-force-clause-differed : goal.returns-else-force-clause-differed
-returns-else-force-clause-differed c most before =
-    subst (DifferedAtMost (most + 1)) (sym c.renew_under.ensures.counts)
-    (counted_at_most most (copies_in c.renew_under.new.self) (counts_in c.self.inside.counts) (subst (DifferedAtMost most) (ap (λ v. v.counts) (sym c.self.view_is)) before))
+pub invariant_of-self-else-force : goal.invariant_of-self-else-force
+invariant_of-self-else-force c =
+    alike_voted c.renew.new.self (ap (λ (b : Bus). b.memory) c.renew.ensures) (ap (λ (b : Bus). b.port) c.renew.ensures)

@@ -2,7 +2,8 @@ use Rattle.std.proofs.Common.{ℕ, ◌<◌, ◌≤◌, length, take, slice_index
 use Rattle.std.proofs.lemmas.List.{take_all}
 use Rattle.lvdc_vote.specs.Copies.{IsFullOrder}
 use Rattle.lvdc_logic.specs.Latching.{after_numbers}
-use Rattle.lvdc_logic.specs.InForce.{faults_at, latched_under, mark_at}
+use Rattle.lvdc_forces.specs.InForce.{faults_at, mark_at}
+use Rattle.lvdc_logic.specs.Harmed.{latched_under}
 use Rattle.lvdc_logic.proofs.Numbers.{numbers_none, numbers_more, numbers_pass, numbers_fresh, latched_stays}
 use Rattle.lvdc_logic.proofs.triples.Triples.latch_named.Goals as goal
 use Rattle.lvdc_logic.proofs.triples.Triples.latch_named.Goals.{then-is_marked, else-is_marked}

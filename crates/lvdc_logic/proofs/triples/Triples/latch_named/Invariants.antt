@@ -1,5 +1,6 @@
 use Rattle.std.proofs.Common.{◌≡◌, take}
-use Rattle.lvdc_logic.specs.InForce.{faults_at, latched_under, mark_at}
+use Rattle.lvdc_forces.specs.InForce.{faults_at, mark_at}
+use Rattle.lvdc_logic.specs.Harmed.{latched_under}
 use Rattle.lvdc_logic.specs.Latching.{after_numbers}
 use Rattle.lvdc_logic.proofs.triples.Triples.latch_named.Given as goal
 

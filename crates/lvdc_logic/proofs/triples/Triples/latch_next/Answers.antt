@@ -1,5 +1,5 @@
 use Rattle.std.proofs.Common.{◌≡◌, ◌+◌, ◌-◌, ◌%◌, refl, arith}
-use Rattle.lvdc_logic.specs.InForce.{latched_under}
+use Rattle.lvdc_logic.specs.Harmed.{latched_under}
 use Rattle.lvdc_logic.proofs.triples.Triples.latch_next.Goals as goal
 
 pub returns-then-faults : goal.returns-then-faults

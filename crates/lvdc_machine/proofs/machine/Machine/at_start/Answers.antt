@@ -11,7 +11,7 @@ invariant_of-result c = record {
   within = nothing-within _ _ c.in_ok-active.ensures.held;
   forces = c.in_ok-forces.ensures;
   known = rw c.in_ok-active.ensures.last tt;
-  differed = c.new-logic.ensures.differed;
+  differed = c.new-2.ensures.differed;
   banks = c.in_ok-memory.ensures.banks;
   log = λ own. let none = ap length c.in_ok-log.ensures.log in omega (arith, none);
   log_room = let none = ap length c.in_ok-log.ensures.log in let had = c.in_ok-log.ensures.log_room in omega (arith, none, had, c.exchanges.ensures);
@@ -20,9 +20,8 @@ invariant_of-result c = record {
   steps = omega arith;
   limit = c.requires.limit;
   judges = λ e. judges-by c.args.start.mode (sym c.of-pace.ensures ∙ e);
-  timed = starts-in-time c.args.start.mode c.args.start.start _ c.new-logic.ensures.copies;
-  bus = c.bus.ensures;
-  going = λ none. starts-going c.args.start.start _ c.new-logic.ensures.copies;
+  timed = starts-in-time c.args.start.mode c.args.start.start _ c.new-2.ensures.copies;
+  going = λ none. starts-going c.args.start.start _ c.new-2.ensures.copies;
   logged = rw c.in_ok-log.ensures.log (no-log 0);
   noted = rw c.in_ok-log.ensures.repairs (no-repairs c.args.start.banks 0);
 }
@@ -35,12 +34,12 @@ returns c = record {
       banks = refl;
       script = refl;
       unplugs = refl;
-      copies = c.new-logic.ensures.copies;
+      copies = c.new-2.ensures.copies;
       memory = rw c.in_ok-active.ensures.last (c.in_ok-memory.ensures.holds _ refl refl);
       left = refl;
       log = c.in_ok-log.ensures.log;
       repairs = c.in_ok-log.ensures.repairs;
-      counts = c.new-logic.ensures.counts;
+      counts = c.new-2.ensures.counts;
       steps = refl;
       end = refl;
     }) c.in_ok-active.ensures.last refl refl;

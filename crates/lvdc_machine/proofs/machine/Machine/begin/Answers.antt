@@ -40,7 +40,6 @@ invariant_of-self c = record {
   limit = c.self.invariant.limit;
   judges = c.self.invariant.judges;
   timed = c.self.invariant.timed;
-  bus = c.self.invariant.bus;
   going = c.self.invariant.going;
   logged = c.self.invariant.logged;
   noted = c.self.invariant.noted;

@@ -1,9 +1,9 @@
 use Rattle.std.proofs.Common.{◌%◌, refl, sym, subst, arith}
-use Rattle.lvdc_logic.specs.InForce.{IsInForce}
+use Rattle.lvdc_forces.specs.InForce.{IsInForce}
 use Rattle.lvdc_machine.proofs.Judging.{known_then}
 use Rattle.lvdc_machine.proofs.Noting.{log-noted, repairs-noted, goes-on}
 use Rattle.lvdc_machine.proofs.Timer.{stays-in-time}
-use Rattle.lvdc_machine.proofs.Making.{log-room, repair-room, begun-made, ends-made, latched-from, shows-made}
+use Rattle.lvdc_machine.proofs.Making.{log-room, repair-room, begun-made, ends-made, shows-made}
 use Rattle.lvdc_machine.proofs.machine.Machine.make.Goals as goal
 
 pub step_under-requires : goal.step_under-requires
@@ -36,10 +36,9 @@ invariant_of-self c =
       steps = omega (arith, may.left);
       limit = c.self.invariant.limit;
       judges = c.self.invariant.judges;
-      timed = rw (latched-from c.self.inside.script c.self.inside.steps _ _ _ c.args.brought (c.step_under.ensures.copies c.self.inside.script c.self.inside.steps c.self.invariant.events in_force) c.self.invariant.bus) (stays-in-time c.self.inside.mode c.self.inside.script c.self.inside.steps c.self.inside.logic.copies
+      timed = rw (c.step_under.ensures.copies c.self.inside.script c.self.inside.steps c.self.invariant.events in_force) (stays-in-time c.self.inside.mode c.self.inside.script c.self.inside.steps c.self.inside.logic.copies
           c.args.brought.memory c.args.brought.port may.right c.self.invariant.timed);
-      bus = c.bus-self-inside.ensures;
-      going = λ none. rw c.bus-self-inside.ensures at (goes-on (c.bus-self-inside.result.exchange.stop % 4) c.self.inside.steps _ c.stop_of-self-inside.ensures none);
+      going = λ none. rw c.bus.ensures at (goes-on (c.bus.result.now.exchange.stop % 4) c.self.inside.steps _ c.stop_of-self-inside.ensures none);
       logged = rw c.note.ensures.items (log-noted c.self.inside.steps _ c.args.brought.line (rw (← c.self.view_is) at c.requires.dated) c.self.invariant.logged);
       noted = rw c.note-2.ensures.items (repairs-noted c.self.inside.banks c.self.inside.steps _ c.args.brought.repair (rw (← c.self.view_is) at c.requires.noted) c.self.invariant.noted);
     }
@@ -48,12 +47,12 @@ pub returns-clause-shows : goal.returns-clause-shows
 returns-clause-shows c = λ o v ds h.
     let known = known_then c.self.inside.script c.self.inside.active.last c.self.inside.steps c.self.inside.forces.known c.self.invariant.known (rw (← c.self.view_is) at c.requires.may).begun in
     let in_force = subst (IsInForce c.self.inside.script c.self.inside.steps) (sym c.in_force.ensures) known.force in
-    shows-made (rw (← c.self.view_is) at h) c.args.brought _ _ _ _ _ _ (latched-from c.self.inside.script c.self.inside.steps _ _ _ c.args.brought (c.step_under.ensures.copies c.self.inside.script c.self.inside.steps c.self.invariant.events in_force) c.self.invariant.bus) c.step_under.ensures.counts c.note.ensures.items
-    c.note-2.ensures.items c.bus-self-inside.ensures c.stop_of-self-inside.ensures
+    shows-made (rw (← c.self.view_is) at h) c.args.brought _ _ _ _ _ _ (c.step_under.ensures.copies c.self.inside.script c.self.inside.steps c.self.invariant.events in_force) c.step_under.ensures.counts c.note.ensures.items
+    c.note-2.ensures.items c.bus.ensures c.stop_of-self-inside.ensures
 
 pub returns-clause-made : goal.returns-clause-made
 returns-clause-made c = rw (← c.self.view_is) (record {
   keeps = record { banks = refl; script = refl; unplugs = refl; limit = refl; mode = refl; pace = refl };
-  begun = begun-made (c.bus-self-inside.result.exchange.stop % 4) c.self.inside.steps _ _ c.stop_of-self-inside.ensures (rw (← c.self.view_is) at c.requires.may).begun;
-  ends = ends-made (c.bus-self-inside.result.exchange.stop % 4) c.self.inside.steps _ c.stop_of-self-inside.ensures;
+  begun = begun-made (c.bus.result.now.exchange.stop % 4) c.self.inside.steps _ _ c.stop_of-self-inside.ensures (rw (← c.self.view_is) at c.requires.may).begun;
+  ends = ends-made (c.bus.result.now.exchange.stop % 4) c.self.inside.steps _ c.stop_of-self-inside.ensures;
 })

@@ -8,8 +8,8 @@ use Rattle.lvdc_memory.proofs.OnMemory.{only, holds-whole}
 use Rattle.lvdc_machine.proofs.Standing.{after-none}
 use Rattle.lvdc_machine.proofs.machine.Machine.resumed.Goals as goal
 
-pub memory_of-requires-clause-events : goal.memory_of-requires-clause-events
-memory_of-requires-clause-events c = subst (All IsEvent) (sym c.in_ok-on_memory.ensures) (All-filter is_on_memory IsEvent c.args.script c.requires.events)
+pub memory-requires-clause-events : goal.memory-requires-clause-events
+memory-requires-clause-events c = subst (All IsEvent) (sym c.in_ok-on_memory.ensures) (All-filter is_on_memory IsEvent c.args.script c.requires.events)
 
 pub invariant_of-result : goal.invariant_of-result
 invariant_of-result c =
@@ -36,7 +36,6 @@ invariant_of-result c =
       limit = c.requires.limit;
       judges = λ e. refl;
       timed = rw (c.from_latches-logic.ensures.copies, c.items.ensures) (begins-timed c.args.snapshot whole);
-      bus = c.bus.ensures;
       going = λ none. rw (c.from_latches-logic.ensures.copies, c.items.ensures) whole.stop;
       logged = rw c.in_ok-log.ensures.log (log-whole c.args.snapshot whole);
       noted = rw c.in_ok-log.ensures.repairs whole.repairs;

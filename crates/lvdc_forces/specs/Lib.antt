@@ -1,0 +1,4 @@
+pub mod Untouched
+pub mod InForce
+pub mod Shares
+pub mod Parts

@@ -1,0 +1,156 @@
+//! A script in parts of 256 events. What a part does to the copies is worked out anew only where one of its events begins or has
+//! ended.
+
+ghost use Rattle.std.specs.Prelude.{◌≡◌, ℕ, ◌+◌, ◌-◌, ◌*◌, ◌/◌, ◌%◌, ◌≤◌, ◌<◌, ◌^◌, true, false, length, take, drop, All};
+ghost use Rattle.lvdc_fault.specs.Events.{IsEvent};
+ghost use Rattle.lvdc_fault.specs.Script.{is_within};
+ghost use Rattle.lvdc_forces.specs.Parts.{StaysUntil, IsRight, events_of, no_part, part_at, share_then, total_of};
+ghost use Rattle.lvdc_forces.specs.Shares.{share_at, share_on};
+
+use crate::shares::{Share, add_event};
+use lvdc_fault::{Event, Script};
+
+/// What the events of a part do to each of the 21 copies, up to the first step at which one of them begins or has ended. Copy `n`
+/// is copy `n % 3` of module `n / 3`, both counted from 0.
+#[derive(Clone, Copy, Debug)]
+pub struct Part {
+    pub(crate) until: u64,
+    pub(crate) shares: [Share; 21],
+}
+
+impl Part {
+    /// Nothing is known.
+    pub(crate) fn none() -> Part
+        ensures { result ≡ no_part }
+    {
+        Part {
+            until: 0,
+            shares: [Share::none(); 21],
+        }
+    }
+
+    /// The part of this number of a script, from a step on.
+    fn of_script(script: &Script, number: usize, step: u64) -> Part
+        requires events { All IsEvent script.now }
+        requires number { 256 * number ≤ length script.now }
+        requires bound { step < 2 ^ 63 }
+        ensures right { IsRight (events_of script.now number) step result }
+        ensures later { step < result.until }
+    {
+        let length = script.len();
+        let from = 256 * number;
+        let left = length - from;
+        let to = from + left.min(256);
+        Part {
+            until: until_of(script, from, to, step),
+            shares: shares_of(script, from, to, step),
+        }
+    }
+}
+
+/// What the events from a position up to another do to each copy in a step.
+fn shares_of(script: &Script, from: usize, to: usize, step: u64) -> [Share; 21]
+    requires order { from ≤ to }
+    requires within { to ≤ length script.now }
+    requires events { All IsEvent script.now }
+    ensures { (n : ℕ) → n < 21 → share_at result n
+        ≡ share_on (take (to - from) (drop from script.now)) step (n / 3 + 1) (n % 3 + 1) }
+{
+    let mut shares = [Share::none(); 21];
+    for position in from..to {
+        add_event(script.event(position), step, &mut shares);
+    }
+    shares
+}
+
+/// The first step after this one at which one of the events from a position up to another begins or has ended.
+fn until_of(script: &Script, from: usize, to: usize, step: u64) -> u64
+    requires order { from ≤ to }
+    requires within { to ≤ length script.now }
+    requires bound { step < 2 ^ 63 }
+    ensures later { step < result }
+    ensures stays { All (StaysUntil step result) (take (to - from) (drop from script.now)) }
+{
+    let mut until = u64::MAX;
+    for position in from..to {
+        until = until.min(change_of(script.event(position), step));
+    }
+    until
+}
+
+/// The first step after this one at which an event that acts on a copy begins or has ended.
+fn change_of(event: &Event, step: u64) -> u64
+    requires { step < 2 ^ 63 }
+    ensures later { step < result }
+    ensures stays { StaysUntil step result event.now }
+{
+    match *event {
+        Event::Flip { first, last, .. }
+        | Event::Force { first, last, .. }
+        | Event::Lag { first, last, .. }
+        | Event::Deaf { first, last, .. } => change_in(first, last, step),
+        Event::Damage { .. } | Event::Stick { .. } | Event::Dead { .. } => u64::MAX,
+    }
+}
+
+/// The first step after this one at which what lasts from a step to another begins or has ended.
+fn change_in(first: u64, last: u64, step: u64) -> u64
+    requires { step < 2 ^ 63 }
+    ensures later { step < result }
+    ensures stays { (t : ℕ) → step ≤ t → t < result → is_within first last t ≡ is_within first last step }
+{
+    if step < first {
+        first
+    } else if step <= last {
+        last.saturating_add(1)
+    } else {
+        u64::MAX
+    }
+}
+
+/// Makes the part of this number right from a step on, where it was right from another on, and answers the first step at which it
+/// isn't.
+pub(crate) fn renew(script: &Script, number: usize, at: u64, step: u64, part: &mut Part) -> u64
+    requires events { All IsEvent script.now }
+    requires number { 256 * number ≤ length script.now }
+    requires bound { step < 2 ^ 63 }
+    ensures right { IsRight (events_of script.now number) at part.old → IsRight (events_of script.now number) step part.new }
+    ensures later { step < part.new.until }
+    ensures until { result ≡ part.new.until }
+{
+    if is_due(part, at, step) {
+        *part = Part::of_script(script, number, step);
+    }
+    part.until
+}
+
+/// Isn't a part right at a step that was right from another on?
+fn is_due(part: &Part, at: u64, step: u64) -> bool
+    ensures at { result ≡ false → at ≤ step }
+    ensures until { result ≡ false → step < part.now.until }
+{
+    step < at || part.until <= step
+}
+
+/// What all parts do to a copy.
+pub(crate) fn total(parts: &[Part], number: usize) -> Share
+    requires { number < 21 }
+    ensures { result ≡ total_of parts.now number (length parts.now) }
+{
+    let mut share = Share::none();
+    for part in parts {
+        share = then(share, &part.shares[number]);
+    }
+    share
+}
+
+/// What is done to a copy, and what comes after it, if that names the copy.
+fn then(share: Share, later: &Share) -> Share
+    ensures { result ≡ share_then share later.now }
+{
+    if later.named {
+        share.join(later)
+    } else {
+        share
+    }
+}

@@ -1,7 +1,0 @@
-use Rattle.std.proofs.Common.{◌≡◌}
-use Rattle.lvdc_logic.proofs.Joins.{filled}
-use Rattle.lvdc_logic.proofs.shares.harm_by.Given as goal
-
--- each latch passed so far has its patch
-abbrev pub invariant-loop-index : goal.invariant-loop-index
-invariant-loop-index l = l.harm ≡ record { lags = l.lags; patches = filled l.patches l.index }
