@@ -1,5 +1,5 @@
 -- Runs without devices: no device is there afterwards, and none has failed.
-use Rattle.std.proofs.Common.{◌≡◌, ℕ, ◌+◌, ◌-◌, ◌*◌, List, [], ◌∷◌, true, false, map, refl, sym, subst, ap, ◌∙◌, zero-add, arith}
+use Rattle.std.proofs.Common.{◌≡◌, ℕ, zero, suc, ◌+◌, ◌-◌, ◌*◌, List, [], ◌∷◌, true, false, map, refl, sym, subst, ap, ◌∙◌, zero-add, arith}
 use Rattle.std.specs.declared.option.Option.{Option}
 use Rattle.std.specs.declared.option.Option.TheVariants.{None, Some}
 use Rattle.std.proofs.lemmas.Bool.{eq-eqb, true≢false}
@@ -8,7 +8,10 @@ use Rattle.lvdc_map.specs.declared.placed.Placed.{Placed}
 use Rattle.lvdc_port.specs.Device as device
 use Rattle.lvdc_port.specs.Devices.{has_port, count_at, AreDistinct}
 use Rattle.lvdc_port.proofs.Lists.{has-map, rose-has}
-use Rattle.lvdc_plain.specs.Run.{Opening, run}
+use Rattle.lvdc_port.specs.declared.requests.PortRequest.{PortRequest}
+use Rattle.lvdc_plain.specs.Plain.{PlainState, World}
+use Rattle.lvdc_plain.specs.Run.{Opening, run, time_by}
+use Rattle.lvdc_plain.specs.Table.{fetched_instr, request_by, exchanged, step_by, step}
 use Rattle.lvdc_plain.specs.Stands as plain
 use Rattle.lvdc_plain.specs.View as plain_view
 use Rattle.lvdc_plain.specs.declared.records.PlainEnd.{PlainEnd}
@@ -33,6 +36,29 @@ none-there device_of [] none = refl
 none-there device_of (b ∷ bs) none =
     let port = (device_of b).port in
     absurd (none port (rw (eq-eqb port port refl) refl))
+
+-- ---- the plain run without devices
+
+exchanged-none : (r : Option PortRequest) → exchanged r [] ≡ []
+exchanged-none None = refl
+exchanged-none (Some request) = refl
+
+step-none : (stop : Option Stop) (hold : ℕ) (p : PlainState) → (step_by stop hold p []).devices ≡ []
+step-none (Some s) hold p = refl
+step-none None (suc hold) p = refl
+step-none None zero p = exchanged-none (request_by (fetched_instr p).op p (fetched_instr p).address)
+
+time-none : (stop : Option Stop) (w : World) → w.devices ≡ [] → (time_by stop [] w).devices ≡ []
+time-none (Some s) w none = none
+time-none None w none = ap (λ ds. (step w.plain ds).devices) none ∙ step-none w.plain.stop w.plain.hold w.plain
+
+-- it has none after any number of times
+pub run-none : (image : List Placed) (start : HopConstant) (banks n : ℕ) → (run (program_of image start banks) n).devices ≡ []
+run-none image start banks zero = refl
+run-none image start banks (suc n) =
+    time-none (run (program_of image start banks) n).plain.stop (run (program_of image start banks) n) (run-none image start banks n)
+
+-- ---- machines
 
 -- a plain machine that stands after so many times, of whose devices none has failed, shows the plain run with its end
 plain-end : (p : Opening) (n : ℕ) (m : plain_view.View) (ds : List device.Device) (end : Option PlainEnd) → NonePlainlyFailed end → plain.EndsAs p n m ds end

@@ -8,5 +8,5 @@ mod Through
 mod Again
 mod Unhurt
 mod LimitRows
-mod Stationed
+pub mod Stationed
 pub mod Onward

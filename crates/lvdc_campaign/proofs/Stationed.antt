@@ -1,14 +1,20 @@
 -- Machines that go on from a station of the fault-free run.
-use Rattle.std.proofs.Common.{◌≡◌, ℕ, ◌+◌, ◌-◌, ◌*◌, ◌/◌, ◌≤◌, Bool, List, [], true, false, is_some, map, refl, sym, subst, ap, ◌∙◌, true≢false, arith, le_refl}
+use Rattle.std.proofs.Common.{◌≡◌, ℕ, ◌+◌, ◌-◌, ◌*◌, ◌/◌, ◌%◌, ◌≤◌, Bool, List, [], true, false, is_some, map, refl, sym, subst, ap, ◌∙◌, true≢false, arith, le_refl, IfSome, IsSomeAnd, slice_get}
+use Rattle.std.proofs.lemmas.List.Elements.{All-weaker}
 use Rattle.std.specs.declared.option.Option.{Option}
 use Rattle.std.specs.declared.option.Option.TheVariants.{None, Some}
 use Rattle.lvdc_map.specs.Hop.{HopConstant}
 use Rattle.lvdc_map.specs.declared.placed.Placed.{Placed}
 use Rattle.lvdc_port.specs.Device as device
-use Rattle.lvdc_port.specs.Devices.{has_port}
-use Rattle.lvdc_plain.specs.Run.{Opening}
+use Rattle.lvdc_port.specs.Devices.{has_port, AreDistinct}
+use Rattle.lvdc_plain.specs.Run.{Opening, run}
+use Rattle.lvdc_plain.specs.declared.records.Unplug.{Unplug}
 use Rattle.lvdc_fault.specs.declared.event.Event.{Event}
-use Rattle.lvdc_laws_early.specs.Early.{AllBeginFrom, fault_free}
+use Rattle.lvdc_fault.specs.declared.verdict.Verdict.TheVariants.{Admissible}
+use Rattle.lvdc_laws_early.specs.Early.{BeginsFrom, AllBeginFrom, fault_free}
+use Rattle.lvdc_laws_voted.specs.Ends.{IsOpening, ShowsTimes}
+use Rattle.lvdc_model.specs.Judging.{first_bad, first_bad_below}
+use Rattle.lvdc_model.specs.Runs.{alone, guarded}
 use Rattle.lvdc_model.specs.declared.outcome.Outcome.{Outcome}
 use Rattle.lvdc_model.specs.Trial.{Trial}
 use Rattle.lvdc_model.specs.Voted.{Voted, voted_start}
@@ -54,92 +60,151 @@ none-told None end is same tells none = sym same
 none-told (Some e) end is same tells none = absurd (true≢false (sym tells ∙ none))
 
 -- where no end has come, as many steps are made as were asked for, and the machine shows the state of its run
-shows-run : (o : Trial) (n : ℕ) (m : View) (mode : Mode) (end : Option Outcome) → end ≡ None → mode ≡ Guarded
-    → Shows o m [] (state_from end mode o (voted_start o) n) → EndsFrom end o (voted_start o) n mode m.steps
-    → (m.steps ≡ n) × Shows o m [] (run_of Guarded o n)
-shows-run o n m mode None none judges h ends = (ends, subst (λ (k : Mode). Shows o m [] (run_of k o n)) judges h)
-shows-run o n m mode (Some e) none judges h ends = absurd (cc none)
+shows-run : (o : Trial) (n : ℕ) (m : View) (ds : List device.Device) (mode : Mode) (end : Option Outcome) → end ≡ None → mode ≡ Guarded
+    → Shows o m ds (state_from end mode o (voted_start o) n) → EndsFrom end o (voted_start o) n mode m.steps
+    → (m.steps ≡ n) × Shows o m ds (run_of Guarded o n)
+shows-run o n m ds mode None none judges h ends = (ends, subst (λ (k : Mode). Shows o m ds (run_of k o n)) judges h)
+shows-run o n m ds mode (Some e) none judges h ends = absurd (cc none)
 
-module _ (p : Opening) (count : ℕ) where
+-- a machine before its first step is under way
+pub under_way-start : (p : Opening) (pace : Pace) (count : ℕ) (m : View) (ds : List device.Device) → IsOpening p → IsFresh Guarded pace count 0 m
+    → Stands (trial_under p []) 0 m ds → IsUnderWay p m ds
+under_way-start p pace count m ds opens fresh stands =
+    record {
+      opening = opens;
+      mode = fresh.mode_is;
+      end = fresh.end;
+      times = ap (λ (n : ℕ). n % 3) fresh.steps_are;
+      stands = subst (λ (n : ℕ). Stands (trial_under p []) n m ds) (sym fresh.steps_are) stands;
+    }
+
+-- one that was made without devices, lines or script is under way in the fault-free run of its program
+pub starts-alone : {B : Type 0} (device_of : B → device.Device) (image : List Placed) (start : HopConstant) (banks : ℕ) (unplugs : List Unplug) (devices : List B)
+    (script : List Event) (pace : Pace) (count : ℕ) (m : View) (now : List device.Device) → unplugs ≡ [] → devices ≡ [] → script ≡ []
+    → IsOpening (record { image = image; banks = banks; start = start; unplugs = unplugs; devices = map device_of devices })
+    → IsFresh Guarded pace count 0 m
+    → Stands (record {
+      opening = record { image = image; banks = banks; start = start; unplugs = unplugs; devices = map device_of devices };
+      script = script;
+    }) 0 m now
+    → IsUnderWay (program_of image start banks) m now
+starts-alone device_of image start banks unplugs devices script pace count m now no_lines no_devices no_script opens fresh stands =
+    let opening : record { image = image; banks = banks; start = start; unplugs = unplugs; devices = map device_of devices } ≡ program_of image start banks =
+    λ i. record { image = image; banks = banks; start = start; unplugs = no_lines i; devices = map device_of (no_devices i) } in
+    under_way-start (program_of image start banks) pace count m now (subst IsOpening opening opens) fresh
+    (subst (λ (o : Trial). Stands o 0 m now) (λ i. record { opening = opening i; script = no_script i }) stands)
+
+module _ (p : Opening) where
   abbrev o : Trial
   o = trial_under p []
 
-  -- what goes on without an end is under way
-  pub under_way-on : (times more : ℕ) (before after : View) → IsUnderWay p count times before → Keeps before after → after.end ≡ None
-      → StandsFrom o (voted_start o) (3 * times + 3 * more) after [] → IsUnderWay p count (times + more) after
-  under_way-on times more before after h keeps end stands =
-      let sum : 3 * times + 3 * more ≡ 3 * (times + more) = omega arith in
-      record {
-        opening = h.opening;
-        mode = keeps.mode ∙ h.mode;
-        limit = keeps.limit ∙ h.limit;
-        end = end;
-        stands = subst (λ (n : ℕ). Stands o n after []) sum stands;
-      }
+  module _ (more : ℕ) (before after : View) (old new : List device.Device) (h : IsUnderWay p before old) (keeps : Keeps before after) (end : after.end ≡ None)
+      (stands : Stands o (before.steps + 3 * more) after new) where
+    shown : (after.steps ≡ before.steps + 3 * more) × Shows o after new (run_of Guarded o (before.steps + 3 * more))
+    shown = shows-run o (before.steps + 3 * more) after new after.mode after.end end (keeps.mode ∙ h.mode) stands.shows stands.ends
 
-  -- as many steps are made
-  pub under_way-steps : (times : ℕ) (m : View) → IsUnderWay p count times m → m.steps ≡ 3 * times
-  under_way-steps times m h = (shows-run o (3 * times) m m.mode m.end h.end h.mode h.stands.shows h.stands.ends).0
+    -- so many steps more are made
+    pub steps-on : after.steps ≡ before.steps + 3 * more
+    steps-on = shown.0
 
-  -- its snapshot is a station
-  pub is-station : (times : ℕ) (m : View) (s : Snapshot) → times ≤ count → IsUnderWay p count times m
-      → ((o : Trial) (v : Voted) (ds : List device.Device) → Shows o m ds v → Means s v) → IsWhole s → s.banks ≡ m.banks → s.steps ≡ m.steps
-      → IsStation p count s
-  is-station times m s early h means whole banks steps =
-      let both = shows-run o (3 * times) m m.mode m.end h.end h.mode h.stands.shows h.stands.ends in
-      let made : s.steps ≡ 3 * times = steps ∙ both.0 in
-      let shows : Shows o m [] (fault_free_at p s.steps) = subst (λ (n : ℕ). Shows o m [] (run_of Guarded o n)) (sym made) both.1 in
-      record {
-        opening = h.opening;
-        whole = whole;
-        within = omega (arith, made);
-        banks = banks ∙ shows.banks;
-        means = means o (fault_free_at p s.steps) [] shows;
-        devices = sym shows.left;
-      }
+    -- what goes on without an end is under way
+    pub under_way-on : IsUnderWay p after new
+    under_way-on =
+        let made = steps-on in
+        let times = h.times in
+        record {
+          opening = h.opening;
+          mode = keeps.mode ∙ h.mode;
+          end = end;
+          times = omega (arith, made, times);
+          stands = subst (λ (n : ℕ). Stands o n after new) (sym made) stands;
+        }
+
+    -- its snapshot is a station
+    pub is-station : (s : Snapshot) → before.steps + 3 * more ≤ 3 * before.limit
+        → ((o : Trial) (v : Voted) (ds : List device.Device) → Shows o after ds v → Means s v) → IsWhole s → s.banks ≡ after.banks → s.steps ≡ after.steps
+        → IsStation p before.limit s
+    is-station s early means whole banks steps =
+        let made : s.steps ≡ before.steps + 3 * more = steps ∙ shown.0 in
+        let shows : Shows o after new (fault_free_at p s.steps) = subst (λ (n : ℕ). Shows o after new (run_of Guarded o n)) (sym made) shown.1 in
+        record {
+          opening = h.opening;
+          whole = whole;
+          within = omega (arith, made, early);
+          banks = banks ∙ shows.banks;
+          means = means o (fault_free_at p s.steps) new shows;
+        }
+
+-- after whole times the fault-free run has the devices of the plain run
+pub plain-devices : ((o : Trial) → IsOpening o.opening → o.script ≡ [] → (n : ℕ) → first_bad_below o n ≡ Admissible)
+    → ((o : Trial) → IsOpening o.opening → (n : ℕ) → alone o n ≡ guarded o n)
+    → ((o : Trial) → IsOpening o.opening → (times : ℕ) → first_bad o times ≡ Admissible → ShowsTimes o times (guarded o (3 * times)))
+    → (p : Opening) (times : ℕ) → IsOpening p → (fault_free_at p (3 * times)).devices ≡ (run p times).devices
+plain-devices good same shows p times opens =
+    let o = trial_under p [] in
+    ap (λ (v : Voted). v.devices) (same o opens (3 * times)) ∙ (shows o opens times (good o opens refl (3 * times))).devices
 
 -- ---- from a station on
 
--- a machine made from a station stands in the run of its script
-pub stands-late : {B : Type 0} (device_of : B → device.Device) (old new : List B) (no_devices : old ≡ []) (same : map device_of new ≡ map device_of old)
-    (image : List Placed) (start : HopConstant) (banks count : ℕ) (s : Snapshot) (script : List Event) (m : View)
-    → ((o : Trial) (first : ℕ) → AllBeginFrom first o.script → (n : ℕ) → n ≤ first → (m : View) (ds : List device.Device) → m.end ≡ None → m.steps ≡ n
-    → StandsFrom o (run_of m.mode (fault_free o) n) 0 m ds → Stands o n m ds)
-    → IsStation (program_of image start banks) count s → AllBeginFrom s.steps script → (pace : Pace) → IsFresh Guarded pace count s.steps m
-    → ((o : Trial) (v : Voted) → o.script ≡ script → o.opening.unplugs ≡ [] → o.opening.banks ≡ s.banks → Means s v → v.devices ≡ map device_of old
-    → StandsFrom o v 0 m (map device_of new))
-    → Stands (trial_under (program_of image start banks) script) s.steps m []
-stands-late device_of old new no_devices same image start banks count s script m law h later pace fresh made =
-    let p = program_of image start banks in
-    let o = trial_under p script in
-    let none = ap (map device_of) no_devices in
-    let there = made o (fault_free_at p s.steps) refl refl (sym h.banks) h.means (h.devices ∙ sym none) in
-    law o s.steps later s.steps (le_refl s.steps) m [] fresh.end fresh.steps_are
-    (subst (λ (k : Mode). StandsFrom o (run_of k (fault_free o) s.steps) 0 m []) (sym fresh.mode_is)
-    (subst (λ (ds : List device.Device). StandsFrom o (fault_free_at p s.steps) 0 m ds) (same ∙ none) there))
+module _ (p : Opening) (count : ℕ) (s : Snapshot) (script : List Event) where
+  -- a machine made from a station, over the devices of the plain run, stands in the run of its script
+  pub stands-late : (m : View) (old new : List device.Device) (unplugs : List Unplug)
+      → ((o : Trial) (first : ℕ) → AllBeginFrom first o.script → (n : ℕ) → n ≤ first → (m : View) (ds : List device.Device) → m.end ≡ None → m.steps ≡ n
+      → StandsFrom o (run_of m.mode (fault_free o) n) 0 m ds → Stands o n m ds)
+      → ((p : Opening) (times : ℕ) → IsOpening p → (fault_free_at p (3 * times)).devices ≡ (run p times).devices)
+      → IsStation p count s → AllBeginFrom s.steps script → (pace : Pace) → IsFresh Guarded pace count s.steps m
+      → ((o : Trial) (v : Voted) → o.script ≡ script → o.opening.unplugs ≡ unplugs → o.opening.banks ≡ s.banks → Means s v → v.devices ≡ old
+      → StandsFrom o v 0 m new)
+      → p.unplugs ≡ unplugs → old ≡ (run p (s.steps / 3)).devices → Stands (trial_under p script) s.steps m new
+  stands-late m old new unplugs law plain h later pace fresh made lines there =
+      let o = trial_under p script in
+      let times = h.whole.times in
+      let whole : 3 * (s.steps / 3) ≡ s.steps = omega (arith, times) in
+      let devices : (fault_free_at p s.steps).devices ≡ old =
+      ap (λ (n : ℕ). (fault_free_at p n).devices) (sym whole) ∙ plain p (s.steps / 3) h.opening ∙ sym there in
+      let begins = made o (fault_free_at p s.steps) refl lines (sym h.banks) h.means devices in
+      law o s.steps later s.steps (le_refl s.steps) m new fresh.end fresh.steps_are
+      (subst (λ (k : Mode). StandsFrom o (run_of k (fault_free o) s.steps) 0 m new) (sym fresh.mode_is) begins)
 
--- and after the rest of the times it has run
-pub has_run-late : (p : Opening) (count : ℕ) (s : Snapshot) (script : List Event) (before after : View) → IsStation p count s → (pace : Pace)
-    → IsFresh Guarded pace count s.steps before → Keeps before after → NoneFailed after.end
-    → Stands (trial_under p script) (s.steps + 3 * (count - s.steps / 3)) after []
-    → HasRunGuarded (trial_under p script) count after []
-has_run-late p count s script before after h pace fresh keeps unfailed stands =
-    let o = trial_under p script in
-    let within = h.within in
-    let times = h.whole.times in
-    let all : s.steps + 3 * (count - s.steps / 3) ≡ 3 * count = omega (arith, within, times) in
-    let whole : Stands o (3 * count) after [] = subst (λ (n : ℕ). Stands o n after []) all stands in
-    record {
-      run = record {
-        opening = h.opening;
-        banks = whole.shows.banks;
-        script = whole.shows.script;
-        mode_is = keeps.mode ∙ fresh.mode_is;
-        left = [];
+  -- the times that are left end with the last
+  pub all-left : IsStation p count s → s.steps + 3 * (count - s.steps / 3) ≡ 3 * count
+  all-left h = let within = h.within in let times = h.whole.times in omega (arith, within, times)
+
+  -- and after them it has run
+  pub has_run-late : (before after : View) (left : List device.Device) → IsStation p count s → (pace : Pace) → IsFresh Guarded pace count s.steps before → Keeps before after
+      → NoneFailed after.end → AreDistinct left → Stands (trial_under p script) (s.steps + 3 * (count - s.steps / 3)) after left
+      → HasRunGuarded (trial_under p script) count after left
+  has_run-late before after left h pace fresh keeps unfailed distinct stands =
+      let o = trial_under p script in
+      let whole : Stands o (3 * count) after left = subst (λ (n : ℕ). Stands o n after left) (all-left h) stands in
+      record {
+        run = record {
+          opening = h.opening;
+          banks = whole.shows.banks;
+          script = whole.shows.script;
+          mode_is = keeps.mode ∙ fresh.mode_is;
+          left = left;
+          stands = whole;
+          unfailed = unfailed;
+        };
         stands = whole;
-        unfailed = unfailed;
-      };
-      stands = whole;
-      distinct = tt;
-      limit = keeps.limit ∙ fresh.limit_is;
-    }
+        distinct = distinct;
+        limit = keeps.limit ∙ fresh.limit_is;
+      }
+
+-- ---- a station for a script
+
+-- a script begins at no earlier step
+pub begins-later : (least step : ℕ) (script : List Event) → least ≤ step → AllBeginFrom step script → AllBeginFrom least script
+begins-later least step script less later = All-weaker (BeginsFrom step) (BeginsFrom least) (λ e from. omega (arith, less, from)) script later
+
+before-script : (found : Option Snapshot) (step : ℕ) (script : List Event) → AllBeginFrom step script → IsSomeAnd found (λ s. s.steps ≤ step)
+    → IsSomeAnd found (λ s. AllBeginFrom s.steps script)
+before-script None step script later h = h
+before-script (Some s) step script later h = begins-later s.steps step script h later
+
+-- the station that is found lies before it
+pub found-before : (found : Option ℕ) (stations : List Snapshot) (step : ℕ) (script : List Event) → AllBeginFrom step script
+    → IfSome found (λ at. IsSomeAnd (slice_get stations at) (λ s. s.steps ≤ step)) → IfSome found (λ at. IsSomeAnd (slice_get stations at) (λ s. AllBeginFrom s.steps script))
+found-before None stations step script later h = tt
+found-before (Some at) stations step script later h = before-script (slice_get stations at) step script later h

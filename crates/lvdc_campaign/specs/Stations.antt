@@ -1,6 +1,7 @@
 -- Stations of the fault-free run of a program, from which the runs of its scripts may go on.
-use Rattle.std.specs.Prelude.{◌≡◌, ℕ, ◌*◌, ◌≤◌, []}
+use Rattle.std.specs.Prelude.{◌≡◌, ℕ, ◌*◌, ◌%◌, ◌≤◌, List, []}
 use Rattle.std.specs.declared.option.Option.TheVariants.{None}
+use Rattle.lvdc_port.specs.Device.{Device}
 use Rattle.lvdc_plain.specs.Run.{Opening}
 use Rattle.lvdc_model.specs.Voted.{Voted}
 use Rattle.lvdc_laws_voted.specs.Ends.{IsOpening}
@@ -16,19 +17,23 @@ use Rattle.lvdc_campaign.specs.Campaign.{trial_under}
 abbrev pub fault_free_at : Opening → ℕ → Voted
 fault_free_at program steps = run_of Guarded (trial_under program []) steps
 
--- the machine stands after so many times of the fault-free run, without devices and without an end, and may make so many times in all
-pub record IsUnderWay (program : Opening) (count times : ℕ) (m : View) : Type 0 where
+-- the machine stands after whole times of the fault-free run of a program, over these devices and without an end
+pub record IsUnderWay (program : Opening) (m : View) (devices : List Device) : Type 0 where
   pub opening : IsOpening program
   pub mode : m.mode ≡ Guarded
-  pub limit : m.limit ≡ count
   pub end : m.end ≡ None
-  pub stands : Stands (trial_under program []) (3 * times) m []
+  pub times : m.steps % 3 ≡ 0
+  pub stands : Stands (trial_under program []) m.steps m devices
 
--- a whole snapshot of the fault-free run, of a step of so many times, in a state without devices
+-- it does so of some program
+pub record IsFaultFree (m : View) (devices : List Device) : Type 0 where
+  pub program : Opening
+  pub under_way : IsUnderWay program m devices
+
+-- a whole snapshot of the fault-free run, of a step of so many times
 pub record IsStation (program : Opening) (count : ℕ) (s : Snapshot) : Type 0 where
   pub opening : IsOpening program
   pub whole : IsWhole s
   pub within : s.steps ≤ 3 * count
   pub banks : s.banks ≡ program.banks
   pub means : Means s (fault_free_at program s.steps)
-  pub devices : (fault_free_at program s.steps).devices ≡ []

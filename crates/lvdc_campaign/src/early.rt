@@ -23,7 +23,7 @@ fn first_of(event: &Event) -> u64
 }
 
 /// The step where the first event of a script begins, or the greatest number where there is none.
-pub(crate) fn first_step(script: &Script) -> u64
+fn first_step(script: &Script) -> u64
     ensures { AllBeginFrom result script.now }
 {
     let mut first = u64::MAX;
@@ -37,7 +37,7 @@ pub(crate) fn first_step(script: &Script) -> u64
 }
 
 /// The position of the last station at a step or before.
-pub(crate) fn last_before(stations: &[Snapshot], step: u64) -> Option<usize>
+fn last_before(stations: &[Snapshot], step: u64) -> Option<usize>
     ensures { IfSome result (λ at. IsSomeAnd (slice_get stations.now at) (λ station. station.steps ≤ step)) }
 {
     let mut last = None;
@@ -47,4 +47,11 @@ pub(crate) fn last_before(stations: &[Snapshot], step: u64) -> Option<usize>
         }
     }
     last
+}
+
+/// The position of a station at which a script may begin, since none of its events begins before it: the last such one.
+pub fn station_for(stations: &[Snapshot], script: &Script) -> Option<usize>
+    ensures { IfSome result (λ at. IsSomeAnd (slice_get stations.now at) (λ station. AllBeginFrom station.steps script.now)) }
+{
+    last_before(stations, first_step(script))
 }

@@ -2,7 +2,7 @@ ghost use Rattle.std.specs.Prelude.{◌≡◌, ℕ, ◌*◌, List, [], true};
 ghost use Rattle.lvdc_fault.specs.declared.verdict.Verdict.TheVariants.{Admissible};
 ghost use Rattle.lvdc_laws_voted.specs.Ends.{IsOpening};
 ghost use Rattle.lvdc_port.specs.Device.{Device};
-ghost use Rattle.lvdc_plain.specs.Run.{Opening};
+ghost use Rattle.lvdc_plain.specs.Run.{Opening, run};
 ghost use Rattle.lvdc_plain.specs.Stands.{Stands};
 ghost use Rattle.lvdc_plain.specs.View as plain_view;
 ghost use Rattle.lvdc_laws_guarded.specs.Guarded.{UnhurtBy};
@@ -15,6 +15,7 @@ ghost use Rattle.lvdc_model.specs.Runs.{through, guarded};
 ghost use Rattle.lvdc_model.specs.Trial.{Trial};
 ghost use Rattle.lvdc_campaign.specs.Campaign.{is_same};
 ghost use Rattle.lvdc_campaign.specs.Ran.{HasRun, HasRunPlainly, NonePlainlyFailed};
+ghost use Rattle.lvdc_campaign.specs.Stations.{fault_free_at};
 
 /// A law, which does nothing when it runs: under a script whose steps are all admissible the run through every fault comes to
 /// what the plain run comes to.
@@ -43,6 +44,15 @@ pub fn unhurt_through()
     lvdc_laws_voted::no_faults_no_verdict();
     lvdc_laws_voted::guarded_times();
     lvdc_laws_voted::guarded_ends();
+}
+
+/// A law: after whole times the fault-free run has the devices of the plain run.
+pub(crate) fn stations_have_plain_devices()
+    ensures { (program : Opening) (times : ℕ) → IsOpening program → (fault_free_at program (3 * times)).devices ≡ (run program times).devices }
+{
+    lvdc_laws_voted::no_faults_no_verdict();
+    lvdc_laws_voted::judges_alone();
+    lvdc_laws_voted::guarded_times();
 }
 
 /// A law: a plain machine that stands after so many times has run plainly, unless a device failed.

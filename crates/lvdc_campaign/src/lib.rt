@@ -3,6 +3,7 @@
 #![tactic(auto)]
 
 mod early;
+mod late;
 mod laws;
 mod program;
 mod row;
@@ -11,6 +12,7 @@ mod runs;
 mod same;
 mod stations;
 
+pub use early::station_for;
 pub use laws::{
     admissible_is_same, plain_machine_has_run, through_is_guarded, through_is_shown, unhurt_through,
 };
@@ -18,6 +20,7 @@ pub use row::Row;
 pub use rows::campaign;
 pub use runs::{is_admissible, verdict_of};
 pub use same::{are_same_registers, is_same_end, is_same_word};
+pub use stations::{are_worth_stations, machine_at, stations_of};
 
 /// The most instruction times of a campaign (this project's profile).
 pub const MOST_TIMES: u64 = 10_000;

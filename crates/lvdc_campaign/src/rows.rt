@@ -9,11 +9,11 @@ ghost use Rattle.lvdc_campaign.specs.Ran.{HasRunPlainly};
 ghost use Rattle.lvdc_campaign.specs.Stations.{IsStation};
 
 use crate::Row;
+use crate::late::{run_late, stations_for};
 use crate::laws::admissible_is_same;
 use crate::program::Program;
 use crate::runs::{is_admissible, run_plain, verdict_of};
 use crate::same::is_same;
-use crate::stations::{run_late, stations_of};
 use lvdc_fault::Named;
 use lvdc_machine::{Orders, Snapshot};
 use lvdc_map::{Banks, Hop, Placed};
@@ -88,7 +88,7 @@ pub fn campaign<'a>(
         count,
     };
     let plain = run_plain(alloc, &program)?;
-    let stations = stations_of(alloc, &program, scripts.len())?;
+    let stations = stations_for(alloc, &program, scripts.len())?;
     let mut rows = Vec::with_capacity(alloc, scripts.len())?;
     for named in scripts {
         let row = make_row(alloc, &program, &plain, &stations, named)?;

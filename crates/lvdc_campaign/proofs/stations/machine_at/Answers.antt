@@ -8,14 +8,13 @@ use Rattle.lvdc_campaign.proofs.Stationed.{stands-late}
 use Rattle.lvdc_campaign.proofs.stations.machine_at.Goals as goal
 
 pub returns-clause-stands : goal.returns-clause-stands
-returns-clause-stands c =
-    let program = c.args.program.now in
+returns-clause-stands g c = λ p at lines there.
     let machine = c.in_ok-machine.machine in
     let copy = c.in_ok-snapshot.ensures in
     let made = c.in_ok-machine.ensures in
-    stands-late _ c.new-devices.result.items c.from_snapshot.new.devices.items c.new-devices.ensures.items made.devices
-    program.image.now program.start program.banks program.count c.args.station.now c.args.script machine
-    c.machines_may_begin_late.ensures.stands c.requires.station c.requires.later ByStep
-    (subst (λ (s : Snapshot). IsFresh Guarded ByStep program.count s.steps machine) copy made.fresh)
-    (λ o v script lines banks means devices. made.stands o v script (lines ∙ sym c.new.ensures.items) (banks ∙ ap (λ (s : Snapshot). s.banks) (sym copy))
+    stands-late p c.args.count c.args.station.now c.args.script machine _ _ c.args.unplugs.items
+    c.machines_may_begin_late.ensures.stands c.stations_have_plain_devices.ensures at c.requires.later ByStep
+    (subst (λ (s : Snapshot). IsFresh Guarded ByStep c.args.count s.steps machine) copy made.fresh)
+    (λ o v script lines banks means devices. made.stands o v script lines (banks ∙ ap (λ (s : Snapshot). s.banks) (sym copy))
     (subst (λ (s : Snapshot). Means s v) (sym copy) means) devices)
+    lines there

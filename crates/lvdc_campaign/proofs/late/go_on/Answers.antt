@@ -1,6 +1,6 @@
 use Rattle.std.proofs.Common.{◌*◌}
 use Rattle.lvdc_campaign.proofs.Stationed.{stands-empty}
-use Rattle.lvdc_campaign.proofs.stations.go_on.Goals as goal
+use Rattle.lvdc_campaign.proofs.late.go_on.Goals as goal
 
 pub returns-clause-stands : goal.returns-clause-stands
 returns-clause-stands c = λ o first n h.
