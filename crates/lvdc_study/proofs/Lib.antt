@@ -1,5 +1,6 @@
 mod Rows
 mod Agree
+mod Early
 mod Least
 mod Judged
 mod Making

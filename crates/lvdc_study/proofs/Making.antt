@@ -1,5 +1,5 @@
 -- Runs over devices that have the words of the TAPE lines.
-use Rattle.std.proofs.Common.{◌≡◌, ℕ, ◌+◌, ◌*◌, ◌==◌, true, List, [], ◌∷◌, map, refl, sym, ap, subst, ◌∙◌, zero-add}
+use Rattle.std.proofs.Common.{◌≡◌, ℕ, ◌+◌, ◌-◌, ◌*◌, ◌/◌, ◌==◌, true, List, [], ◌∷◌, map, refl, sym, subst, ◌∙◌, zero-add}
 use Rattle.std.specs.Bool.{if◌then◌else◌}
 use Rattle.std.specs.declared.option.Option.{Option}
 use Rattle.std.specs.declared.option.Option.TheVariants.{None, Some}
@@ -10,7 +10,7 @@ use Rattle.lvdc_port.specs.Supplies.{ports_of, supplied}
 use Rattle.lvdc_port.proofs.Lists.{rose-has, count-same}
 use Rattle.lvdc_plain.specs.Lists.{Since}
 use Rattle.lvdc_plain.specs.Calls as plain_calls
-use Rattle.lvdc_plain.specs.Run.{Opening}
+use Rattle.lvdc_plain.specs.Run.{Opening, run}
 use Rattle.lvdc_plain.specs.Stands as plain
 use Rattle.lvdc_plain.specs.View as plain_view
 use Rattle.lvdc_plain.specs.declared.records.PlainEnd.{PlainEnd}
@@ -21,13 +21,18 @@ use Rattle.lvdc_model.specs.declared.outcome.Outcome.{Outcome}
 use Rattle.lvdc_model.specs.declared.outcome.Outcome.TheVariants.{Done, Stopped, Inadmissible, Device}
 use Rattle.lvdc_model.specs.Trial.{Trial}
 use Rattle.lvdc_laws_voted.specs.Ends.{IsOpening}
+use Rattle.lvdc_machine.specs.Calls.{IsFresh}
 use Rattle.lvdc_machine.specs.Causes.{HasCause}
+use Rattle.lvdc_machine.specs.Room.{pace_of}
 use Rattle.lvdc_machine.specs.Stands.{Stands, EndsAs}
 use Rattle.lvdc_machine.specs.View.{View, answer_of_end}
 use Rattle.lvdc_machine.specs.declared.mode.Mode.{Mode}
+use Rattle.lvdc_machine.specs.declared.snapshot.Snapshot.{Snapshot}
 use Rattle.lvdc_machine.specs.declared.mode.Mode.TheVariants.{Guarded}
 use Rattle.lvdc_campaign.specs.Campaign.{trial_under}
 use Rattle.lvdc_campaign.specs.Ran.{HasRunGuarded, HasRunPlainly, NoneFailed, NonePlainlyFailed}
+use Rattle.lvdc_campaign.specs.Stations.{IsUnderWay, IsStation}
+use Rattle.lvdc_campaign.proofs.Stationed.{under_way-start, all-left}
 use Rattle.lvdc_study.specs.Failures.{HasFailed, EndsIn, EndsPlainlyIn, Exchanges, ExchangesPlainly}
 use Rattle.lvdc_study.specs.declared.fault.Unstudied.{Unstudied}
 use Rattle.lvdc_study.specs.declared.fault.Unstudied.TheVariants.{NoMemory, Device as DeviceFailed}
@@ -44,7 +49,15 @@ plain-exchange o times m now port (Some (plain_ends.Stopped step stop)) e is = a
 plain-exchange o times m now port (Some (plain_ends.Device step failed)) e is =
     subst (λ (q : ℕ). (step : ℕ) × ExchangesPlainly o times step q) is (step, record { machine = m; left = now; exchange = e })
 
-pub voted-exchange : (o : Trial) (times : ℕ) (mode : Mode) (steps port : ℕ) (end : Option Outcome) → EndsAs end o (3 * times) mode steps
+-- a plain machine over whose devices none has failed leaves them as the run does
+plain-left : (o : Opening) (times : ℕ) (m : plain_view.View) (now : List device.Device) (end : Option PlainEnd) → NonePlainlyFailed end → plain.EndsAs o times m now end
+    → now ≡ (run o times).devices
+plain-left o times m now None u e = e.left
+plain-left o times m now (Some plain_ends.Done) u e = absurd e
+plain-left o times m now (Some (plain_ends.Stopped step stop)) u e = e.left
+plain-left o times m now (Some (plain_ends.Device step port)) u e = absurd u
+
+voted-exchange : (o : Trial) (times : ℕ) (mode : Mode) (steps port : ℕ) (end : Option Outcome) → EndsAs end o (3 * times) mode steps
     → EndsIn end port → (step : ℕ) × Exchanges o times step port
 voted-exchange o times mode steps port None e is = absurd is
 voted-exchange o times mode steps port (Some Done) e is = absurd is
@@ -52,6 +65,14 @@ voted-exchange o times mode steps port (Some (Stopped step stop)) e is = absurd 
 voted-exchange o times mode steps port (Some (Inadmissible verdict)) e is = absurd is
 voted-exchange o times mode steps port (Some (Device step failed)) e is =
     subst (λ (q : ℕ). (step : ℕ) × Exchanges o times step q) is (step, record { mode = mode; exchange = e })
+
+-- the same of a machine that went on from a station
+pub late-exchange : (p : Opening) (count : ℕ) (s : Snapshot) (script : List Event) (m : View) (now : List device.Device) (port : ℕ) → IsStation p count s
+    → Stands (trial_under p script) (s.steps + 3 * (count - s.steps / 3)) m now → EndsIn m.end port → (step : ℕ) × Exchanges (trial_under p script) count step port
+late-exchange p count s script m now port at stands is =
+    let o = trial_under p script in
+    let all : Stands o (3 * count) m now = subst (λ (n : ℕ). Stands o n m now) (all-left p count s script at) stands in
+    voted-exchange o count m.mode m.steps port m.end all.ends is
 
 -- ---- what a machine was made of is the opening of the program over the devices
 
@@ -85,6 +106,21 @@ module _ (p : Program) (devices ready : List device.Device) (unplugs : List Unpl
       → plain.Stands (record { image = p.image.now; banks = p.banks; start = p.start; unplugs = unplugs; devices = ready }) (0 + p.count) m now
       → EndsPlainlyIn m.end port → (step : ℕ) × ExchangesPlainly (opening_over p devices) p.count step port
   plainly-asked m now port stands = plain-exchange (opening_over p devices) p.count m now port m.end (plainly-stands m now stands).ends
+
+  pub plainly-brought : (m : plain_view.View) (now : List device.Device)
+      → plain.Stands (record { image = p.image.now; banks = p.banks; start = p.start; unplugs = unplugs; devices = ready }) (0 + p.count) m now
+      → NonePlainlyFailed m.end → now ≡ (run (opening_over p devices) p.count).devices
+  plainly-brought m now stands unfailed = plain-left (opening_over p devices) p.count m now m.end unfailed (plainly-stands m now stands).ends
+
+  -- the machine of the fault-free run
+  pub starts-free : (script : List Event) (m : View) (now : List device.Device) → script ≡ []
+      → IsOpening (record { image = p.image.now; banks = p.banks; start = p.start; unplugs = unplugs; devices = ready })
+      → IsFresh Guarded (pace_of Guarded) p.count 0 m
+      → Stands (trial_under (record { image = p.image.now; banks = p.banks; start = p.start; unplugs = unplugs; devices = ready }) script) 0 m now
+      → IsUnderWay (opening_over p devices) m now
+  starts-free script m now none opens fresh stands =
+      under_way-start (opening_over p devices) (pace_of Guarded) p.count m now (subst IsOpening opening-same opens) fresh
+      (subst (λ (o : Trial). Stands o 0 m now) (λ i. trial_under (opening-same i) (none i)) stands)
 
   pub has-judged : (script : List Event) (m : View) (now : List device.Device)
       → IsOpening (record { image = p.image.now; banks = p.banks; start = p.start; unplugs = unplugs; devices = ready }) → m.mode ≡ Guarded
@@ -125,6 +161,15 @@ none-rose device_of faults ready new (Some Done) u c = c
 none-rose device_of faults ready new (Some (Stopped step stop)) u c = c
 none-rose device_of faults ready new (Some (Inadmissible verdict)) u c = c
 none-rose device_of faults ready new (Some (Device step port)) u c = absurd u
+
+-- the same of the plain machine
+none-plainly-rose : {B : Type 0} (device_of : B → device.Device) (faults : B → ℕ) (ready new : List B) (end : Option PlainEnd) → NonePlainlyFailed end
+    → plain_calls.HasCause device_of faults (plain_view.answer_of_end end) ready new → (port : ℕ) → has_port device_of port new ≡ true
+    → count_at device_of faults port new ≡ count_at device_of faults port ready
+none-plainly-rose device_of faults ready new None u c = c
+none-plainly-rose device_of faults ready new (Some plain_ends.Done) u c = c
+none-plainly-rose device_of faults ready new (Some (plain_ends.Stopped step stop)) u c = c
+none-plainly-rose device_of faults ready new (Some (plain_ends.Device step port)) u c = absurd u
 
 -- lists with the same ports have each of them
 has-ports : {B : Type 0} (device_of : B → device.Device) (xs ys : List B) → ports_of (map device_of xs) ≡ ports_of (map device_of ys) → (port : ℕ)
@@ -169,7 +214,22 @@ module _ {B : Type 0} (device_of : B → device.Device) (faults : B → ℕ) (ol
     counts = λ port has. none-rose device_of faults ready new end unfailed cause port has ∙ count-same device_of faults port ready old ports counts;
   }
 
+  pub since-plain : (end : Option PlainEnd) → NonePlainlyFailed end → plain_calls.HasCause device_of faults (plain_view.answer_of_end end) ready new
+      → ((port : ℕ) → has_port device_of port new ≡ true → has_port device_of port ready ≡ true) → Since device_of faults old new
+  since-plain end unfailed cause left = record {
+    left = λ port has. sym (has-ports device_of ready old ports port) ∙ left port has;
+    counts = λ port has. none-plainly-rose device_of faults ready new end unfailed cause port has ∙ count-same device_of faults port ready old ports counts;
+  }
+
 -- ---- the machine goes on
+
+-- what is so since then, and was so since an earlier time
+pub since-on : {B : Type 0} {device_of : B → device.Device} {count : B → ℕ} (old mid new : List B) → Since device_of count old mid → Since device_of count mid new
+    → Since device_of count old new
+since-on old mid new before since = record {
+  left = λ port has. before.left port (since.left port has);
+  counts = λ port has. since.counts port has ∙ before.counts port (since.left port has);
+}
 
 -- what failed then has failed since
 pub failed-since : {B : Type 0} (device_of : B → device.Device) (faults : B → ℕ) (old mid new : List B) → Since device_of faults old mid

@@ -1,16 +1,19 @@
 //! Who runs a program over devices of its own.
 
-ghost use Rattle.std.specs.Prelude.{◌≡◌, Bool, false, List, IfOk, IfErr};
+ghost use Rattle.std.specs.Prelude.{◌≡◌, Bool, false, All, List, IfOk, IfErr};
 ghost use Rattle.lvdc_port.specs.Device.{Device};
 ghost use Rattle.lvdc_campaign.specs.Campaign.{trial_under, IsScript};
 ghost use Rattle.lvdc_campaign.specs.Ran.{HasRunPlainly};
+ghost use Rattle.lvdc_campaign.specs.Stations.{IsStation};
 ghost use Rattle.lvdc_study.specs.Failures.{FailsUnder, FailsPlainly};
 ghost use Rattle.lvdc_study.specs.Study.{opening_over, IsProgram, row_of};
 ghost use Rattle.lvdc_study.specs.declared.fault.Unstudied.TheVariants.{NoMemory as WantsMemory};
 
 use crate::{Program, Row, Unstudied};
 use lvdc_fault::Named;
+use lvdc_machine::Snapshot;
 use lvdc_plain::Plain;
+use lvdc_word::NoMemory;
 use std::alloc::Global;
 
 /// A bench on which programs are run: each run has devices of its own there, in their first states.
@@ -30,16 +33,23 @@ pub trait Bench {
         // Where none may fail, only memory is wanting.
         ensures unfailed { IfErr result (λ e. may_fail self.now ≡ false → e ≡ WantsMemory) };
 
-    /// The row of a script, beside the plain run of the same program.
+    /// Stations of the fault-free run of a program, from which the runs of its scripts may go on.
+    fn make_stations(&self, alloc: Global, program: &Program<'_>) -> Result<Vec<Snapshot>, NoMemory>
+        requires { IsProgram program.now }
+        ensures { IfOk result (λ stations. All (IsStation (opening_over program.now (devices self.now)) program.now.count) stations.items) };
+
+    /// The row of a script, beside the plain run of the same program. Its run may go on from a station of that program.
     fn study_script(
         &self,
         alloc: Global,
         program: &Program<'_>,
         plain: &Plain,
+        stations: &[Snapshot],
         named: Named,
     ) -> Result<Row, Unstudied>
         requires program { IsProgram program.now }
         requires plain { HasRunPlainly (opening_over program.now (devices self.now)) program.now.count plain.now }
+        requires stations { All (IsStation (opening_over program.now (devices self.now)) program.now.count) stations.now }
         requires script { IsScript named }
         ensures row { IfOk result (λ row. row ≡ row_of (opening_over program.now (devices self.now)) program.now.count named) }
         ensures failed { IfErr result (λ e. FailsUnder (trial_under (opening_over program.now (devices self.now)) named.script) program.now.count e) }

@@ -1,17 +1,21 @@
-ghost use Rattle.std.specs.Prelude.{◌≡◌, ℕ, ◌*◌, is_none, All, List};
+ghost use Rattle.std.specs.Prelude.{◌≡◌, ℕ, ◌*◌, ◌≤◌, is_none, All, List};
 ghost use Rattle.lvdc_plain.specs.Run.{Opening};
+ghost use Rattle.lvdc_fault.specs.declared.event.Event.{Event};
 ghost use Rattle.lvdc_fault.specs.declared.named.Named.{Named};
 ghost use Rattle.lvdc_fault.specs.declared.verdict.Verdict.TheVariants.{Admissible};
+ghost use Rattle.lvdc_laws_early.specs.Early.{AllBeginFrom};
 ghost use Rattle.lvdc_laws_voted.specs.Ends.{IsOpening};
 ghost use Rattle.lvdc_machine.specs.View.{View};
 ghost use Rattle.lvdc_machine.specs.declared.mode.Mode.TheVariants.{Guarded};
 ghost use Rattle.lvdc_model.specs.Judging.{first_bad};
 ghost use Rattle.lvdc_model.specs.Runs.{through};
 ghost use Rattle.lvdc_model.specs.Trial.{Trial};
-ghost use Rattle.lvdc_campaign.specs.Campaign.{is_same};
+ghost use Rattle.lvdc_campaign.specs.Campaign.{is_same, trial_under};
 ghost use Rattle.lvdc_campaign.specs.Ran.{HasRun};
+ghost use Rattle.lvdc_study.specs.Failures.{FailsPlainly, FailsUnder};
 ghost use Rattle.lvdc_study.specs.Outcomes.{first_difference};
 ghost use Rattle.lvdc_study.specs.Study.{rows_of, IsSame, KeepsLaws};
+ghost use Rattle.lvdc_study.specs.declared.fault.Unstudied.{Unstudied};
 
 /// A law, which does nothing when it runs: under a script whose steps are all admissible the run through every fault comes to
 /// what the plain run comes to, port log and devices included.
@@ -43,4 +47,16 @@ pub(crate) fn judged_goes_through()
 {
     lvdc_campaign::through_is_guarded();
     lvdc_laws_voted::judges_alone();
+}
+
+/// A law: where the plain run fails before a script begins, a run under the script fails there too.
+pub(crate) fn fails_early()
+    ensures { (opening : Opening) (script : List Event) (times count : ℕ) → IsOpening opening → AllBeginFrom (3 * times) script → times ≤ count
+        → (e : Unstudied) → FailsPlainly opening times e → FailsUnder (trial_under opening script) count e }
+{
+    lvdc_laws_early::steps_begin_admissible();
+    lvdc_laws_voted::guarded_run();
+    lvdc_laws_voted::step_begun();
+    lvdc_plain::stopped_run_stays();
+    lvdc_campaign::through_is_guarded();
 }

@@ -4,6 +4,7 @@ ghost use Rattle.std.specs.Prelude.{◌≡◌, ◌≤◌, ℕ, true, length, map
 ghost use Rattle.lvdc_fault.specs.Events.{IsEvent};
 ghost use Rattle.lvdc_port.specs.Devices.{has_port, AreDistinct};
 ghost use Rattle.lvdc_plain.specs.Lists.{Since};
+ghost use Rattle.lvdc_plain.specs.Run.{run};
 ghost use Rattle.lvdc_machine.specs.Onward.{HasRefused};
 ghost use Rattle.lvdc_machine.specs.declared.mode.Mode.TheVariants.{Through};
 ghost use Rattle.lvdc_model.specs.Trial.{Trial};
@@ -23,7 +24,7 @@ use lvdc_word::NoMemory;
 use std::alloc::Global;
 
 /// The port of the device whose failure is the end, if it is one.
-fn failed_port(machine: &Machine) -> Option<u8>
+pub(crate) fn failed_port(machine: &Machine) -> Option<u8>
     ensures { MatchOption result (NoneFailed machine.now.end) (λ port. EndsIn machine.now.end port) }
 {
     match machine.ended() {
@@ -42,7 +43,7 @@ fn plainly_failed_port(plain: &Plain) -> Option<u8>
     }
 }
 
-/// The plain machine after the times of a program, over devices in their first states.
+/// The plain machine after the times of a program, over devices in their first states, which it brings to where the plain run has them.
 pub fn run_plain(
     alloc: Global,
     program: &Program<'_>,
@@ -51,6 +52,9 @@ pub fn run_plain(
     requires program { IsProgram program.now }
     requires distinct { AreDistinct (map device_of devices.old.items) }
     ensures run { IfOk result (λ plain. HasRunPlainly (opening_over program.now (map device_of devices.old.items)) program.now.count plain) }
+    ensures brought { OnOk result (map device_of devices.new.items ≡ (run (opening_over program.now (map device_of devices.old.items)) program.now.count).devices) }
+    ensures distinct { OnOk result (AreDistinct (map device_of devices.new.items)) }
+    ensures since { OnOk result (Since device_of faults devices.old.items devices.new.items) }
     ensures failed { IfErr result (λ e. HasFailed device_of faults e devices.old.items devices.new.items) }
     ensures fails { IfErr result (λ e. FailsPlainly (opening_over program.now (map device_of devices.old.items)) program.now.count e) }
 {

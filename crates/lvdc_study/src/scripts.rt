@@ -2,15 +2,36 @@
 
 ghost use Rattle.std.specs.Prelude.{◌≡◌, false, All, IfOk, IfErr};
 ghost use Rattle.lvdc_campaign.specs.Campaign.{IsScript};
+ghost use Rattle.lvdc_campaign.specs.Stations.{IsStation};
 ghost use Rattle.lvdc_study.specs.Failures.{FailsInRuns};
 ghost use Rattle.lvdc_study.specs.Study.{opening_over, rows_of, IsProgram};
 ghost use Rattle.lvdc_study.specs.declared.fault.Unstudied.TheVariants.{NoMemory as WantsMemory};
 
 use crate::{Bench, Program, Row, Unstudied};
+use lvdc_campaign::are_worth_stations;
 use lvdc_fault::Named;
+use lvdc_machine::Snapshot;
+use lvdc_word::NoMemory;
 use std::alloc::Global;
 
-/// Runs a program under each of these scripts, over the devices of a bench. The plain run is made once for all of them.
+/// The stations of a program for so many scripts; none where they aren't worth a run.
+fn stations_for<B: Bench>(
+    alloc: Global,
+    program: &Program<'_>,
+    scripts: usize,
+    bench: &B,
+) -> Result<Vec<Snapshot>, NoMemory>
+    requires program { IsProgram program.now }
+    ensures { IfOk result (λ stations. All (IsStation (opening_over program.now (B.devices bench.now)) program.now.count) stations.items) }
+{
+    if !are_worth_stations(scripts, program.count) {
+        return Ok(Vec::new(alloc));
+    }
+    bench.make_stations(alloc, program)
+}
+
+/// Runs a program under each of these scripts, over the devices of a bench. The plain run is made once for all of them, and so are the
+/// stations of the fault-free run, where there are many scripts.
 pub fn study_scripts<B: Bench>(
     alloc: Global,
     program: &Program<'_>,
@@ -31,9 +52,10 @@ pub fn study_scripts<B: Bench>(
         Ok(plain) => plain,
         Err(e) => return Err(e),
     };
+    let stations = stations_for(alloc, program, scripts.len(), bench)?;
     let mut rows = Vec::with_capacity(alloc, scripts.len())?;
     for named in scripts {
-        match bench.study_script(alloc, program, &plain, named) {
+        match bench.study_script(alloc, program, &plain, &stations, named) {
             Ok(row) => rows.push(row)?,
             Err(e) => return Err(e),
         }

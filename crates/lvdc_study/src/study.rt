@@ -1,23 +1,25 @@
 //! The row of a script.
 
-ghost use Rattle.std.specs.Prelude.{◌≡◌, map, true, IfOk, IfErr};
+ghost use Rattle.std.specs.Prelude.{◌≡◌, map, true, All, IfOk, IfErr};
 ghost use Rattle.lvdc_fault.specs.declared.verdict.Verdict.TheVariants as verdicts;
 ghost use Rattle.lvdc_masks.specs.Form.{masks};
 ghost use Rattle.lvdc_port.specs.Devices.{AreDistinct};
 ghost use Rattle.std.specs.declared.option.Option.TheVariants.{None};
 ghost use Rattle.lvdc_campaign.specs.Campaign.{trial_under, IsScript};
 ghost use Rattle.lvdc_campaign.specs.Ran.{HasRunPlainly};
+ghost use Rattle.lvdc_campaign.specs.Stations.{IsStation};
 ghost use Rattle.lvdc_study.specs.Failures.{HasFailed, FailsUnder};
 ghost use Rattle.lvdc_study.specs.Study.{opening_over, IsProgram, first_step, row_with, row_of};
 
 use crate::compare::first_difference;
+use crate::late::run_late;
 use crate::laws::{admissible_comes_to_the_same, judged_goes_through};
-use crate::runs::{go_through, run_script};
+use crate::runs::go_through;
 use crate::{Difference, Program, Row, Unstudied};
 use lvdc_campaign::{is_admissible, through_is_shown, verdict_of};
 use lvdc_fault::{Named, Script, Verdict};
 use lvdc_laws_masking::form_masks;
-use lvdc_machine::Machine;
+use lvdc_machine::{Machine, Snapshot};
 use lvdc_masks::first_unmet;
 use lvdc_model::Repair;
 use lvdc_plain::Plain;
@@ -64,17 +66,19 @@ fn masks(alloc: Global, program: &Program<'_>, script: &Script) -> Result<bool, 
     Ok(unmet.is_none())
 }
 
-/// The row of a script, beside the plain run of the same program, over devices in their first states. The machine that judges a script
-/// that isn't admissible goes on from there, through every fault.
+/// The row of a script, beside the plain run of the same program, over devices in their first states. The machine that judges makes the
+/// times from the last station before the first event; where the script isn't admissible it goes on from there, through every fault.
 pub fn study_script(
     alloc: Global,
     program: &Program<'_>,
     plain: &Plain,
+    stations: &[Snapshot],
     named: Named,
     devices: &mut Vec<Box<dyn PortDevice>>,
 ) -> Result<Row, Unstudied>
     requires program { IsProgram program.now }
     requires plain { HasRunPlainly (opening_over program.now (map device_of devices.old.items)) program.now.count plain.now }
+    requires stations { All (IsStation (opening_over program.now (map device_of devices.old.items)) program.now.count) stations.now }
     requires script { IsScript named }
     requires distinct { AreDistinct (map device_of devices.old.items) }
 
@@ -93,7 +97,7 @@ pub fn study_script(
     through_is_shown();
     let Named { name, script } = named;
     let masks = masks(alloc, program, &script)?;
-    let mut machine = run_script(alloc, program, script, devices)?;
+    let mut machine = run_late(alloc, program, stations, script, devices)?;
     let verdict = verdict_of(&machine);
     if is_admissible(&verdict) {
         return Ok(row_with(name, verdict, None, &machine, masks));

@@ -6,9 +6,10 @@ ghost use Rattle.lvdc_port.specs.declared.device.Kind.TheVariants.{Tape as TapeK
 use crate::told::{bytes, is_told};
 use lvdc_command_study::study_bytes;
 use lvdc_fault::Named;
+use lvdc_machine::Snapshot;
 use lvdc_plain::Plain;
 use lvdc_port::{Failing, PortDevice, Tape};
-use lvdc_study::{Bench, Program, Row, Unstudied, run_plain, study_script};
+use lvdc_study::{Bench, Program, Row, Unstudied, make_stations, run_plain, study_script};
 use lvdc_word::NoMemory;
 use std::alloc::Global;
 use std::process::Abort;
@@ -44,15 +45,25 @@ impl Bench for OneTape {
         run_plain(alloc, program, &mut devices)
     }
 
+    fn make_stations(
+        &self,
+        alloc: Global,
+        program: &Program<'_>,
+    ) -> Result<Vec<Snapshot>, NoMemory> {
+        let mut devices = one_tape(alloc, self.fails)?;
+        make_stations(alloc, program, &mut devices)
+    }
+
     fn study_script(
         &self,
         alloc: Global,
         program: &Program<'_>,
         plain: &Plain,
+        stations: &[Snapshot],
         named: Named,
     ) -> Result<Row, Unstudied> {
         let mut devices = one_tape(alloc, self.fails)?;
-        study_script(alloc, program, plain, named, &mut devices)
+        study_script(alloc, program, plain, stations, named, &mut devices)
     }
 }
 

@@ -10,4 +10,6 @@ mod outcomes;
 #[cfg(test)]
 mod refusals;
 #[cfg(test)]
+mod stations;
+#[cfg(test)]
 mod told;

@@ -1,8 +1,6 @@
 use Rattle.std.proofs.Common.{sym, ap, ◌∙◌}
 use Rattle.std.proofs.lemmas.Bool.{true≢false}
-use Rattle.lvdc_campaign.specs.Campaign.{trial_under}
 use Rattle.lvdc_campaign.proofs.Onward.{may-go-on}
-use Rattle.lvdc_study.specs.Study.{opening_over}
 use Rattle.lvdc_study.specs.declared.row.Row.{Row}
 use Rattle.lvdc_study.proofs.Rowing.{admissible-row, through-row, form-admits}
 use Rattle.lvdc_study.proofs.Making.{failed-since}
@@ -35,7 +33,7 @@ first_difference-difference-requires g c =
 pub returns-in-Err-clause-failed : goal.returns-in-Err-clause-failed
 returns-in-Err-clause-failed g c =
     failed-since (λ b. (goal.PortDevice-dyn g (b.vtable, b.value)).device_of b.value) (λ b. (goal.PortDevice-dyn g (b.vtable, b.value)).faults b.value)
-    c.args.devices.now.items c.run_script.new.devices.items c.go_through.new.devices.items c.in_ok-machine.ensures.since c.go_through.ensures.left c.in-Err.e c.in-Err.ensures.failed
+    c.args.devices.now.items c.run_late.new.devices.items c.go_through.new.devices.items c.in_ok-machine.ensures.since c.go_through.ensures.left c.in-Err.e c.in-Err.ensures.failed
 
 pub returns-in-Err-clause-fails : goal.returns-in-Err-clause-fails
 returns-in-Err-clause-fails g c = c.in-Err.ensures.fails _ _ c.in_ok-machine.ensures.judged

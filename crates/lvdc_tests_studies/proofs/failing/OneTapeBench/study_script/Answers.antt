@@ -1,7 +1,8 @@
-use Rattle.std.proofs.Common.{◌≡◌, List, IfOk, IfErr, sym, subst}
+use Rattle.std.proofs.Common.{◌≡◌, All, List, IfOk, IfErr, sym, subst}
 use Rattle.lvdc_port.specs.Device.{Device}
 use Rattle.lvdc_campaign.specs.Campaign.{trial_under}
 use Rattle.lvdc_campaign.specs.Ran.{HasRunPlainly}
+use Rattle.lvdc_campaign.specs.Stations.{IsStation}
 use Rattle.lvdc_study.specs.Failures.{FailsUnder}
 use Rattle.lvdc_study.specs.Study.{opening_over, row_of}
 use Rattle.lvdc_tests_studies.proofs.failing.OneTapeBench.study_script.Goals as goal
@@ -10,6 +11,11 @@ pub study_script-requires-clause-plain : goal.study_script-requires-clause-plain
 study_script-requires-clause-plain c =
     subst (λ (ds : List Device). HasRunPlainly (opening_over c.args.program.now ds) c.args.program.now.count c.args.plain.now)
     (sym c.in_ok-devices.ensures.one) c.requires.plain
+
+pub study_script-requires-clause-stations : goal.study_script-requires-clause-stations
+study_script-requires-clause-stations c =
+    subst (λ (ds : List Device). All (IsStation (opening_over c.args.program.now ds) c.args.program.now.count) c.args.stations.now)
+    (sym c.in_ok-devices.ensures.one) c.requires.stations
 
 pub returns-clause-row : goal.returns-clause-row
 returns-clause-row c =
