@@ -10,7 +10,7 @@ ghost use Rattle.lvdc_plain.specs.Lists.{AreFit};
 ghost use Rattle.lvdc_plain.specs.Run.{Opening, run};
 ghost use Rattle.lvdc_machine.specs.Calls.{IsFresh};
 ghost use Rattle.lvdc_machine.specs.Room.{exchanges_to_come};
-ghost use Rattle.lvdc_machine.specs.Snapshot.{IsWhole};
+ghost use Rattle.lvdc_snapshot.specs.Snapshot.{IsWhole};
 ghost use Rattle.lvdc_machine.specs.Stands.{Stands};
 ghost use Rattle.lvdc_machine.specs.Steps.{Keeps};
 ghost use Rattle.lvdc_machine.specs.declared.mode.Mode.TheVariants.{Guarded};
@@ -18,7 +18,6 @@ ghost use Rattle.lvdc_machine.specs.declared.mode.Pace.TheVariants.{ByStep};
 ghost use Rattle.lvdc_campaign.specs.Campaign.{trial_under};
 ghost use Rattle.lvdc_campaign.specs.Stations.{IsStation, IsFaultFree, IsUnderWay};
 
-use crate::copied::copied;
 use crate::laws::stations_have_plain_devices;
 use lvdc_fault::Script;
 use lvdc_laws_early::machines_may_begin_late;
@@ -135,7 +134,7 @@ pub fn machine_at(
 {
     machines_may_begin_late();
     stations_have_plain_devices();
-    let snapshot = copied(alloc, station)?;
+    let snapshot = station.once_more(alloc)?;
     let machine = Machine::from_snapshot(alloc, snapshot, script, unplugs, count, devices)?;
     Ok(machine)
 }

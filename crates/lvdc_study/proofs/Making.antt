@@ -27,7 +27,7 @@ use Rattle.lvdc_machine.specs.Room.{pace_of}
 use Rattle.lvdc_machine.specs.Stands.{Stands, EndsAs}
 use Rattle.lvdc_machine.specs.View.{View, answer_of_end}
 use Rattle.lvdc_machine.specs.declared.mode.Mode.{Mode}
-use Rattle.lvdc_machine.specs.declared.snapshot.Snapshot.{Snapshot}
+use Rattle.lvdc_snapshot.specs.declared.snapshot.Snapshot.{Snapshot}
 use Rattle.lvdc_machine.specs.declared.mode.Mode.TheVariants.{Guarded}
 use Rattle.lvdc_campaign.specs.Campaign.{trial_under}
 use Rattle.lvdc_campaign.specs.Ran.{HasRunGuarded, HasRunPlainly, NoneFailed, NonePlainlyFailed}

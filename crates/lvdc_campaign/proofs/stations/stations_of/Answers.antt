@@ -1,6 +1,6 @@
 use Rattle.std.proofs.Common.{List, ℕ, All, arith, refl, subst, sym, ◌∙◌}
 use Rattle.std.proofs.lemmas.List.Elements.{All-push}
-use Rattle.lvdc_machine.specs.declared.snapshot.Snapshot.{Snapshot}
+use Rattle.lvdc_snapshot.specs.declared.snapshot.Snapshot.{Snapshot}
 use Rattle.lvdc_campaign.specs.Stations.{IsStation}
 use Rattle.lvdc_campaign.proofs.stations.stations_of.Goals as goal
 
