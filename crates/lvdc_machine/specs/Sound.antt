@@ -21,9 +21,10 @@ use Rattle.lvdc_machine.specs.View.{bus_of_votes, end_seen}
 abbrev pub KnowsForce : List Event → Option ℕ → Known → Type 0
 KnowsForce script last known = IfSome last (λ step. IsKnown script step known)
 
--- the script is in range, the events on memory are those of it, and what is active fits them; what is kept of the copies fits the script,
--- and what is known of them is so in the step in force, and there is room for what may still come; the log of a machine with the room of its mode is of its own steps alone; a machine with room by times
--- judges, and one that judges has phases that go with the steps; where no end has come the votes are against a stop; and what is noted is of steps that were made
+-- the script is in range, the events on memory are those of it, and what is active fits them; what is kept of the copies fits the
+-- script, what is known of them is so in the step in force, and there is room for what may still come; the log of a machine with the
+-- room of its mode is of its own steps alone; a machine with room by times judges, and one that judges has phases that go with the
+-- steps; where no end has come the votes are against a stop; and what is noted is of steps that were made
 pub record IsSound (m : Inside) : Type 0 where
   pub events : All IsEvent m.script
   pub on_memory : m.on_memory ≡ on_memory m.script

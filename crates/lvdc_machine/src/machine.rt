@@ -31,7 +31,8 @@ use std::alloc::Global;
 use std::marker::Model;
 
 /// The voted machine, without its devices. Steps are counted from 0, three in an instruction time. What is in force on each copy,
-/// which copies are wrong, and which module has two of them, is worked out where an event begins or has ended. The memory goes by a script of the events on it alone.
+/// which copies are wrong, and which module has two of them, is worked out where an event begins or has ended. The memory goes by
+/// a script of the events on it alone.
 pub struct Machine {
     pub(crate) banks: Banks,
     pub(crate) logic: Logic,
