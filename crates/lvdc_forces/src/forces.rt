@@ -41,6 +41,7 @@ impl Forces {
     }
 
     /// Goes to a step. Where no event that acts on a copy begins or has ended since the last one, the step is noted alone.
+    #[inline(always)]
     pub fn go_to(&mut self, script: &Script, step: u64)
         requires fit { AreForces script.now self.old }
         requires events { All IsEvent script.now }
@@ -89,6 +90,7 @@ impl Forces {
     }
 
     /// Works out anew the parts in which an event begins or has ended, and what is known.
+    #[inline(never)]
     fn renew(&mut self, script: &Script, step: u64)
         requires fit { AreForces script.now self.old }
         requires events { All IsEvent script.now }

@@ -17,6 +17,15 @@ use Rattle.lvdc_machine.specs.Shows.{Shows}
 use Rattle.lvdc_forces.specs.Parts.{IsKnown}
 use Rattle.lvdc_forces.specs.declared.known.Known.{Known}
 use Rattle.lvdc_machine.specs.Sound.{KnowsForce}
+use Rattle.lvdc_machine.specs.Steps.{IsSoundAt, IsFoundSound, IsRecovered}
+use Rattle.std.specs.Prelude.{IfSome, Ok, is_some}
+use Rattle.std.proofs.lemmas.Bool.{true≢false}
+use Rattle.lvdc_map.specs.Memory as memory
+use Rattle.lvdc_map.specs.Memory.{word_at}
+use Rattle.lvdc_fault.specs.Recoverable.{is_recovered}
+use Rattle.lvdc_model.specs.Known.{shows_since}
+use Rattle.lvdc_model.specs.Twins.{Twins, read_answer}
+use Rattle.lvdc_memory.specs.Holds.{Holds}
 
 -- the module that is found wrong
 pub found-wrong : {o : Trial} {m : View} {ds : List device.Device} {v : Voted} → Shows o m ds v → (n : ℕ)
@@ -43,3 +52,27 @@ found-bad o v at step is e = rw (← e) (ap (λ s. Memory s at) is)
 -- what is known of the copies is so in that step
 pub known_then : (script : List Event) (last : Option ℕ) (steps : ℕ) (known : Known) → KnowsForce script last known → last ≡ Some steps → IsKnown script steps known
 known_then script last steps known knows is = subst (λ (l : Option ℕ). KnowsForce script l known) is knows
+
+-- a sound word of the address that is to be read is one by every state that is shown
+pub found-sound : (m : View) (found : Option ℕ) (at : Option Spot) (spot : Spot) → at ≡ Some spot → m.active.last ≡ Some m.steps
+    → IfSome found (λ word. (o : Trial) (in_force : Option ℕ) (t : Twins) (i : memory.Memory) → Holds o in_force m.memory t i
+    → is_recovered o.opening.banks spot (word_at i spot) (λ twin. shows_since in_force o t twin spot) ≡ true)
+    → IfSome found (λ word. (o : Trial) (step : ℕ) (t : Twins) (i : memory.Memory) → Holds o (Some step) m.memory t i
+    → read_answer o step t spot ≡ Ok (record { word = word; repaired = None; switched = false }))
+    → IsFoundSound m at found
+found-sound m None at spot is begun recovered answer = tt
+found-sound m (Some word) at spot is begun recovered answer = λ o v ds h.
+    let holds = subst (λ (l : Option ℕ). Holds o l m.memory v.twins v.intended) (begun ∙ ap Some h.steps) h.memory in
+    subst (λ (a : Option Spot). IfSome a (IsSoundAt o v word)) (sym is)
+    (record { recovered = recovered o (Some v.steps) v.twins v.intended holds; answer = answer o v.steps v.twins v.intended holds })
+
+-- where one was found, the word can be recovered
+pub sound-recovered : (m : View) (at : Option Spot) (found : Option ℕ) → IsFoundSound m at found → is_some found ≡ true → IsRecovered m at
+sound-recovered m at None sound some = absurd (true≢false (sym some))
+sound-recovered m None (Some word) sound some = λ o v ds h. tt
+sound-recovered m (Some spot) (Some word) sound some = λ o v ds h. (sound o v ds h).recovered
+
+-- of an address
+pub recovered-at : (m : View) (at : Option Spot) (spot : Spot) → IsRecovered m at → at ≡ Some spot
+    → (o : Trial) (v : Voted) (ds : List device.Device) → Shows o m ds v → true ≡ recovers o v spot
+recovered-at m at spot all is o v ds h = sym (subst (λ (a : Option Spot). IfSome a (λ x. recovers o v x ≡ true)) is (all o v ds h))

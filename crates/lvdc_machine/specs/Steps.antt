@@ -1,9 +1,10 @@
 -- One step of either mode, and what it leaves of the machine.
-use Rattle.std.specs.Prelude.{◌≡◌, ℕ, ◌+◌, ◌*◌, ◌≤◌, ◌<◌, Bool, false, List, ◌∷◌, [], ◌++◌}
+use Rattle.std.specs.Prelude.{◌≡◌, ℕ, ◌+◌, ◌*◌, ◌≤◌, ◌<◌, Bool, true, false, List, ◌∷◌, [], ◌++◌, IfSome, Ok}
 use Rattle.lvdc_map.specs.Address.{Spot}
 use Rattle.lvdc_model.specs.declared.repair.Repair.{Repair}
 use Rattle.std.specs.declared.option.Option.{Option}
 use Rattle.std.specs.declared.option.Option.TheVariants.{None, Some}
+use Rattle.lvdc_port.specs.Device as device
 use Rattle.lvdc_modules.specs.declared.wanted.Wanted.{Wanted}
 use Rattle.lvdc_modules.specs.declared.wanted.Wanted.TheVariants.{Nothing, Fetch, Operand, Store, PortRead, PortWrite}
 use Rattle.lvdc_fault.specs.Script.{two_wrong}
@@ -12,12 +13,14 @@ use Rattle.lvdc_fault.specs.declared.verdict.Verdict.TheVariants.{Admissible}
 use Rattle.lvdc_model.specs.declared.outcome.Outcome.{Outcome}
 use Rattle.lvdc_model.specs.declared.outcome.Outcome.TheVariants.{Done, Stopped, Inadmissible, Device}
 use Rattle.lvdc_model.specs.Known.{last_begun}
-use Rattle.lvdc_model.specs.Runs.{after_steps, alone_step, through_step, own_verdict}
+use Rattle.lvdc_model.specs.Runs.{after_steps, alone_step, through_step, own_verdict, recovers}
 use Rattle.lvdc_model.specs.Trial.{Trial}
+use Rattle.lvdc_model.specs.Twins.{read_answer}
 use Rattle.lvdc_model.specs.Voted.{Voted, voted_start}
 use Rattle.lvdc_machine.specs.declared.stepping.Brought.{Brought}
 use Rattle.lvdc_machine.specs.declared.mode.Mode.{Mode}
 use Rattle.lvdc_machine.specs.declared.mode.Mode.TheVariants.{Guarded, Through}
+use Rattle.lvdc_machine.specs.Shows.{Shows}
 use Rattle.lvdc_machine.specs.View.{View}
 
 -- one step of a mode; after an end nothing changes
@@ -67,6 +70,21 @@ pub record MayMake (m : View) : Type 0 where
   pub begun : m.active.last ≡ Some m.steps
   pub left : m.steps < 3 * m.limit
   pub right : m.mode ≡ Guarded → two_wrong m.script m.steps 1 ≡ false
+
+-- nothing is wrong at an address: its word can be recovered, and a read finds this word and mends nothing
+pub record IsSoundAt (o : Trial) (v : Voted) (word : ℕ) (at : Spot) : Type 0 where
+  pub recovered : recovers o v at ≡ true
+  pub answer : read_answer o v.steps v.twins at ≡ Ok (record { word = word; repaired = None; switched = false })
+
+-- a word that was found is that of the address that is to be read, where nothing is wrong
+abbrev pub IsFoundSound : View → Option Spot → Option ℕ → Type 0
+IsFoundSound m at found =
+    IfSome found (λ word. (o : Trial) (v : Voted) (devices : List device.Device) → Shows o m devices v → IfSome at (IsSoundAt o v word))
+
+-- the word of the address that is to be read can be recovered
+abbrev pub IsRecovered : View → Option Spot → Type 0
+IsRecovered m at =
+    (o : Trial) (v : Voted) (devices : List device.Device) → Shows o m devices v → IfSome at (λ spot. recovers o v spot ≡ true)
 
 -- what no call changes
 pub record Keeps (before after : View) : Type 0 where

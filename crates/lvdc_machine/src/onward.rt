@@ -45,7 +45,7 @@ impl Machine {
         prepare_all(devices, left)?;
         self.turn(left)?;
         let wanted = self.wanted();
-        match self.exchange(order, wanted, devices) {
+        match self.exchange(order, &wanted, None, devices) {
             Ok(_) => {}
             Err(port) => self.fail(port),
         }

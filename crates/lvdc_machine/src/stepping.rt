@@ -25,7 +25,7 @@ ghost use Rattle.lvdc_machine.specs.Made.{of_port, without_a_word, read_made, ex
 ghost use Rattle.lvdc_modules.specs.declared.wanted.Wanted.TheVariants.{PortWrite};
 ghost use Rattle.lvdc_machine.specs.Resumed.{state_from, StandsFrom};
 ghost use Rattle.lvdc_machine.specs.Shows.{Shows, HasBegun};
-ghost use Rattle.lvdc_machine.specs.Steps.{verdict_of, repair_noted, noting, NamesPort, MayMake, IsMade};
+ghost use Rattle.lvdc_machine.specs.Steps.{verdict_of, repair_noted, noting, NamesPort, MayMake, IsMade, IsFoundSound, IsRecovered};
 ghost use Rattle.lvdc_machine.specs.View.{bus_of_votes, answer_of_end, outcome_of, end_seen};
 
 use crate::answers::answer;
@@ -146,16 +146,26 @@ impl Machine {
         wish(self.logic.bus(), self.banks)
     }
 
-    /// What is said of the address that is to be read.
-    fn found_memory(&self, at: Option<Address>) -> Verdict
+    /// The word of the address that is to be read, where nothing is wrong with it: one look at the cells for the verdict and the read.
+    fn sound_word(&self, at: Option<Address>) -> Option<Word>
         requires begun { self.now.active.last ≡ Some self.now.steps }
         requires there { IfSome at (λ spot. is_there self.now.banks spot ≡ true) }
+        ensures { IsFoundSound self.now at result }
+    {
+        self.memory.sound_word(at?)
+    }
+
+    /// What is said of the address that is to be read, whether a sound word was found there or not.
+    fn found_memory(&self, at: Option<Address>, is_sound: bool) -> Verdict
+        requires begun { self.now.active.last ≡ Some self.now.steps }
+        requires there { IfSome at (λ spot. is_there self.now.banks spot ≡ true) }
+        requires sound { is_sound ≡ true → IsRecovered self.now at }
         ensures { (o : Trial) (v : Voted) (ds : List device.Device) → Shows o self.now ds v → result ≡ own_memory o v at }
     {
         match at {
             None => Verdict::Admissible,
             Some(address) => {
-                if self.memory.recoverable(address) {
+                if is_sound || self.memory.recoverable(address) {
                     Verdict::Admissible
                 } else {
                     Verdict::Memory {
@@ -168,9 +178,10 @@ impl Machine {
     }
 
     /// What is said of the step that was begun: a module with two wrong copies comes first.
-    fn found(&self, wanted: &Wanted) -> Verdict
+    fn found(&self, wanted: &Wanted, is_sound: bool) -> Verdict
         requires begun { self.now.active.last ≡ Some self.now.steps }
         requires there { IsThereFor self.now.banks wanted.now }
+        requires sound { is_sound ≡ true → IsRecovered self.now (read_of_wish wanted.now) }
         ensures verdict { (o : Trial) (v : Voted) (ds : List device.Device) → Shows o self.now ds v → wanted.now ≡ wished o v
             → result ≡ own_verdict o v }
         ensures right { result ≡ Admissible → two_wrong self.now.script self.now.steps 1 ≡ false }
@@ -181,26 +192,28 @@ impl Machine {
                 step: self.steps,
                 module: number,
             },
-            None => self.found_memory(read_of(wanted)),
+            None => self.found_memory(read_of(wanted), is_sound),
         }
     }
 
     /// What the mode says of the step that was begun.
-    fn verdict(&self, wanted: &Wanted) -> Verdict
+    fn verdict(&self, wanted: &Wanted, is_sound: bool) -> Verdict
         requires begun { self.now.active.last ≡ Some self.now.steps }
         requires there { IsThereFor self.now.banks wanted.now }
+        requires sound { is_sound ≡ true → IsRecovered self.now (read_of_wish wanted.now) }
         ensures verdict { (o : Trial) (v : Voted) (ds : List device.Device) → Shows o self.now ds v → wanted.now ≡ wished o v
             → result ≡ verdict_of self.now.mode o v }
         ensures right { result ≡ Admissible → self.now.mode ≡ Guarded → two_wrong self.now.script self.now.steps 1 ≡ false }
         ensures through { self.now.mode ≡ Through → result ≡ Admissible }
     {
         match self.mode {
-            Mode::Guarded => self.found(wanted),
+            Mode::Guarded => self.found(wanted, is_sound),
             Mode::Through => Verdict::Admissible,
         }
     }
 
     /// Notes what an exchange brought, and lets all copies latch.
+    #[inline(always)]
     fn make(&mut self, order: &Order, brought: Brought)
         requires may { MayMake self.old }
         requires line { IsSome brought.line → MayExchange self.old.pace self.old.steps }
@@ -219,8 +232,9 @@ impl Machine {
         self.steps += 1;
     }
 
-    /// Reads an address for this exchange. Where no twin shows a good cell there the machine stops, and the step isn't made.
-    fn read(&mut self, order: &Order, wanted: Wanted, at: Address) -> Option<Made>
+    /// Reads an address for this exchange, where something may be wrong with it. Where no twin shows a good cell there the machine stops,
+    /// and the step isn't made.
+    fn read_any(&mut self, order: &Order, wanted: Wanted, at: Address) -> Option<Made>
         requires may { MayMake self.old }
         requires there { is_there self.old.banks at ≡ true }
         requires due { MayRepair self.old.pace self.old.steps }
@@ -256,6 +270,43 @@ impl Machine {
                 });
                 None
             }
+        }
+    }
+
+    /// Reads an address for this exchange, of which a sound word was found or not.
+    fn read(
+        &mut self,
+        order: &Order,
+        wanted: Wanted,
+        at: Address,
+        sound: Option<Word>,
+    ) -> Option<Made>
+        requires may { MayMake self.old }
+        requires there { is_there self.old.banks at ≡ true }
+        requires due { MayRepair self.old.pace self.old.steps }
+        requires sound { IsFoundSound self.old (Some at) sound }
+        ensures shows { (o : Trial) (v : Voted) (ds : List device.Device) → Shows o self.old ds v
+            → Shows o self.new ds (reading (read_answer o v.steps v.twins at) o v at) }
+        ensures told { (o : Trial) (v : Voted) (ds : List device.Device) → Shows o self.old ds v
+            → result ≡ read_made (read_answer o v.steps v.twins at) v.steps at wanted }
+        ensures made { IsMade self.old self.new }
+    {
+        match sound {
+            Some(word) => {
+                self.make(
+                    order,
+                    Brought {
+                        memory: word,
+                        ..Brought::nothing()
+                    },
+                );
+                Some(Made {
+                    wanted,
+                    word,
+                    repair: None,
+                })
+            }
+            None => self.read_any(order, wanted, at),
         }
     }
 
@@ -360,37 +411,39 @@ impl Machine {
         }
     }
 
-    /// Makes the exchange that is wanted, lets all copies latch, and answers what was made. An error is the port of the device that
+    /// Makes the exchange that is wanted, for which a sound word was found or not, lets all copies latch, and answers what was made. An error is the port of the device that
     /// failed; then nothing has changed.
     #[inline(always)]
     pub(crate) fn exchange(
         &mut self,
         order: &Order,
-        wanted: Wanted,
+        wanted: &Wanted,
+        sound: Option<Word>,
         devices: &mut Vec<Box<dyn PortDevice>>,
     ) -> Result<Option<Made>, u8>
         requires may { MayMake self.old }
-        requires there { IsThereFor self.old.banks wanted }
-        requires due { IsDue self.old.pace self.old.steps wanted }
+        requires there { IsThereFor self.old.banks wanted.now }
+        requires sound { IsFoundSound self.old (read_of_wish wanted.now) sound }
+        requires due { IsDue self.old.pace self.old.steps wanted.now }
         requires fit { AreFit device_of spare (exchanges_to_come self.old) devices.old.items }
         ensures shows { OnOk result ((o : Trial) (v : Voted) → Shows o self.old (map device_of devices.old.items) v
-            → Shows o self.new (map device_of devices.new.items) (exchanges o v wanted)) }
+            → Shows o self.new (map device_of devices.new.items) (exchanges o v wanted.now)) }
         ensures told { IfOk result (λ made. (o : Trial) (v : Voted) → Shows o self.old (map device_of devices.old.items) v
-            → made ≡ exchange_made o v wanted) }
+            → made ≡ exchange_made o v wanted.now) }
         ensures made { OnOk result (IsMade self.old self.new) }
         ensures since { OnOk result (Since device_of faults devices.old.items devices.new.items) }
-        ensures named { IfErr result (λ failed. NamesPort wanted failed) }
+        ensures named { IfErr result (λ failed. NamesPort wanted.now failed) }
         ensures fails { IfErr result (λ failed. Fails device_of faults failed devices.old.items devices.new.items) }
         ensures unchanged { OnErr result (self.new ≡ self.old) }
         ensures fit { AreFit device_of spare (exchanges_to_come self.new) devices.new.items }
     {
-        match wanted {
+        match *wanted {
             Wanted::Nothing => {
                 self.make(order, Brought::nothing());
                 Ok(Some(Made::without_a_word(Wanted::Nothing)))
             }
-            Wanted::Fetch(at) => Ok(self.read(order, Wanted::Fetch(at), at)),
-            Wanted::Operand(at) => Ok(self.read(order, Wanted::Operand(at), at)),
+            Wanted::Fetch(at) => Ok(self.read(order, Wanted::Fetch(at), at, sound)),
+            Wanted::Operand(at) => Ok(self.read(order, Wanted::Operand(at), at, sound)),
             Wanted::Store { at, word } => {
                 self.store(order, at, word);
                 Ok(Some(Made::without_a_word(Wanted::Store { at, word })))
@@ -437,8 +490,9 @@ impl Machine {
         self.unplug_due(devices);
         self.begin();
         let wanted = self.wanted();
-        match self.verdict(&wanted) {
-            Verdict::Admissible => match self.exchange(order, wanted, devices) {
+        let sound = self.sound_word(read_of(&wanted));
+        match self.verdict(&wanted, sound.is_some()) {
+            Verdict::Admissible => match self.exchange(order, &wanted, sound, devices) {
                 Ok(made) => made,
                 Err(port) => {
                     self.fail(port);

@@ -6,3 +6,4 @@ mod Positions
 mod Releasing
 mod Rows
 mod Staying
+mod Soundness

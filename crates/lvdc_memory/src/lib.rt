@@ -4,6 +4,7 @@
 mod memory;
 mod own_events;
 mod resume;
+mod sound;
 
 pub use memory::VotedMemory;
 pub use own_events::{begin_memory, memory_events, put_last_in_force};

@@ -10,7 +10,7 @@ use Rattle.lvdc_map.proofs.Holders.{holds_duplex}
 use Rattle.lvdc_twin.specs.declared.both_bad.BothBad.{BothBad}
 use Rattle.lvdc_twin.specs.declared.read_out.ReadOut.{ReadOut}
 use Rattle.lvdc_twin.specs.Store.{Store, IsStore, stored_in, is_dead, shown_in, selected_in, with_word, survives}
-use Rattle.lvdc_twin.specs.Calls.{answer_by_one, answer_by_two, repaired_by, switched_by, after_answer, shows_word, is_repaired, Finds, Mends, NoneGood}
+use Rattle.lvdc_twin.specs.Calls.{all_show, answer_of, answer_by_one, answer_by_two, repaired_by, switched_by, after_answer, shows_word, is_repaired, Finds, Mends, NoneGood}
 use Rattle.lvdc_twin.proofs.Places.{stored-with_word}
 use Rattle.lvdc_twin.proofs.Writes.{and_false, kept-with_word}
 
@@ -257,3 +257,37 @@ none_good-one t at answer small simplex answered = (there', back)
 
     back : NoneGood t at → IsErr answer
     back none = subst IsErr (sym answered) (cases.1 (none (at.pair / 4) (omega arith) (rw simplex (eq-eqb (at.pair / 4) (at.pair / 4) refl))))
+
+-- ---- where nothing is wrong
+
+-- two twins that show the code of a word
+both-show : (selected w : ℕ) → w < 2 ^ 26 → answer_by_two selected (code_of w) (code_of w) ≡ Ok (record { word = w; repaired = None; switched = false })
+both-show selected w small =
+    ap (λ (b : Bool). cond b (Ok (record { word = word_in (code_of w); repaired = cond b None (Some (1 - selected)); switched = false }))
+    (cond b (Ok (record { word = word_in (code_of w); repaired = Some selected; switched = true })) (Err (record {})))) (good-code w small)
+    ∙ ap (λ (x : ℕ). Ok (record { word = x; repaired = None; switched = false })) (word-code w small)
+
+-- of two equal numbers the one and the other
+of_both : (f : ℕ → ℕ) (c n : ℕ) → n < 2 → f 0 ≡ c → f 1 ≡ c → (f n ≡ c) × (f (1 - n) ≡ c)
+of_both f c zero small zeroth first = (zeroth, first)
+of_both f c (suc zero) small zeroth first = (first, zeroth)
+of_both f c (suc (suc n)) small zeroth first = absurd (omega arith)
+
+-- a read finds a word that each twin shows that holds the address
+pub found-shown : (t : Store) (at : Spot) (w : ℕ) → IsStore t → w < 2 ^ 26 → all_show t at (code_of w) ≡ true
+    → answer_of t at ≡ Ok (record { word = w; repaired = None; switched = false })
+found-shown t at w whole small h = by_case (is_simplex t.banks (home at).pair) h
+  where
+    n : ℕ
+    n = selected_in t (home at).pair
+
+    by_case : (b : Bool)
+        → cond b (shown_in t (at.pair / 4) (home at) == code_of w) (shown_in t 0 (home at) == code_of w && shown_in t 1 (home at) == code_of w) ≡ true
+        → cond b (answer_by_one (shown_in t (at.pair / 4) (home at))) (answer_by_two n (shown_in t n (home at)) (shown_in t (1 - n) (home at)))
+        ≡ Ok (record { word = w; repaired = None; switched = false })
+    by_case true e = ap answer_by_one (eqb-true (shown_in t (at.pair / 4) (home at)) (code_of w) e) ∙ found-one w small
+    by_case false e =
+        let parts = and_parts (shown_in t 0 (home at) == code_of w) (shown_in t 1 (home at) == code_of w) e in
+        let both = of_both (λ twin. shown_in t twin (home at)) (code_of w) n (whole.selected (home at).pair)
+        (eqb-true (shown_in t 0 (home at)) (code_of w) parts.0) (eqb-true (shown_in t 1 (home at)) (code_of w) parts.1) in
+        (λ i. answer_by_two n (both.0 i) (both.1 i)) ∙ both-show n w small

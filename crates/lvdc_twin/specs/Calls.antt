@@ -55,6 +55,13 @@ abbrev pub after_answer : Result ReadOut BothBad → Store → Spot → Store
 after_answer (Ok r) t place = switched_by r.switched (repaired_by r.repaired t place r.word) place.pair
 after_answer (Err _) t place = t
 
+-- whether each twin that holds an address shows this cell there
+abbrev pub all_show : Store → Spot → ℕ → Bool
+all_show t at cell =
+    let place = home at in
+    if is_simplex t.banks place.pair then shown_in t (at.pair / 4) place == cell
+    else (shown_in t 0 place == cell && shown_in t 1 place == cell)
+
 -- ---- the law of repair
 
 -- the code of a word survives in what the twins show

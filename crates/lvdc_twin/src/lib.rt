@@ -15,6 +15,6 @@ pub use both_bad::BothBad;
 pub use held::Held;
 pub use physical::changes_are_local;
 pub use read_out::ReadOut;
-pub use reading::survivor_is_read;
+pub use reading::{shown_word_is_read, survivor_is_read};
 pub use stuck::Stuck;
 pub use twins::Twins;

@@ -2,9 +2,10 @@
 
 ghost use Rattle.std.specs.Prelude.{◌≡◌, ℕ, ◌-◌, ◌/◌, ◌%◌, ◌^◌, ◌<◌, true, false, Ok, IfOk, IfSome, IsErr, OnErr, ◌↔◌};
 ghost use Rattle.lvdc_word.specs.Cell.{code_of};
+ghost use Rattle.lvdc_map.specs.Address.{Spot};
 ghost use Rattle.lvdc_map.specs.Banks.{is_there, is_simplex, home, IsPlace};
-ghost use Rattle.lvdc_twin.specs.Store.{IsStore, selected_in, shown_in, survives, with_selected};
-ghost use Rattle.lvdc_twin.specs.Calls.{answer_by_one, answer_by_two, answer_of, after_answer, shows_word, Finds, Mends, NoneGood};
+ghost use Rattle.lvdc_twin.specs.Store.{IsStore, Store, selected_in, shown_in, survives, with_selected};
+ghost use Rattle.lvdc_twin.specs.Calls.{all_show, answer_by_one, answer_by_two, answer_of, after_answer, shows_word, Finds, Mends, NoneGood};
 
 use crate::{BothBad, ReadOut, Twins};
 use lvdc_map::Address;
@@ -33,6 +34,22 @@ impl Twins {
             answer_by_one(self.view(at.pair / 4, place))
         } else {
             self.read_two(place)
+        }
+    }
+
+    /// Does each twin that holds an address show this cell there?
+    pub fn all_show(&self, at: Address, cell: Cell) -> bool
+        requires { is_there self.now.banks at ≡ true }
+        ensures value { result ≡ all_show self.now at cell }
+        ensures whole { IsStore self.now }
+        ensures place { IsPlace (home at) }
+        ensures bank { at.pair < 8 }
+    {
+        let place = at.home();
+        if self.banks.simplex(place.pair) {
+            self.view(at.pair / 4, place) == cell
+        } else {
+            self.view(0, place) == cell && self.view(1, place) == cell
         }
     }
 
@@ -124,4 +141,10 @@ pub fn survivor_is_read()
     ensures two { (w selected : ℕ) (shown : ℕ → ℕ) → selected < 2 → w < 2 ^ 26
         → survives (code_of w) (shown 0) (shown 1) ≡ true
         → Finds w shown (answer_by_two selected (shown selected) (shown (1 - selected))) }
+{}
+
+/// A read finds a word of which each twin that holds the address shows the code, and has nothing to mend.
+pub fn shown_word_is_read()
+    ensures { (t : Store) (at : Spot) (w : ℕ) → IsStore t → w < 2 ^ 26 → all_show t at (code_of w) ≡ true
+        → answer_of t at ≡ Ok (record { word = w; repaired = None; switched = false }) }
 {}

@@ -1,11 +1,13 @@
 use Rattle.std.proofs.Common.{ℕ, sym, ap, subst, ◌∙◌, arith}
 use Rattle.std.specs.declared.option.Option.TheVariants.{Some}
 use Rattle.lvdc_port.specs.Devices.{HasSpare}
+use Rattle.lvdc_model.specs.Runs.{read_of_wish}
 use Rattle.lvdc_machine.specs.Room.{exchanges_to_come}
 use Rattle.lvdc_machine.specs.View.{View}
 use Rattle.lvdc_machine.proofs.Blame.{since-then, made-caused, made-unjudged, fails-has, fails-since}
 use Rattle.lvdc_machine.proofs.Frames.{keeps-then, keeps-begun, keeps-ended, made-most}
 use Rattle.lvdc_machine.proofs.HandedOut.{running-state, told-judged, told-made, told-failed}
+use Rattle.lvdc_machine.proofs.Judging.{sound-recovered}
 use Rattle.lvdc_machine.proofs.Resuming.{is-prepared, wanted-wished, stands-judged, stands-made, stands-failed}
 use Rattle.lvdc_machine.proofs.machine.Machine.advance.Goals as goal
 
@@ -120,3 +122,8 @@ returns-in-Ok-clause-told g c = λ o r t h.
 
 pub returns-in-Err-clause-told : goal.returns-in-Err-clause-told
 returns-in-Err-clause-told g c = λ o r t h. told-failed _ _ _ _ (ap (λ (m : View). m.end) c.fail.ensures)
+
+pub verdict-requires-clause-sound : goal.verdict-requires-clause-sound
+verdict-requires-clause-sound g c = λ some.
+    sound-recovered c.begin.new.self (read_of_wish c.wanted-wanted.result) c.sound_word-sound.result (rw c.read_of.ensures.value at c.sound_word-sound.ensures)
+    (sym c.is_some.ensures ∙ some)

@@ -94,3 +94,9 @@ returns-in-Fetch-clause-fit g c =
 pub returns-in-Store-clause-fit : goal.returns-in-Store-clause-fit
 returns-in-Store-clause-fit g c =
     fit-made (λ b. (goal.PortDevice-dyn g (b.vtable, b.value)).device_of b.value) (λ b. (goal.PortDevice-dyn g (b.vtable, b.value)).spare b.value) c.args.self.now c.store.new.self c.args.devices.now.items c.requires.fit c.store.ensures.made
+
+pub read-requires-clause-sound : goal.read-requires-clause-sound
+read-requires-clause-sound g c = rw c.in-Fetch.is at c.requires.sound
+
+pub read-requires-in-Operand-clause-sound : goal.read-requires-in-Operand-clause-sound
+read-requires-in-Operand-clause-sound g c = rw c.in-Operand.is at c.requires.sound
