@@ -267,3 +267,43 @@ sound_kept k kept one two three =
       shadow_two = λ e. absurd (false≢true (sym two ∙ e));
       shadow_three = λ e. absurd (false≢true (sym three ∙ e));
     }
+
+-- and where the shadows stay
+pub sound_beside : (k : Kept) (words : List ℕ) (one two three : Option (List ℕ)) → IsKept words one two three → IsSound k
+    → IsSound (record k { voted = words; one = one; two = two; three = three })
+sound_beside k words one two three kept sound =
+    record {
+      vote = kept.vote;
+      different_one = kept.different_one;
+      different_two = kept.different_two;
+      different_three = kept.different_three;
+      marked_one = sound.marked_one;
+      marked_two = sound.marked_two;
+      marked_three = sound.marked_three;
+      shadow_one = sound.shadow_one;
+      shadow_two = sound.shadow_two;
+      shadow_three = sound.shadow_three;
+    }
+
+-- what agrees with the vote doesn't differ from it
+agrees : (words vote : List ℕ) → vote ≡ words → not (same_words words vote) ≡ false
+agrees words vote is = rw is (ap not ((same_words-Decides words words).1 refl))
+
+-- the two that have the vote
+pub agree_beside_one : (own words : List ℕ) → length own ≡ length words
+    → (differs_of (settled own words words) 1 ≡ false) × (differs_of (settled own words words) 2 ≡ false)
+agree_beside_one own words size =
+    let vote = majority_of-last own words size in
+    (agrees words _ vote, agrees words _ vote)
+
+pub agree_beside_two : (own words : List ℕ) → length own ≡ length words
+    → (differs_of (settled words own words) 0 ≡ false) × (differs_of (settled words own words) 2 ≡ false)
+agree_beside_two own words size =
+    let vote = majority_of-ends words own size in
+    (agrees words _ vote, agrees words _ vote)
+
+pub agree_beside_three : (own words : List ℕ) → length own ≡ length words
+    → (differs_of (settled words words own) 0 ≡ false) × (differs_of (settled words words own) 1 ≡ false)
+agree_beside_three own words size =
+    let vote = majority_of-first words own size in
+    (agrees words _ vote, agrees words _ vote)

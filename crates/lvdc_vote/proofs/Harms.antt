@@ -192,3 +192,16 @@ harmed_is hurts old next few same fits = rw (any_lags no_harm hurts) (by_lag (la
   by_lag : (b : Bool) → patched_all (harm_of hurts).patches (if b then old else next) ≡ hurt_by_all (if b then old else next) hurts
   by_lag true = begun_with old refl
   by_lag false = begun_with next same
+
+-- patches make no word more
+pub patched_size : (ps : List Patch) (ws : List ℕ) → length (patched_all ps ws) ≡ length ws
+patched_size [] ws = refl
+patched_size (p ∷ ps) [] = refl
+patched_size (p ∷ ps) (w ∷ ws) = ap suc (patched_size ps ws)
+
+-- so what a copy latches is as long as what it had and what follows
+pub harmed_size : (old next : List ℕ) (h : Harm) (n : ℕ) → length old ≡ n → length next ≡ n → length (harmed old next h) ≡ n
+harmed_size old next h n lo ln = by h.lags where
+  by : (b : Bool) → length (patched_all h.patches (if b then old else next)) ≡ n
+  by true = patched_size h.patches old ∙ lo
+  by false = patched_size h.patches next ∙ ln

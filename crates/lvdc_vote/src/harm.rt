@@ -1,6 +1,6 @@
 //! What many hurts of one copy come to: one patch for each latch, whatever their number.
 
-ghost use Rattle.std.specs.Prelude.{◌≡◌, ℕ, ◌≤◌, ◌<◌, ◌↔◌, List, length, All, IsTrue};
+ghost use Rattle.std.specs.Prelude.{◌≡◌, ℕ, ◌≤◌, ◌<◌, ◌↔◌, List, length, All, IsTrue, false};
 ghost use Rattle.lvdc_vote.specs.Harms.{harm_and, harm_of, harmed, no_harm, no_patch, patch_and_flip, patch_and_force, patched_all, patched_at};
 ghost use Rattle.lvdc_vote.specs.Latches.{latched_by, FitsLatches};
 ghost use Rattle.lvdc_vote.specs.declared.hurt.Hurt.{Hurt};
@@ -100,35 +100,43 @@ impl Harm {
 pub(crate) fn harmed_state<S: Vote>(old: &S, next: &S, harm: &Harm) -> S
     ensures { S.latches result ≡ harmed (S.latches old.now) (S.latches next.now) harm.now }
 {
-    let begun = if harm.lags {
-        old.copied()
-    } else {
-        next.copied()
-    };
+    let begun = if harm.lags { old } else { next };
     patch_all(begun, &harm.patches)
 }
 
 /// The state each of whose latches has its patch.
-fn patch_all<S: Vote>(state: S, patches: &[Patch; 5]) -> S
-    ensures { S.latches result ≡ patched_all patches.now (S.latches state) }
+#[inline(always)]
+pub(crate) fn patch_all<S: Vote>(state: &S, patches: &[Patch; 5]) -> S
+    ensures { S.latches result ≡ patched_all patches.now (S.latches state.now) }
 {
-    let mut patched = state;
+    let mut patched = state.copied();
     for index in 0..S::LATCHES.min(5) {
-        patched = patch_latch(patched, index, &patches[usize::from(index)]);
+        patched = patch_latch(&patched, index, &patches[usize::from(index)]);
     }
     patched
 }
 
 /// The state in which one latch has its patch.
-fn patch_latch<S: Vote>(state: S, index: u8, patch: &Patch) -> S
+#[inline(always)]
+fn patch_latch<S: Vote>(state: &S, index: u8, patch: &Patch) -> S
     requires { index < S.LATCHES }
-    ensures { S.latches result ≡ patched_at (S.latches state) index patch.now }
+    ensures { S.latches result ≡ patched_at (S.latches state.now) index patch.now }
 {
-    if patch.is_none() {
-        return state;
-    }
     let turned = state.with_flip(index, patch.value);
     turned.with_force(index, patch.mask, patch.value)
+}
+
+/// May a state of this kind change under these patches?
+#[inline(always)]
+pub(crate) fn has_patch<S: Vote>(patches: &[Patch; 5]) -> bool
+    ensures { result ≡ false → (state : S) → patched_all patches.now (S.latches state) ≡ S.latches state }
+{
+    for index in 0..S::LATCHES.min(5) {
+        if !patches[usize::from(index)].is_none() {
+            return true;
+        }
+    }
+    false
 }
 
 /// A copy latches under what its hurts come to what it latches under the hurts, one after another. No module has more than five

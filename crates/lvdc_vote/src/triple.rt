@@ -6,7 +6,7 @@ ghost use Rattle.lvdc_vote.specs.Copies.{settled, copy_of, shadow_of, after_latc
 ghost use Rattle.lvdc_vote.specs.Differences.{kept_of, shadow_by, IsKept};
 ghost use Rattle.lvdc_vote.specs.Harms.{harmed, harmed_by};
 
-use crate::harm::harmed_state;
+use crate::harm::{harmed_state, has_patch, patch_all};
 use crate::{Harm, Hurt, LogicModule, Vote, latched_state};
 use lvdc_word::Word;
 use std::marker::Model;
@@ -107,6 +107,7 @@ impl<M: LogicModule> Triple<M> {
     pub fn renew(&mut self, state: M::State)
         requires { IsFresh self.old }
         ensures value { self.new ≡ settled (M.State.latches state) (M.State.latches state) (M.State.latches state) }
+        ensures vote { vote_of self.new ≡ M.State.latches state }
         ensures agree { (c : ℕ) → differs_of self.new c ≡ false }
         ensures sized { IsSized M.State.LATCHES self.new }
     {
@@ -116,43 +117,85 @@ impl<M: LogicModule> Triple<M> {
         self.three = None;
     }
 
+    /// Copy 1 latches by itself, and has what it latches under what is wrong with it, where this state follows; the others have this
+    /// state, which is the vote. Does the copy differ from it?
+    #[inline(always)]
+    pub fn renew_one(&mut self, state: &M::State, harm: &Harm) -> bool
+        requires { IsFresh self.old }
+        ensures value { self.new ≡ settled (harmed self.old.one (M.State.latches state.now) harm.now) (M.State.latches state.now) (M.State.latches state.now) }
+        ensures vote { vote_of self.new ≡ M.State.latches state.now }
+        ensures differs { result ≡ differs_of self.new 0 }
+        ensures two { differs_of self.new 1 ≡ false }
+        ensures three { differs_of self.new 2 ≡ false }
+        ensures sized { IsSized M.State.LATCHES self.new }
+    {
+        latch_alone(&mut self.one, &self.voted, state, harm);
+        self.two = None;
+        self.three = None;
+        self.voted = state.copied();
+        self.differs(0)
+    }
+
+    /// Copy 2 latches by itself, and has what it latches under what is wrong with it, where this state follows; the others have this
+    /// state, which is the vote. Does the copy differ from it?
+    #[inline(always)]
+    pub fn renew_two(&mut self, state: &M::State, harm: &Harm) -> bool
+        requires { IsFresh self.old }
+        ensures value { self.new ≡ settled (M.State.latches state.now) (harmed self.old.two (M.State.latches state.now) harm.now) (M.State.latches state.now) }
+        ensures vote { vote_of self.new ≡ M.State.latches state.now }
+        ensures differs { result ≡ differs_of self.new 1 }
+        ensures one { differs_of self.new 0 ≡ false }
+        ensures three { differs_of self.new 2 ≡ false }
+        ensures sized { IsSized M.State.LATCHES self.new }
+    {
+        latch_alone(&mut self.two, &self.voted, state, harm);
+        self.one = None;
+        self.three = None;
+        self.voted = state.copied();
+        self.differs(1)
+    }
+
+    /// Copy 3 latches by itself, and has what it latches under what is wrong with it, where this state follows; the others have this
+    /// state, which is the vote. Does the copy differ from it?
+    #[inline(always)]
+    pub fn renew_three(&mut self, state: &M::State, harm: &Harm) -> bool
+        requires { IsFresh self.old }
+        ensures value { self.new ≡ settled (M.State.latches state.now) (M.State.latches state.now) (harmed self.old.three (M.State.latches state.now) harm.now) }
+        ensures vote { vote_of self.new ≡ M.State.latches state.now }
+        ensures differs { result ≡ differs_of self.new 2 }
+        ensures one { differs_of self.new 0 ≡ false }
+        ensures two { differs_of self.new 1 ≡ false }
+        ensures sized { IsSized M.State.LATCHES self.new }
+    {
+        latch_alone(&mut self.three, &self.voted, state, harm);
+        self.one = None;
+        self.two = None;
+        self.voted = state.copied();
+        self.differs(2)
+    }
+
     /// Each copy that latches by itself has what it latches under what is wrong with it, where this state follows; every other one has
-    /// this state. Where at most one latches by itself, the state is the vote.
+    /// this state. The state becomes the vote.
+    #[inline(never)]
     pub fn renew_under(
         &mut self,
-        state: M::State,
+        state: &mut M::State,
         one: Option<&Harm>,
         two: Option<&Harm>,
         three: Option<&Harm>,
     )
-        requires { IsFresh self.old }
         ensures value { self.new ≡ settled
-            (harmed_by (option_copied one.entry) self.old.one (M.State.latches state))
-            (harmed_by (option_copied two.entry) self.old.two (M.State.latches state))
-            (harmed_by (option_copied three.entry) self.old.three (M.State.latches state)) }
+            (harmed_by (option_copied one.entry) self.old.one (M.State.latches state.old))
+            (harmed_by (option_copied two.entry) self.old.two (M.State.latches state.old))
+            (harmed_by (option_copied three.entry) self.old.three (M.State.latches state.old)) }
+        ensures vote { M.State.latches state.new ≡ vote_of self.new }
         ensures sized { IsSized M.State.LATCHES self.new }
     {
-        match (one, two, three) {
-            (None, None, None) => self.renew(state),
-            (Some(harm), None, None) => {
-                let one = self.beside(0, &state, harm);
-                self.keep(one, None, None, state);
-            }
-            (None, Some(harm), None) => {
-                let two = self.beside(1, &state, harm);
-                self.keep(None, two, None, state);
-            }
-            (None, None, Some(harm)) => {
-                let three = self.beside(2, &state, harm);
-                self.keep(None, None, three, state);
-            }
-            _ => {
-                let one = self.latched_by(0, &state, one);
-                let two = self.latched_by(1, &state, two);
-                let three = self.latched_by(2, &state, three);
-                *self = Triple::from_copies(one, two, three);
-            }
-        }
+        let one = self.latched_by(0, state, one);
+        let two = self.latched_by(1, state, two);
+        let three = self.latched_by(2, state, three);
+        *self = Triple::from_copies(one, two, three);
+        *state = self.voted();
     }
 
     /// What a copy latches where this state follows, by itself or with the others.
@@ -164,16 +207,6 @@ impl<M: LogicModule> Triple<M> {
             Some(harm) => harmed_state(self.copy(copy), state, harm),
             None => state.copied(),
         }
-    }
-
-    /// What is kept beside the state that follows of what a copy latches by itself.
-    fn beside(&self, copy: u8, state: &M::State, harm: &Harm) -> Option<M::State>
-        requires { copy < 3 }
-        ensures kept { option_map M.State.latches result
-            ≡ kept_of (harmed (copy_of self.now copy) (M.State.latches state.now) harm.now) (M.State.latches state.now) }
-        ensures sized { length (harmed (copy_of self.now copy) (M.State.latches state.now) harm.now) ≡ M.State.LATCHES }
-    {
-        kept(harmed_state(self.copy(copy), state, harm), state)
     }
 
     /// These copies, of which none has latched.
@@ -406,6 +439,35 @@ fn kept<S: Vote>(state: S, base: &S) -> Option<S>
     ensures { option_map S.latches result ≡ kept_of (S.latches state) (S.latches base.now) }
 {
     if state.same(base) { None } else { Some(state) }
+}
+
+/// What is kept of a copy beside the vote becomes what is kept beside the state that follows of what it latches by itself.
+#[inline(always)]
+fn latch_alone<S: Vote>(own: &mut Option<S>, voted: &S, state: &S, harm: &Harm)
+    ensures { option_map S.latches own.new ≡ kept_of (harmed (unwrap_or (option_map S.latches own.old) (S.latches voted.now))
+        (S.latches state.now) harm.now) (S.latches state.now) }
+{
+    if !harm.lags {
+        *own = kept(patch_all(state, &harm.patches), state);
+    } else if has_patch::<S>(&harm.patches) {
+        *own = kept(patch_all(meant(own, voted), &harm.patches), state);
+    } else {
+        stay(own, voted, state);
+    }
+}
+
+/// What is kept of a copy beside the vote becomes what is kept of it beside the state that follows.
+#[inline(always)]
+fn stay<S: Vote>(own: &mut Option<S>, voted: &S, state: &S)
+    ensures { option_map S.latches own.new ≡ kept_of (unwrap_or (option_map S.latches own.old) (S.latches voted.now)) (S.latches state.now) }
+{
+    if let Some(old) = own {
+        if old.same(state) {
+            *own = None;
+        }
+    } else {
+        *own = kept(voted.copied(), state);
+    }
 }
 
 /// What a copy has latched, or this state where it hasn't latched.

@@ -9,8 +9,8 @@ pub loop-index-preserved : goal.loop-index-preserved
 loop-index-preserved g c =
     let i = c.loop-index.index in
     let patches = c.args.patches.now in
-    let words = g.S.Vote.latches c.args.state in
-    let count = g.met.S.Vote.counted c.args.state in
+    let words = g.S.Vote.latches c.args.state.now in
+    let count = g.met.S.Vote.counted c.args.state.now in
     let five = c.type_inv.patches in
     let below = c.loop-index-test.true in
     let end = c.min-index-end.ensures in
@@ -28,8 +28,8 @@ loop-index-preserved g c =
 pub returns : goal.returns
 returns g c =
     let patches = c.args.patches.now in
-    let words = g.S.Vote.latches c.args.state in
-    let count = g.met.S.Vote.counted c.args.state in
+    let words = g.S.Vote.latches c.args.state.now in
+    let count = g.met.S.Vote.counted c.args.state.now in
     let five = c.type_inv.patches in
     let enough : min (length words) (length patches) ≤ c.loop-index.index =
     omega (arith, c.loop-index-test.false, c.min-index-end.ensures, count, c.LATCHES.ensures, five) in
