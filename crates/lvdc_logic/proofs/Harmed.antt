@@ -4,7 +4,7 @@ use Rattle.std.specs.Prelude.{All, Some, None}
 use Rattle.std.specs.List.{list_any}
 use Rattle.lvdc_vote.specs.Copies.{Copies, settled, IsFresh}
 use Rattle.lvdc_vote.specs.Harms.{harmed, harmed_by}
-use Rattle.lvdc_modules.specs.Next.{IsNext}
+use Rattle.lvdc_modules.specs.Next.{renewed}
 use Rattle.lvdc_modules.specs.Rows.{rows}
 use Rattle.lvdc_modules.specs.States.{timer_latches, locator_latches, decoder_latches, selector_latches, accumulator_latches, multiplier_latches, exchange_latches}
 use Rattle.lvdc_modules.specs.Timer.{timer_row}
@@ -15,7 +15,6 @@ use Rattle.lvdc_modules.specs.Accumulator.{accumulator_row}
 use Rattle.lvdc_modules.specs.Multiplier.{multiplier_row}
 use Rattle.lvdc_modules.specs.Exchange.{exchange_row}
 use Rattle.lvdc_modules.specs.declared.bus.Bus.{Bus}
-use Rattle.lvdc_modules.specs.declared.next.Next.{Next}
 use Rattle.lvdc_fault.specs.Events.{IsEvent}
 use Rattle.lvdc_fault.specs.declared.event.Event.{Event}
 use Rattle.lvdc_model.specs.Voted.{inputs, next_copies}
@@ -55,40 +54,40 @@ copy_harmed suffices script step f t voted sized events in_force hears n h = by 
       (in_force.others n h (ap (λ (mark : Bool). f.any && mark) e ∙ and_false f.any))
 
 -- the three copies of a module
-three_are : (f : InForce) (first : ℕ) (t : Copies) (next row a b c : List ℕ) → next ≡ row → harmed_by (harm_on f first) t.one row ≡ a
-    → harmed_by (harm_on f (first + 1)) t.two row ≡ b → harmed_by (harm_on f (first + 2)) t.three row ≡ c → three_harmed f first t next ≡ settled a b c
-three_are f first t next row a b c is one two three = ap (three_harmed f first t) is ∙ (λ j. settled (one j) (two j) (three j))
+three_are : (f : InForce) (first : ℕ) (t : Copies) (row a b c : List ℕ) → harmed_by (harm_on f first) t.one row ≡ a
+    → harmed_by (harm_on f (first + 1)) t.two row ≡ b → harmed_by (harm_on f (first + 2)) t.three row ≡ c → three_harmed f first t row ≡ settled a b c
+three_are f first t row a b c one two three = λ j. settled (one j) (two j) (three j)
 
 -- the copies of the next step
-pub harms_are : HarmSuffices → (script : List Event) (step : ℕ) (f : InForce) (t : Triples) (voted : Bus) (n : Next) → AllSized t → All IsEvent script
-    → IsInForce script step f → f.deaf ≡ false → IsNext voted n
-    → copies_in (after_harms f t n) ≡ next_copies script step 1 rows (copies_in t) (copies_in t) voted
+pub harms_are : HarmSuffices → (script : List Event) (step : ℕ) (f : InForce) (t : Triples) (voted : Bus) → AllSized t → All IsEvent script
+    → IsInForce script step f → f.deaf ≡ false
+    → copies_in (after_harms f t (renewed voted)) ≡ next_copies script step 1 rows (copies_in t) (copies_in t) voted
 unfolding new_latches
-harms_are suffices script step f t voted n sized events in_force hears is =
+harms_are suffices script step f t voted sized events in_force hears =
     let latched = new_latches script step t voted in
     let each = copy_harmed suffices script step f t voted sized events in_force hears in
     rw (
-      three_are f 0 t.timer (timer_latches n.timer) (timer_row voted) (latched 0) (latched 1) (latched 2) is.timer (each 0 (omega arith)) (each 1 (omega arith)) (each 2 (omega arith)),
-      three_are f 3 t.locator (locator_latches n.locator) (locator_row voted) (latched 3) (latched 4) (latched 5) is.locator (each 3 (omega arith)) (each 4 (omega arith)) (each 5 (omega arith)),
-      three_are f 6 t.decoder (decoder_latches n.decoder) (decoder_row voted) (latched 6) (latched 7) (latched 8) is.decoder (each 6 (omega arith)) (each 7 (omega arith)) (each 8 (omega arith)),
-      three_are f 9 t.selector (selector_latches n.selector) (selector_row voted) (latched 9) (latched 10) (latched 11) is.selector (each 9 (omega arith)) (each 10 (omega arith)) (each 11 (omega arith)),
-      three_are f 12 t.accumulator (accumulator_latches n.accumulator) (accumulator_row voted) (latched 12) (latched 13) (latched 14) is.accumulator (each 12 (omega arith)) (each 13 (omega arith)) (each 14 (omega arith)),
-      three_are f 15 t.multiplier (multiplier_latches n.multiplier) (multiplier_row voted) (latched 15) (latched 16) (latched 17) is.multiplier (each 15 (omega arith)) (each 16 (omega arith)) (each 17 (omega arith)),
-      three_are f 18 t.exchange (exchange_latches n.exchange) (exchange_row voted) (latched 18) (latched 19) (latched 20) is.exchange (each 18 (omega arith)) (each 19 (omega arith)) (each 20 (omega arith)),
+      three_are f 0 t.timer (timer_row voted) (latched 0) (latched 1) (latched 2) (each 0 (omega arith)) (each 1 (omega arith)) (each 2 (omega arith)),
+      three_are f 3 t.locator (locator_row voted) (latched 3) (latched 4) (latched 5) (each 3 (omega arith)) (each 4 (omega arith)) (each 5 (omega arith)),
+      three_are f 6 t.decoder (decoder_row voted) (latched 6) (latched 7) (latched 8) (each 6 (omega arith)) (each 7 (omega arith)) (each 8 (omega arith)),
+      three_are f 9 t.selector (selector_row voted) (latched 9) (latched 10) (latched 11) (each 9 (omega arith)) (each 10 (omega arith)) (each 11 (omega arith)),
+      three_are f 12 t.accumulator (accumulator_row voted) (latched 12) (latched 13) (latched 14) (each 12 (omega arith)) (each 13 (omega arith)) (each 14 (omega arith)),
+      three_are f 15 t.multiplier (multiplier_row voted) (latched 15) (latched 16) (latched 17) (each 15 (omega arith)) (each 16 (omega arith)) (each 17 (omega arith)),
+      three_are f 18 t.exchange (exchange_row voted) (latched 18) (latched 19) (latched 20) (each 18 (omega arith)) (each 19 (omega arith)) (each 20 (omega arith)),
     ) refl
 
 -- and no copy has latched since
 three_fresh : (f : InForce) (first : ℕ) (t : Copies) (next : List ℕ) → IsFresh (three_harmed f first t next)
 three_fresh f first t next = record { one = refl; two = refl; three = refl }
 
-pub harms_fresh : (f : InForce) (t : Triples) (n : Next) → AllFresh (after_harms f t n)
-harms_fresh f t n =
+pub harms_fresh : (f : InForce) (t : Triples) (b : Bus) → AllFresh (after_harms f t b)
+harms_fresh f t b =
     record {
-      timer = three_fresh f 0 t.timer (timer_latches n.timer);
-      locator = three_fresh f 3 t.locator (locator_latches n.locator);
-      decoder = three_fresh f 6 t.decoder (decoder_latches n.decoder);
-      selector = three_fresh f 9 t.selector (selector_latches n.selector);
-      accumulator = three_fresh f 12 t.accumulator (accumulator_latches n.accumulator);
-      multiplier = three_fresh f 15 t.multiplier (multiplier_latches n.multiplier);
-      exchange = three_fresh f 18 t.exchange (exchange_latches n.exchange);
+      timer = three_fresh f 0 t.timer (timer_latches b.timer);
+      locator = three_fresh f 3 t.locator (locator_latches b.locator);
+      decoder = three_fresh f 6 t.decoder (decoder_latches b.decoder);
+      selector = three_fresh f 9 t.selector (selector_latches b.selector);
+      accumulator = three_fresh f 12 t.accumulator (accumulator_latches b.accumulator);
+      multiplier = three_fresh f 15 t.multiplier (multiplier_latches b.multiplier);
+      exchange = three_fresh f 18 t.exchange (exchange_latches b.exchange);
     }

@@ -3,7 +3,6 @@ use Rattle.std.specs.Prelude.{ℕ, ◌+◌, ◌/◌, ◌%◌, List}
 use Rattle.lvdc_vote.specs.Copies.{Copies, settled}
 use Rattle.lvdc_vote.specs.Harms.{harmed, harmed_by}
 use Rattle.lvdc_modules.specs.States.{timer_latches, locator_latches, decoder_latches, selector_latches, accumulator_latches, multiplier_latches, exchange_latches}
-use Rattle.lvdc_modules.specs.declared.next.Next.{Next}
 use Rattle.lvdc_modules.specs.declared.bus.Bus.{Bus}
 use Rattle.lvdc_model.specs.Voted.{inputs}
 use Rattle.lvdc_forces.specs.InForce.{harm_on}
@@ -25,15 +24,15 @@ three_harmed f first t next =
     (harmed_by (harm_on f (first + 1)) t.two next)
     (harmed_by (harm_on f (first + 2)) t.three next)
 
--- those of all modules, where these states follow
-abbrev pub after_harms : InForce → Triples → Next → Triples
-after_harms f t n =
+-- those of all modules, where the states on this bus follow
+abbrev pub after_harms : InForce → Triples → Bus → Triples
+after_harms f t b =
     record {
-      timer = three_harmed f 0 t.timer (timer_latches n.timer);
-      locator = three_harmed f 3 t.locator (locator_latches n.locator);
-      decoder = three_harmed f 6 t.decoder (decoder_latches n.decoder);
-      selector = three_harmed f 9 t.selector (selector_latches n.selector);
-      accumulator = three_harmed f 12 t.accumulator (accumulator_latches n.accumulator);
-      multiplier = three_harmed f 15 t.multiplier (multiplier_latches n.multiplier);
-      exchange = three_harmed f 18 t.exchange (exchange_latches n.exchange);
+      timer = three_harmed f 0 t.timer (timer_latches b.timer);
+      locator = three_harmed f 3 t.locator (locator_latches b.locator);
+      decoder = three_harmed f 6 t.decoder (decoder_latches b.decoder);
+      selector = three_harmed f 9 t.selector (selector_latches b.selector);
+      accumulator = three_harmed f 12 t.accumulator (accumulator_latches b.accumulator);
+      multiplier = three_harmed f 15 t.multiplier (multiplier_latches b.multiplier);
+      exchange = three_harmed f 18 t.exchange (exchange_latches b.exchange);
     }

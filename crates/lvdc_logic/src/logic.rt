@@ -94,15 +94,12 @@ impl Logic {
         ensures differed { (most : ℕ) → DifferedAtMost most self.old.counts → DifferedAtMost (most + 1) self.new.counts }
     {
         if force.any {
-            let voted = Bus {
-                memory,
-                port,
-                ..self.bus
-            };
             self.triples.stand_apart(self.apart, &self.bus);
             self.apart = true;
-            self.triples.step(order, force, &voted, &mut self.counts);
-            self.bus = self.triples.voted_bus(Word::ZERO, Word::ZERO);
+            self.bus.memory = memory;
+            self.bus.port = port;
+            self.triples
+                .step(order, force, &mut self.bus, &mut self.counts);
         } else {
             self.bus.memory = memory;
             self.bus.port = port;

@@ -13,11 +13,9 @@ ghost use Rattle.lvdc_logic.specs.Logic.{DifferedAtMost};
 
 use crate::counts::Counts;
 use lvdc_forces::{Faults, InForce};
-use lvdc_modules::{
-    Accumulator, Bus, Decoder, Exchanger, Locator, Multiplier, Next, Selector, Timer,
-};
+use lvdc_modules::{Accumulator, Bus, Decoder, Exchanger, Locator, Multiplier, Selector, Timer};
 use lvdc_orders::Order;
-use lvdc_vote::{Harm, LogicModule, Triple, harm_suffices};
+use lvdc_vote::{Harm, LogicModule, Triple, Vote, harm_suffices};
 use lvdc_word::Word;
 
 /// Three copies of each module, and what each has latched.
@@ -74,24 +72,28 @@ impl Triples {
         }
     }
 
-    /// Makes a step with this in force, from this bus. Each copy that differs from the new vote is counted.
-    pub fn step(&mut self, order: &Order, force: &InForce, voted: &Bus, counts: &mut Counts)
+    /// Makes a step with this in force, from this bus of the votes, which becomes that of the new ones. Each copy that differs from the
+    /// new vote is counted.
+    pub fn step(&mut self, order: &Order, force: &InForce, bus: &mut Bus, counts: &mut Counts)
         requires fresh { AllFresh self.old }
         requires sized { AllSized self.old }
         requires any { force.now.any ≡ true }
         requires differed { DifferedAtMost (2 ^ 63) (counts_in counts.old) }
         ensures copies { (script : List Event) (step : ℕ) → All IsEvent script → IsInForce script step force.now
-            → copies_in self.new ≡ next_copies script step 1 rows (copies_in self.old) (copies_in self.old) voted.now }
+            → copies_in self.new ≡ next_copies script step 1 rows (copies_in self.old) (copies_in self.old) bus.old }
         ensures counts { counts_in counts.new ≡ counted (copies_in self.new) (counts_in counts.old) }
+        ensures votes { bus.new ≡ bus_of (map vote_of (copies_in self.new)) 0 0 }
         ensures fresh { AllFresh self.new }
         ensures sized { AllSized self.new }
     {
         harm_suffices();
         if force.deaf {
-            self.latch_named(order, force, voted);
-            self.settle(voted, counts);
+            self.latch_named(order, force, bus);
+            self.settle(bus, counts);
+            *bus = self.voted_bus(Word::ZERO, Word::ZERO);
         } else {
-            self.renew_under(force, Next::of(voted), counts);
+            bus.renew();
+            self.renew_under(force, bus, counts);
         }
     }
 
@@ -161,57 +163,65 @@ impl Triples {
         }
     }
 
-    /// No copy is deaf: each that is marked latches what follows for its module under what is wrong with it, and every other one has what
-    /// follows. No copy waits for another, so there is no order. Each copy that differs from the new vote is counted.
-    fn renew_under(&mut self, force: &InForce, next: Next, counts: &mut Counts)
+    /// No copy is deaf: each that is marked latches what follows for its module, which is on this bus, under what is wrong with it, and
+    /// every other one has what follows. No copy waits for another, so there is no order. The bus becomes that of the new votes, and each
+    /// copy that differs from them is counted.
+    fn renew_under(&mut self, force: &InForce, next: &mut Bus, counts: &mut Counts)
         requires fresh { AllFresh self.old }
         requires differed { DifferedAtMost (2 ^ 63) (counts_in counts.old) }
-        ensures value { self.new ≡ after_harms force.now self.old next }
+        ensures value { self.new ≡ after_harms force.now self.old next.old }
+        ensures votes { next.new ≡ bus_of (map vote_of (copies_in self.new)) next.old.memory next.old.port }
         ensures counts { counts_in counts.new ≡ counted (copies_in self.new) (counts_in counts.old) }
         ensures sized { AllSized self.new }
     {
-        renew(&mut self.timer, &mut counts.timer, force, 0, next.timer);
+        renew(
+            &mut self.timer,
+            &mut counts.timer,
+            force,
+            0,
+            &mut next.timer,
+        );
         renew(
             &mut self.locator,
             &mut counts.locator,
             force,
             3,
-            next.locator,
+            &mut next.locator,
         );
         renew(
             &mut self.decoder,
             &mut counts.decoder,
             force,
             6,
-            next.decoder,
+            &mut next.decoder,
         );
         renew(
             &mut self.selector,
             &mut counts.selector,
             force,
             9,
-            next.selector,
+            &mut next.selector,
         );
         renew(
             &mut self.accumulator,
             &mut counts.accumulator,
             force,
             12,
-            next.accumulator,
+            &mut next.accumulator,
         );
         renew(
             &mut self.multiplier,
             &mut counts.multiplier,
             force,
             15,
-            next.multiplier,
+            &mut next.multiplier,
         );
         renew(
             &mut self.exchange,
             &mut counts.exchange,
             force,
             18,
-            next.exchange,
+            &mut next.exchange,
         );
     }
 
@@ -244,28 +254,45 @@ fn settle<M: LogicModule>(triple: &mut Triple<M>, counts: &mut [u64; 3], voted: 
     *counts = counted_three(triple, *counts);
 }
 
-/// The next copies of a module, numbered from the first on, where this state follows; and their counts.
+/// The next copies of a module, numbered from the first on, where this state follows, which becomes their vote; and their counts.
+#[inline(always)]
 fn renew<M: LogicModule>(
     triple: &mut Triple<M>,
     counts: &mut [u64; 3],
     force: &InForce,
     first: u8,
-    next: M::State,
+    next: &mut M::State,
 )
     requires first { first + 2 < 21 }
     requires fresh { IsFresh triple.old }
     requires differed { (c : ℕ) → slice_index counts.old c ≤ 2 ^ 63 }
-    ensures value { triple.new ≡ three_harmed force.now first triple.old (M.State.latches next) }
+    ensures value { triple.new ≡ three_harmed force.now first triple.old (M.State.latches next.old) }
+    ensures vote { M.State.latches next.new ≡ vote_of triple.new }
     ensures counts { counts.new ≡ counted_three triple.new counts.old }
     ensures sized { IsSized M.State.LATCHES triple.new }
 {
-    triple.renew_under(
-        next,
-        force.harm_on(first),
-        force.harm_on(first + 1),
-        force.harm_on(first + 2),
-    );
-    *counts = counted_three(triple, *counts);
+    let one = &force.on_copy(first).harm;
+    let two = &force.on_copy(first + 1).harm;
+    let three = &force.on_copy(first + 2).harm;
+    match (
+        force.is_marked(first),
+        force.is_marked(first + 1),
+        force.is_marked(first + 2),
+    ) {
+        (false, false, false) => triple.renew(next.copied()),
+        (true, false, false) => counts[0] += u64::from(triple.renew_one(next, one)),
+        (false, true, false) => counts[1] += u64::from(triple.renew_two(next, two)),
+        (false, false, true) => counts[2] += u64::from(triple.renew_three(next, three)),
+        _ => {
+            triple.renew_under(
+                next,
+                force.harm_on(first),
+                force.harm_on(first + 1),
+                force.harm_on(first + 2),
+            );
+            *counts = counted_three(triple, *counts);
+        }
+    }
 }
 
 /// The counts of the copies of a module, with one more for each that differs from the vote.

@@ -1,5 +1,6 @@
-use Rattle.std.proofs.Common.{arith}
+use Rattle.std.proofs.Common.{arith, ap}
 use Rattle.std.specs.Prelude.{◌^◌}
+use Rattle.lvdc_modules.specs.States.{timer_of, locator_of, decoder_of, selector_of, accumulator_of, multiplier_of, exchange_of}
 use Rattle.lvdc_logic.specs.Counts.{counts_in}
 use Rattle.lvdc_logic.proofs.Differing.{at_most}
 use Rattle.lvdc_logic.proofs.triples.Triples.renew_under.Goals as goal
@@ -24,3 +25,17 @@ renew-requires-6 c = record { first = omega arith; fresh = c.requires.fresh.mult
 
 pub renew-requires-7 : goal.renew-requires-7
 renew-requires-7 c = record { first = omega arith; fresh = c.requires.fresh.exchange; differed = at_most (2 ^ 63) (counts_in c.args.counts.now) c.requires.differed 6 }
+
+pub returns-clause-votes : goal.returns-clause-votes
+returns-clause-votes c = λ i.
+    record {
+      timer = ap timer_of c.renew.ensures.vote i;
+      locator = ap locator_of c.renew-2.ensures.vote i;
+      decoder = ap decoder_of c.renew-3.ensures.vote i;
+      selector = ap selector_of c.renew-4.ensures.vote i;
+      accumulator = ap accumulator_of c.renew-5.ensures.vote i;
+      multiplier = ap multiplier_of c.renew-6.ensures.vote i;
+      exchange = ap exchange_of c.renew-7.ensures.vote i;
+      memory = c.args.next.now.memory;
+      port = c.args.next.now.port;
+    }

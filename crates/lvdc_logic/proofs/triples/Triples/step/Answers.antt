@@ -1,6 +1,6 @@
 use Rattle.std.proofs.Common.{Bool, ◌&&◌, ◌∙◌, ap}
 use Rattle.lvdc_forces.specs.InForce.{faults_at, mark_at}
-use Rattle.lvdc_logic.specs.Harmed.{latched_under}
+use Rattle.lvdc_logic.specs.Harmed.{after_harms, latched_under}
 use Rattle.lvdc_logic.specs.Latching.{copies_in, after_steps}
 use Rattle.lvdc_logic.specs.declared.triples.Triples.{Triples}
 use Rattle.lvdc_logic.proofs.Commits.{steps_are, steps_fresh}
@@ -12,7 +12,7 @@ pub returns-then-force-clause-copies : goal.returns-then-force-clause-copies
 returns-then-force-clause-copies c script step events in_force =
     let t = c.args.self.now in
     let force = c.args.force.now in
-    let voted = c.args.voted.now in
+    let voted = c.args.bus.now in
     ap copies_in (c.settle.ensures.value ∙ ap (λ (t : Triples). after_steps t voted) c.latch_named.ensures.value)
     ∙ steps_are script step t (mark_at force.marks) c.args.order.now voted (λ n. latched_under (faults_at force.copies n) t voted n) c.requires.fresh
     (latched_is c.harm_suffices.ensures script step force t voted c.requires.sized events in_force)
@@ -20,13 +20,13 @@ returns-then-force-clause-copies c script step events in_force =
     (λ n h off. in_force.others n h (ap (λ (any : Bool). any && mark_at force.marks n) c.requires.any ∙ off))
 
 pub returns-then-force-clause-fresh : goal.returns-then-force-clause-fresh
-returns-then-force-clause-fresh c = rw c.settle.ensures.value (steps_fresh c.latch_named.new.self c.args.voted.now)
+returns-then-force-clause-fresh c = rw c.settle.ensures.value (steps_fresh c.latch_named.new.self c.args.bus.now)
 
 pub returns-else-force-clause-copies : goal.returns-else-force-clause-copies
 returns-else-force-clause-copies c script step events in_force =
-    ap copies_in c.renew_under.ensures.value
-    ∙ harms_are c.harm_suffices.ensures script step c.args.force.now c.args.self.now c.args.voted.now c.of.result c.requires.sized events in_force
-    c.if-force.false c.of.ensures
+    ap copies_in (c.renew_under.ensures.value ∙ ap (after_harms c.args.force.now c.args.self.now) c.renew.ensures)
+    ∙ harms_are c.harm_suffices.ensures script step c.args.force.now c.args.self.now c.args.bus.now c.requires.sized events in_force
+    c.if-force.false
 
 pub returns-else-force-clause-fresh : goal.returns-else-force-clause-fresh
-returns-else-force-clause-fresh c = rw c.renew_under.ensures.value (harms_fresh c.args.force.now c.args.self.now c.of.result)
+returns-else-force-clause-fresh c = rw c.renew_under.ensures.value (harms_fresh c.args.force.now c.args.self.now c.renew.new.self)
