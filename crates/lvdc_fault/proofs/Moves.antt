@@ -1,5 +1,5 @@
 -- From one step to another: what is held is what is active.
-use Rattle.std.proofs.Common.{◌≡◌, ℕ, suc, ◌+◌, ◌<◌, ◌≤◌, List, [], ◌++◌, length, filter, take, drop, get_or, All, Option, Some, None, IfSome, MatchOption, refl, sym, ap, ◌∙◌, subst, arith, cond, length-drop, length-take, get_or-drop, map, lit≤, append-nil}
+use Rattle.std.proofs.Common.{◌≡◌, ℕ, suc, ◌+◌, ◌<◌, ◌≤◌, List, [], ◌++◌, length, filter, take, drop, get_or, All, Option, Some, None, IfSome, MatchOption, refl, sym, ap, ◌∙◌, subst, arith, cond, length-drop, length-take, get_or-drop, map, lit≤}
 use Rattle.std.proofs.Math.Seq.{take-add}
 use Rattle.std.specs.List.{sum_by}
 use Rattle.std.specs.List.Sorted.{IsPermutation, IsNonDecreasing}
@@ -11,8 +11,9 @@ use Rattle.std.proofs.lemmas.List.Elements.{All-weaker, All-take, All-drop, All-
 use Rattle.lvdc_fault.specs.declared.event.Event.{Event}
 use Rattle.lvdc_fault.specs.declared.start.Start.{Start}
 use Rattle.lvdc_fault.specs.Script.{active_at}
-use Rattle.lvdc_fault.specs.Activity.{Activity, Fits, Holds, HaveBegun, IsReady, starts_of, active_of, is_active_at}
+use Rattle.lvdc_fault.specs.Activity.{Activity, EndsFrom, Fits, Holds, HaveBegun, IsReady, starts_of, active_of, is_active_at}
 use Rattle.lvdc_fault.proofs.Rising.{SameSums, rises_from_sorted, same_rising, sorted_from_rises}
+use Rattle.lvdc_fault.proofs.Staying.{all_kept}
 use Rattle.lvdc_fault.proofs.Starts.{IsStart, stand-all, starts_are, actives, active-rises, none_active, still_active, sum-filter, share, sum-active, sum-ones, length-starts, active-append}
 
 module _ (script : List Event) (order : List Start) (whole : IsPermutation (starts_of script) order) where
@@ -86,15 +87,25 @@ module _ (script : List Event) (a : Activity) (step : ℕ) (fits : Fits script a
         fits.room,
       )
 
-  -- where no more have begun, what is kept is sorted
+  -- what is kept is sorted
   sorted_by : (last : Option ℕ) → IfSome last (Holds script a) → MatchOption last ((a.begun ≡ 0) × (a.held ≡ [])) (λ last. suc last ≡ step) → IsNonDecreasing a.held
   sorted_by None kept ready = rw ready.1 (sorted_from_rises 0 [] tt)
   sorted_by (Some last) kept ready = rw kept.held (sorted_from_rises 0 (active_at script last) (active-rises last 0 0 script (lit≤ tt)))
 
-  pub kept_sorted : (n : ℕ) (now : List ℕ) → n ≡ 0 → now ≡ filter (is_active_at script step) a.held ++ active_of script step (take n (drop a.begun a.order)) → IsNonDecreasing now
-  kept_sorted n now none is =
-      rw (is, none, append-nil (filter (is_active_at script step) a.held))
-      (IsNonDecreasingBy-filter (λ p. p) (is_active_at script step) a.held (sorted_by a.last fits.kept ready))
+  pub kept_sorted : IsNonDecreasing (filter (is_active_at script step) a.held)
+  kept_sorted = IsNonDecreasingBy-filter (λ p. p) (is_active_at script step) a.held (sorted_by a.last fits.kept ready)
+
+  -- where none has ended, all is kept
+  kept_all : (last : Option ℕ) → IfSome last (Holds script a) → MatchOption last ((a.begun ≡ 0) × (a.held ≡ [])) (λ last. suc last ≡ step) → step < a.ends
+      → filter (is_active_at script step) a.held ≡ a.held
+  kept_all None kept ready soon = rw ready.1 refl
+  kept_all (Some last) kept ready soon =
+      subst (λ s. filter (is_active_at script s) a.held ≡ a.held) ready
+      (subst (λ ps. filter (is_active_at script (suc last)) ps ≡ ps) (sym kept.held)
+      (all_kept script last a.ends (subst (λ s. s < a.ends) (sym ready) soon) 0 script (stand-all script) (subst (All (EndsFrom script a.ends)) kept.held fits.ending)))
+
+  pub none_ended : step < a.ends → filter (is_active_at script step) a.held ≡ a.held
+  none_ended soon = kept_all a.last fits.kept ready soon
 
   -- n more have begun
   module _ (n : ℕ) (within : n ≤ length (drop a.begun a.order)) (before : All (λ s. s.first ≤ step) (take n (drop a.begun a.order)))

@@ -1,9 +1,12 @@
 -- The starts of a script, and the positions of those that are active.
-use Rattle.std.proofs.Common.{◌≡◌, ℕ, suc, ◌+◌, ◌<◌, ◌≤◌, Bool, true, false, cond, List, [], ◌∷◌, ◌++◌, length, filter, take, get_or, All, Some, slice_get, refl, sym, ap, ◌∙◌, subst, arith, add-zero, length-take, true≢false, zero-add, append_assoc}
+use Rattle.std.proofs.Common.{◌≡◌, ℕ, suc, ◌+◌, ◌<◌, ◌≤◌, Bool, true, false, cond, List, [], ◌∷◌, ◌++◌, length, filter, take, get_or, All, Some, slice_get, refl, sym, ap, ◌∙◌, subst, arith, add-zero, length-take, true≢false, zero-add, append_assoc, append-nil}
 use Rattle.std.specs.List.{sum_by}
+use Rattle.std.specs.Prelude.{nat_lt}
+use Rattle.std.specs.List.Sorted.{IsPermutation}
 use Rattle.std.specs.List.Retain.{RetainsInTurn}
 use Rattle.std.proofs.lemmas.List.{take_more}
 use Rattle.std.proofs.lemmas.List.Sums.{sum_by-cons}
+use Rattle.std.proofs.lemmas.List.Sorted.{IsPermutation-trans, IsPermutation-append_left}
 use Rattle.std.proofs.lemmas.List.Elements.{All-cons, All-head, All-tail, All-nil}
 use Rattle.std.proofs.lemmas.Bool.Decides.{nat_tests}
 use Rattle.lvdc_fault.specs.declared.event.Event.{Event}
@@ -165,6 +168,31 @@ taken-more script step ss i d b before held now h is so_far new =
     ap (active_of script step) (take_more ss i d h) ∙ active-append script step (take i ss) (get_or ss i d ∷ [])
     ∙ ap (λ c. active_of script step (take i ss) ++ cond c ((get_or ss i d).position ∷ []) []) (sym is) in
     new ∙ ap (λ ps. ps ++ one) so_far ∙ append_assoc before (active_of script step (take i ss)) one ∙ ap (λ ps. before ++ ps) (sym more)
+
+-- and the same where it is put among those held
+pub put-more : (script : List Event) (step : ℕ) (ss : List Start) (i : ℕ) (d : Start) (before held now : List ℕ) → i < length ss
+    → true ≡ is_active_at script step (get_or ss i d).position → IsPermutation (before ++ active_of script step (take i ss)) held
+    → IsPermutation (held ++ (get_or ss i d).position ∷ []) now → IsPermutation (before ++ active_of script step (take (i + 1) ss)) now
+put-more script step ss i d before held now h is so_far new =
+    let p = (get_or ss i d).position in
+    let old = before ++ active_of script step (take i ss) in
+    let more : old ++ p ∷ [] ≡ before ++ active_of script step (take (i + 1) ss) = taken-more script step ss i d true before old (old ++ p ∷ []) h is refl refl in
+    subst (λ ps. IsPermutation ps now) more
+    (IsPermutation-trans (old ++ p ∷ []) (held ++ p ∷ []) now (IsPermutation-append_left (p ∷ []) old held so_far) new)
+
+pub put-same : (script : List Event) (step : ℕ) (ss : List Start) (i : ℕ) (d : Start) (before held : List ℕ) → i < length ss
+    → false ≡ is_active_at script step (get_or ss i d).position → IsPermutation (before ++ active_of script step (take i ss)) held
+    → IsPermutation (before ++ active_of script step (take (i + 1) ss)) held
+put-same script step ss i d before held h is so_far =
+    let old = before ++ active_of script step (take i ss) in
+    subst (λ ps. IsPermutation ps held) (taken-more script step ss i d false before old old h is refl (sym (append-nil old))) so_far
+
+-- what the test of a place says
+pub below-is : (x p : ℕ) → nat_lt x p ≡ true → x ≤ p
+below-is x p h = grind (arith, nat_tests)
+
+pub not-below : (x p : ℕ) → nat_lt x p ≡ false → p ≤ x
+not-below x p h = grind (arith, nat_tests)
 
 -- ---- sums of positions
 

@@ -6,7 +6,8 @@ use Rattle.lvdc_fault.specs.declared.start.Start.{Start}
 use Rattle.lvdc_fault.specs.Script.{is_active, span_of, first_of, active_at}
 
 -- the positions of the events by rising first step, how many of them have begun, the positions held, the room for such, the
--- step that they are held for, and the first step after it for which others may have to be held
+-- step that they are held for, the first step after it for which others may have to be held, and one up to which none that is
+-- held has ended
 pub record Activity : Type 0 where
   pub order : List Start
   pub begun : ℕ
@@ -14,6 +15,7 @@ pub record Activity : Type 0 where
   pub room : ℕ
   pub last : Option ℕ
   pub until : ℕ
+  pub ends : ℕ
 
 -- the first steps of a list of events, whose first one has this position
 abbrev pub starts_from : ℕ → List Event → List Start
@@ -38,14 +40,20 @@ pub record Holds (script : List Event) (a : Activity) (step : ℕ) : Type 0 wher
 abbrev pub HoldsUntil : List Event → Activity → ℕ → Type 0
 HoldsUntil script a step = (t : ℕ) → step ≤ t → t < a.until → Holds script a t
 
+-- the event at a position, if there is one, isn't active from a step on, if it was before
+abbrev pub EndsFrom : List Event → ℕ → ℕ → Type 0
+EndsFrom script until position = IfSome (slice_get script position) (λ e. until ≤ (span_of e).last + 1)
+
 -- an activity fits a script: there is room for each event; the order holds each position once and no other, by rising first
--- step; and what is held is right for the step that it is held for, and until others may have to be held
+-- step; what is held is right for the step that it is held for, and until others may have to be held; and none of it has ended too
+-- soon
 pub record Fits (script : List Event) (a : Activity) : Type 0 where
   pub room : length script ≤ a.room
   pub order : IsPermutation (starts_of script) a.order
   pub rising : IsNonDecreasingBy (λ s. s.first) a.order
   pub kept : IfSome a.last (Holds script a)
   pub lasting : IfSome a.last (HoldsUntil script a)
+  pub ending : All (EndsFrom script a.ends) a.held
 
 -- it is ready to move on to a step: what is held is held for the step before, or nothing is
 abbrev pub IsReady : ℕ → Activity → Type 0
@@ -62,10 +70,6 @@ pub record Stays (script : List Event) (a : Activity) (step : ℕ) : Type 0 wher
   pub lasts : Lasts a step
   pub held : a.held ≡ active_at script step
   pub same : IsSomeAnd a.last (λ before. (suc before ≡ step) × (active_at script step ≡ active_at script before))
-
--- the event at a position, if there is one, isn't active from a step on, if it was before
-abbrev pub EndsFrom : List Event → ℕ → ℕ → Type 0
-EndsFrom script until position = IfSome (slice_get script position) (λ e. until ≤ (span_of e).last + 1)
 
 -- is the event, if there is one, active at a step?
 abbrev pub is_active_in : Option Event → ℕ → Bool
