@@ -152,7 +152,7 @@ idle-damages step (Damage twin place when mask) t h = ap (λ (b : Bool). cond b 
 idle-damages step _ t h = refl
 
 -- an event that doesn't damage can be left out
-damages-step : (step : ℕ) (b : Bool) (e : Event) (es fs : List Event) (t : Twins) → (b ≡ false → damages_by step e t ≡ t)
+pub damages-step : (step : ℕ) (b : Bool) (e : Event) (es fs : List Event) (t : Twins) → (b ≡ false → damages_by step e t ≡ t)
     → ((u : Twins) → damages step fs u ≡ damages step es u) → damages step (cond b (e ∷ fs) fs) t ≡ damages step (e ∷ es) t
 damages-step step true e es fs t idle rest = rest (damages_by step e t)
 damages-step step false e es fs t idle rest = rest t ∙ ap (damages step es) (sym (idle refl))

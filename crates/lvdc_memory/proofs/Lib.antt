@@ -1,6 +1,7 @@
 mod Begins
 pub mod Begun
 mod Carrying
+mod Changing
 pub mod OnMemory
 mod Positions
 mod Releasing

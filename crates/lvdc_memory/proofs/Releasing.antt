@@ -67,7 +67,7 @@ pub released-none : (script : List Event) (s : Store) → Released script [] s s
 released-none script s = record { stuck = λ twin two place here. refl; dead = λ twin two pair small. refl; cells = refl; selected = refl }
 
 -- released by one or the other
-both_released : {X : Type 0} (a b : Bool) (x y : X) → cond a x (cond b x y) ≡ cond (b || a) x y
+pub both_released : {X : Type 0} (a b : Bool) (x y : X) → cond a x (cond b x y) ≡ cond (b || a) x y
 both_released true true x y = refl
 both_released true false x y = refl
 both_released false true x y = refl
@@ -93,7 +93,7 @@ released-push script ps p e s u v here h one =
 -- ---- all released
 
 -- neither of two
-or_parts : (a b : Bool) → (a || b) ≡ false → (a ≡ false) × (b ≡ false)
+pub or_parts : (a b : Bool) → (a || b) ≡ false → (a ≡ false) × (b ≡ false)
 or_parts false b h = (refl, h)
 or_parts true b h = absurd (true≢false h)
 

@@ -1,6 +1,7 @@
 //! The memory of the voted machine: two twins under a fault script, and the words that are intended there.
 #![tactic(auto)]
 
+mod changed;
 mod memory;
 mod own_events;
 mod resume;

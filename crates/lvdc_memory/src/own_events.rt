@@ -12,6 +12,7 @@ ghost use Rattle.lvdc_memory.specs.Holds.{Holds};
 ghost use Rattle.lvdc_memory.specs.OnMemory.{is_on_memory, on_memory};
 
 use crate::VotedMemory;
+use crate::changed::{change_few, few_changes};
 use lvdc_fault::{Active, Event, Script};
 use lvdc_word::NoMemory;
 use std::alloc::Global;
@@ -83,6 +84,24 @@ fn keep_memory(script: &Script, step: u64, active: &mut Active, memory: &VotedMe
 
 /// Begins a step in which other events may be active than in the step before.
 fn change_memory(script: &Script, step: u64, active: &mut Active, memory: &mut VotedMemory)
+    requires events { All IsEvent script.now }
+    requires fits { Fits script.now active.old }
+    requires within { All (λ position. position < length script.now) active.old.held }
+    ensures fits { Fits script.now active.new }
+    ensures within { All (λ position. position < length script.now) active.new.held }
+    ensures last { active.new.last ≡ Some step }
+    ensures banks { memory.new.twins.banks ≡ memory.old.twins.banks }
+    ensures begun { (o : Trial) (t : model.Twins) (i : Memory) → o.script ≡ script.now → Holds o active.old.last memory.old t i
+        → Holds o (Some step) memory.new (damages step o.script t) i }
+{
+    match few_changes(script, step, active) {
+        Some(few) => change_few(script, step, &few, active, memory),
+        None => change_all(script, step, active, memory),
+    }
+}
+
+/// Begins a step whichever events begin or end with it: releases what is in force, and puts all that the step has in force.
+fn change_all(script: &Script, step: u64, active: &mut Active, memory: &mut VotedMemory)
     requires events { All IsEvent script.now }
     requires fits { Fits script.now active.old }
     requires within { All (λ position. position < length script.now) active.old.held }

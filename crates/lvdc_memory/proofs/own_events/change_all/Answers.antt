@@ -1,6 +1,6 @@
 use Rattle.std.proofs.Common.{sym}
 use Rattle.lvdc_memory.proofs.Begun.{released}
-use Rattle.lvdc_memory.proofs.own_events.change_memory.Goals as goal
+use Rattle.lvdc_memory.proofs.own_events.change_all.Goals as goal
 
 pub returns-clause-begun : goal.returns-clause-begun
 returns-clause-begun c = λ o t i is h.
