@@ -1,6 +1,6 @@
 //! The voted machine.
 
-ghost use Rattle.std.specs.Prelude.{◌≡◌, ℕ, ◌+◌, ◌*◌, ◌≤◌, ◌<◌, List, length, map, All, true, IfOk, [], vec_capacity};
+ghost use Rattle.std.specs.Prelude.{◌≡◌, ℕ, ◌+◌, ◌*◌, ◌≤◌, ◌<◌, List, length, map, All, true, IfOk};
 ghost use Rattle.lvdc_map.specs.Memory.{are_rising, AllThere};
 ghost use Rattle.lvdc_port.specs.Device as device;
 ghost use Rattle.lvdc_port.specs.Devices.{AreDistinct, HoldWords};
@@ -26,6 +26,7 @@ use lvdc_memory::{VotedMemory, memory_events};
 use lvdc_model::{Outcome, Repair};
 use lvdc_plain::{Exchange, Unplug};
 use lvdc_port::{PortDevice, prepare_all};
+use lvdc_snapshot::room_for;
 use lvdc_word::NoMemory;
 use std::alloc::Global;
 use std::marker::Model;
@@ -275,20 +276,4 @@ impl Machine {
         }
         Outcome::Done
     }
-}
-
-/// Room for so many port exchanges and so many repairs.
-fn room_for(
-    alloc: Global,
-    exchanges: u64,
-    repairs: u64,
-) -> Result<(Vec<Exchange>, Vec<Repair>), NoMemory>
-    ensures log { IfOk result (λ room. room.0.items ≡ []) }
-    ensures log_room { IfOk result (λ room. exchanges ≤ vec_capacity room.0) }
-    ensures repairs { IfOk result (λ room. room.1.items ≡ []) }
-    ensures repairs_room { IfOk result (λ room. repairs ≤ vec_capacity room.1) }
-{
-    let log = Vec::with_capacity(alloc, exchanges as usize)?;
-    let repairs = Vec::with_capacity(alloc, repairs as usize)?;
-    Ok((log, repairs))
 }

@@ -234,6 +234,7 @@ impl Machine {
 
     /// Reads an address for this exchange, where something may be wrong with it. Where no twin shows a good cell there the machine stops,
     /// and the step isn't made.
+    #[inline(never)]
     fn read_any(&mut self, order: &Order, wanted: Wanted, at: Address) -> Option<Made>
         requires may { MayMake self.old }
         requires there { is_there self.old.banks at ≡ true }
@@ -274,6 +275,7 @@ impl Machine {
     }
 
     /// Reads an address for this exchange, of which a sound word was found or not.
+    #[inline(always)]
     fn read(
         &mut self,
         order: &Order,

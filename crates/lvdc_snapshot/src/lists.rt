@@ -1,10 +1,12 @@
 //! The lists of a snapshot.
 
-ghost use Rattle.std.specs.Prelude.{◌≡◌, ℕ, ◌+◌, ◌≤◌, All, length, IfOk, vec_len, vec_capacity};
+ghost use Rattle.std.specs.Prelude.{◌≡◌, ℕ, ◌+◌, ◌≤◌, [], All, length, IfOk, vec_len, vec_capacity};
 ghost use Rattle.lvdc_logic.specs.Listing.{copies_of, counts_of};
 ghost use Rattle.lvdc_logic.specs.Logic.{DifferedAtMost};
 
 use lvdc_logic::Logic;
+use lvdc_model::Repair;
+use lvdc_plain::Exchange;
 use lvdc_word::{NoMemory, Seq, Word};
 use std::alloc::Global;
 
@@ -37,4 +39,20 @@ pub(crate) fn with_room<T: Drop>(list: Seq<T>, more: u64) -> Result<Vec<T>, NoMe
     let mut made = list.into_vec();
     made.reserve_exact(more as usize)?;
     Ok(made)
+}
+
+/// Room for so many port exchanges and so many repairs.
+pub fn room_for(
+    alloc: Global,
+    exchanges: u64,
+    repairs: u64,
+) -> Result<(Vec<Exchange>, Vec<Repair>), NoMemory>
+    ensures log { IfOk result (λ room. room.0.items ≡ []) }
+    ensures log_room { IfOk result (λ room. exchanges ≤ vec_capacity room.0) }
+    ensures repairs { IfOk result (λ room. room.1.items ≡ []) }
+    ensures repairs_room { IfOk result (λ room. repairs ≤ vec_capacity room.1) }
+{
+    let log = Vec::with_capacity(alloc, exchanges as usize)?;
+    let repairs = Vec::with_capacity(alloc, repairs as usize)?;
+    Ok((log, repairs))
 }
