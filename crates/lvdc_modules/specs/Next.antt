@@ -1,27 +1,14 @@
 -- What follows for each module from a bus.
-use Rattle.std.specs.Prelude.{◌≡◌}
-use Rattle.lvdc_modules.specs.States.{timer_latches, locator_latches, decoder_latches, selector_latches, accumulator_latches, multiplier_latches, exchange_latches}
 use Rattle.lvdc_mul.specs.Unit.{kind}
-use Rattle.lvdc_modules.specs.Timer.{timer, timer_row}
-use Rattle.lvdc_modules.specs.Locator.{locator, locator_row}
-use Rattle.lvdc_modules.specs.Decoder.{decoder, decoder_row}
-use Rattle.lvdc_modules.specs.Selector.{selector, selector_row}
-use Rattle.lvdc_modules.specs.Accumulator.{a_landed, accumulated, accumulator, accumulator_row}
-use Rattle.lvdc_modules.specs.Multiplier.{working, landing, unit_pq, unit_working, pq_after, working_after, multiplier_with, multiplier, multiplier_row}
-use Rattle.lvdc_modules.specs.Exchange.{exchange, exchange_row}
+use Rattle.lvdc_modules.specs.Timer.{timer}
+use Rattle.lvdc_modules.specs.Locator.{locator}
+use Rattle.lvdc_modules.specs.Decoder.{decoder}
+use Rattle.lvdc_modules.specs.Selector.{selector}
+use Rattle.lvdc_modules.specs.Accumulator.{a_landed, accumulated, accumulator}
+use Rattle.lvdc_modules.specs.Multiplier.{working, landing, unit_pq, unit_working, pq_after, working_after, multiplier_with, multiplier}
+use Rattle.lvdc_modules.specs.Exchange.{exchange}
 use Rattle.lvdc_isa.specs.declared.instr.Instr.{Instr}
 use Rattle.lvdc_modules.specs.declared.bus.Bus.{Bus}
-use Rattle.lvdc_modules.specs.declared.next.Next.{Next}
-
--- these are the states that follow for the modules from a bus
-pub record IsNext (bus : Bus) (n : Next) : Type 0 where
-  pub timer : timer_latches n.timer ≡ timer_row bus
-  pub locator : locator_latches n.locator ≡ locator_row bus
-  pub decoder : decoder_latches n.decoder ≡ decoder_row bus
-  pub selector : selector_latches n.selector ≡ selector_row bus
-  pub accumulator : accumulator_latches n.accumulator ≡ accumulator_row bus
-  pub multiplier : multiplier_latches n.multiplier ≡ multiplier_row bus
-  pub exchange : exchange_latches n.exchange ≡ exchange_row bus
 
 -- the bus with the state that follows for each module, and with what came from memory and port in this phase
 abbrev pub next_states : Bus → Bus
