@@ -24,7 +24,12 @@ use lvdc_word::Cell;
 /// The most events of which the places are put anew one by one. Each costs a look at all events in force.
 const MOST_CHANGES: usize = 4;
 
-/// The positions of the events that begin or end with a step, where the step before is in force and they are few.
+/// The script is looked through for them where at least one in so many of its events was in force. Where fewer were, it costs less to
+/// put all that are in force anew.
+const SHARE: usize = 4;
+
+/// The positions of the events that begin or end with a step, where they are few, and the step before is in force with its share of
+/// the events.
 pub(crate) fn few_changes(
     script: &Script,
     step: u64,
@@ -35,7 +40,7 @@ pub(crate) fn few_changes(
         (before + 1 ≡ step) × AreChanges script.now before step few.items)) }
 {
     let before = active.last()?;
-    if before >= step || before + 1 < step {
+    if before >= step || before + 1 < step || active.positions().len() < script.len() / SHARE {
         return None;
     }
     changes_after(script, before, step)
