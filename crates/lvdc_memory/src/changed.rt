@@ -189,7 +189,7 @@ fn stuck_with(before: Stuck, event: &Event, twin: u8, place: Address) -> Stuck
         ..
     } = *event
     {
-        if other == twin && is_same(place, at) {
+        if is_same(place, at) && other == twin {
             return Stuck {
                 mask: Cell::within(before.mask.bits() | mask.bits()),
                 value: before.value.stuck(mask, value),
@@ -203,7 +203,7 @@ fn stuck_with(before: Stuck, event: &Event, twin: u8, place: Address) -> Stuck
 fn is_same(one: Address, other: Address) -> bool
     ensures { result ≡ is_same one other }
 {
-    one.pair == other.pair && one.sector == other.sector && one.loc == other.loc
+    one.loc == other.loc && one.sector == other.sector && one.pair == other.pair
 }
 
 /// Does an event active at a step kill a twin of a pair?
