@@ -117,20 +117,18 @@ fn log_exchange(log: &mut Vec<Exchange>, instr: Instr, time: u64, a: Word, m: Wo
     }
 }
 
-/// The end that a stop in this time is.
-fn end_of(time: u64, stop: Option<Stop>) -> Option<PlainEnd>
+/// Keeps the end that a stop in this time is. A stop is rare, so that a time doesn't make room for one.
+#[inline(never)]
+fn keep_stop(end: &mut Option<PlainEnd>, time: u64, stop: Stop)
     requires small { time ≤ 1000000 }
-    requires cause { ByInstruction stop }
-    ensures end { result ≡ end_of time stop }
-    ensures cause { IsPlainEnd (answer_of_end result) }
+    requires cause { ByInstruction (Some stop) }
+    ensures end { end.new ≡ end_of time (Some stop) }
+    ensures cause { IsPlainEnd (answer_of_end end.new) }
 {
-    match stop {
-        None => None,
-        Some(stop) => Some(PlainEnd::Stopped {
-            step: 3 * time + 2,
-            stop,
-        }),
-    }
+    *end = Some(PlainEnd::Stopped {
+        step: 3 * time + 2,
+        stop,
+    });
 }
 
 /// Its parts go in one call, which whoever lets a machine go doesn't look into.
@@ -219,8 +217,10 @@ impl Plain {
         ensures keeps { Keeps self.old self.new }
     {
         log_exchange(&mut self.log, instr, self.times, self.processor.a, m);
-        let stop = self.processor.execute(instr, m);
-        self.end = end_of(self.times, stop);
+        match self.processor.execute(instr, m) {
+            None => self.end = None,
+            Some(stop) => keep_stop(&mut self.end, self.times, stop),
+        }
         self.times += 1;
         self.end
     }
@@ -241,6 +241,7 @@ impl Plain {
     }
 
     /// Makes the next time of a machine that runs.
+    #[inline(always)]
     fn advance(&mut self, devices: &mut Vec<Box<dyn PortDevice>>) -> Option<PlainEnd>
         requires running { self.old.end ≡ None }
         requires left { self.old.times < self.old.limit }
@@ -286,13 +287,7 @@ impl Plain {
         // What stays, and what the next call asks for.
         ensures leaves { Leaves device_of spare 1 self.old self.new devices.old.items devices.new.items }
     {
-        if let Some(end) = self.end {
-            return end;
-        }
-        match self.advance(devices) {
-            Some(end) => end,
-            None => PlainEnd::Done,
-        }
+        self.run(1, devices)
     }
 
     /// Makes so many instruction times, or fewer where an end comes. It takes no memory.

@@ -82,8 +82,7 @@ impl Processor {
             → result ≡ word_of_place p (operand_place p address) }
     {
         match operand_place(self.place, address, self.banks) {
-            Place::Memory(at) => self.words.word(at),
-            Place::Saver(at) => self.words.word(at),
+            Place::Memory(at) | Place::Saver(at) => self.words.word(at),
             Place::Pq => self.pq,
         }
     }
