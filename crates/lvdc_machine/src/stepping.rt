@@ -138,6 +138,7 @@ impl Machine {
     }
 
     /// The exchange that the votes wish for.
+    #[inline(always)]
     pub(crate) fn wanted(&self) -> Wanted
         ensures value { result ≡ wish (bus_of_votes self.now.copies) self.now.banks }
         ensures there { IsThereFor self.now.banks result }

@@ -26,6 +26,7 @@ pub enum Wanted {
 }
 
 /// What the instruction wants as its operand.
+#[inline(always)]
 fn instruction_wish(instruction: Instr, bus: &Bus, banks: Banks) -> Wanted
     requires { instruction.address < 2 ^ 9 }
     ensures value { result ≡ instruction_wish instruction bus.now banks }
@@ -41,6 +42,7 @@ fn instruction_wish(instruction: Instr, bus: &Bus, banks: Banks) -> Wanted
 }
 
 /// What was requested.
+#[inline(always)]
 fn request_wish(request: Request, bus: &Bus, banks: Banks) -> Wanted
     requires { IsRequest request }
     ensures value { result ≡ request_wish request bus.now banks }
@@ -64,6 +66,7 @@ fn request_wish(request: Request, bus: &Bus, banks: Banks) -> Wanted
 
 /// The exchange that this phase makes; each address that it names is in a bank that is there. The modules know memory
 /// modules by their numbers, and only here do the banks come in.
+#[inline(always)]
 pub fn wish(bus: &Bus, banks: Banks) -> Wanted
     ensures value { result ≡ wish bus.now banks }
     ensures there { IsThereFor banks result }
