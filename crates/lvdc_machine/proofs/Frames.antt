@@ -19,7 +19,7 @@ keeps-then h g = record {
 }
 
 -- where only memory and what is in force have changed
-pub keeps-begun : (old mid : View) → mid ≡ record old { memory = mid.memory; active = mid.active } → Keeps old mid
+pub keeps-begun : (old mid : View) → mid ≡ record old { memory = mid.memory; on_memory = mid.on_memory } → Keeps old mid
 keeps-begun old mid same = record {
   banks = ap (λ (m : View). m.banks) same;
   script = ap (λ (m : View). m.script) same;

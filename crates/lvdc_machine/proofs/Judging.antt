@@ -54,7 +54,7 @@ pub known_then : (script : List Event) (last : Option ℕ) (steps : ℕ) (known 
 known_then script last steps known knows is = subst (λ (l : Option ℕ). KnowsForce script l known) is knows
 
 -- a sound word of the address that is to be read is one by every state that is shown
-pub found-sound : (m : View) (found : Option ℕ) (at : Option Spot) (spot : Spot) → at ≡ Some spot → m.active.last ≡ Some m.steps
+pub found-sound : (m : View) (found : Option ℕ) (at : Option Spot) (spot : Spot) → at ≡ Some spot → m.on_memory.last ≡ Some m.steps
     → IfSome found (λ word. (o : Trial) (in_force : Option ℕ) (t : Twins) (i : memory.Memory) → Holds o in_force m.memory t i
     → is_recovered o.opening.banks spot (word_at i spot) (λ twin. shows_since in_force o t twin spot) ≡ true)
     → IfSome found (λ word. (o : Trial) (step : ℕ) (t : Twins) (i : memory.Memory) → Holds o (Some step) m.memory t i

@@ -163,7 +163,7 @@ pub record HasCome (o : Trial) (first : Voted) (m : View) (ds : List device.Devi
 
 -- by what the run has come to
 has-come : (o : Trial) (first : Voted) (n : ℕ) (m : View) (ds : List device.Device) (w : Verdict) → m.end ≡ Some (Inadmissible w)
-    → m.active.last ≡ Some m.steps → Shows o m ds (run_from Guarded o first n) → Comes o first n → HasCome o first m ds
+    → m.on_memory.last ≡ Some m.steps → Shows o m ds (run_from Guarded o first n) → Comes o first n → HasCome o first m ds
 has-come o first n m ds w is begun s (Same same free steps) = absurd (free w (sym s.end ∙ is))
 has-come o first n m ds w is begun s (Refused at bad less going steps state) =
     let c = subst (λ (v : Voted). Shows o m ds v) state s in
@@ -206,7 +206,7 @@ refused-comes o first n m ds going refused h =
 
 -- a machine that stands where a run is, and has said something, has begun the step
 refused-by : (o : Trial) (first : Voted) (n : ℕ) (m : View) (end : Option Outcome) → m.end ≡ end → IsRefusal end → m.mode ≡ Guarded → length m.log ≤ m.steps
-    → m.active.last ≡ last_begun end m.steps → EndsFrom end o first n m.mode m.steps → steps_after first.steps n ≤ 3 * m.limit → HasRefused m
+    → m.on_memory.last ≡ last_begun end m.steps → EndsFrom end o first n m.mode m.steps → steps_after first.steps n ≤ 3 * m.limit → HasRefused m
 refused-by o first n m None is refusal mode few begun ends most = absurd refusal
 refused-by o first n m (Some Done) is refusal mode few begun ends most = absurd refusal
 refused-by o first n m (Some (Stopped step stop)) is refusal mode few begun ends most = absurd refusal

@@ -96,7 +96,7 @@ pub record IsPrepared (o : Trial) (r : Voted) (t : ℕ) (m : View) (ds : List de
   pub shows : Shows o m ds (begin_step o (run_from m.mode o r t))
   pub going : (run_from m.mode o r t).end ≡ None
   pub steps : m.steps ≡ steps_after r.steps t
-  pub begun : m.active.last ≡ Some m.steps
+  pub begun : m.on_memory.last ≡ Some m.steps
 
 -- a machine without an end is in the state of its run
 running-by : (o : Trial) (r : Voted) (t : ℕ) (m : View) (ds : List device.Device) (end : Option Outcome) → end ≡ None → Shows o m ds (state_from end m.mode o r t) → Shows o m ds (run_from m.mode o r t)
@@ -108,7 +108,7 @@ steps-by o r t mode steps end e s = rw e at s
 
 -- what is left of a machine that runs, once its step is begun
 pub is-prepared : (o : Trial) (r : Voted) (t : ℕ) (old mid : View) (ds left : List device.Device) → StandsFrom o r t old ds → old.end ≡ None
-    → mid ≡ record old { memory = mid.memory; active = mid.active } → mid.active.last ≡ Some old.steps
+    → mid ≡ record old { memory = mid.memory; on_memory = mid.on_memory } → mid.on_memory.last ≡ Some old.steps
     → ((v : Voted) → Shows o old ds v → Shows o mid ds (record v { twins = damages v.steps o.script v.twins }))
     → left ≡ devices_left old.unplugs old.steps ds → IsPrepared o r t mid left
 is-prepared o r t old mid ds left h none same begun shown is =
@@ -156,7 +156,7 @@ stands-judged o r t m new ds w h is bad same =
 
 -- by the end that the step brought
 stands-by : (o : Trial) (r : Voted) (t before : ℕ) (new : View) (ds : List device.Device) (end : Option Outcome) → new.end ≡ end → before ≡ steps_after r.steps t
-    → new.active.last ≡ last_begun new.end new.steps → MadeAs end before new.steps → Shows o new ds (run_from new.mode o r (suc t)) → StandsFrom o r (suc t) new ds
+    → new.on_memory.last ≡ last_begun new.end new.steps → MadeAs end before new.steps → Shows o new ds (run_from new.mode o r (suc t)) → StandsFrom o r (suc t) new ds
 stands-by o r t before new ds None is at begun made s =
     record {
       shows = subst (λ (e : Option Outcome). Shows o new ds (state_from e new.mode o r (suc t))) (sym is) s;
@@ -222,7 +222,7 @@ stands-failed o r t m new ds left w x port h is good wish-is named kept same =
 
 -- by the end that was kept
 kept-by : (o : Trial) (r : Voted) (t n : ℕ) (m : View) (ds : List device.Device) (e : Outcome) → m.end ≡ Some e
-    → Shows o m ds (state_from (Some e) m.mode o r t) → m.active.last ≡ last_begun m.end m.steps → EndsFrom (Some e) o r t m.mode m.steps → StandsFrom o r (t + n) m ds
+    → Shows o m ds (state_from (Some e) m.mode o r t) → m.on_memory.last ≡ last_begun m.end m.steps → EndsFrom (Some e) o r t m.mode m.steps → StandsFrom o r (t + n) m ds
 kept-by o r t n m ds Done is s begun ends = absurd ends
 kept-by o r t n m ds (Stopped step stop) is s begun ends =
     record {

@@ -1,5 +1,5 @@
 -- A machine before its first step.
-use Rattle.std.proofs.Common.{◌≡◌, ℕ, ◌%◌, ◌<◌, List, [], ◌∷◌, All, length, map, Result, Ok, Err, refl, sym, ap, ◌∙◌, subst, arith}
+use Rattle.std.proofs.Common.{◌≡◌, ℕ, ◌%◌, List, [], ◌∷◌, map, Result, Ok, Err, refl, sym, ap, ◌∙◌, subst}
 use Rattle.std.specs.Prelude.{slice_index, IfOk}
 use Rattle.std.specs.declared.option.Option.{Option}
 use Rattle.std.specs.declared.option.Option.TheVariants.{None}
@@ -10,7 +10,6 @@ use Rattle.lvdc_plain.specs.Lists.{AreFit}
 use Rattle.lvdc_vote.specs.Copies.{Copies}
 use Rattle.lvdc_vote.proofs.Votes.{majority_of-first}
 use Rattle.lvdc_modules.specs.Rows.{start_latches}
-use Rattle.lvdc_fault.specs.declared.event.Event.{Event}
 use Rattle.lvdc_model.specs.Known.{last_begun}
 use Rattle.lvdc_model.specs.Trial.{Trial}
 use Rattle.lvdc_model.specs.Voted.{voted_start, thrice}
@@ -26,7 +25,7 @@ use Rattle.lvdc_machine.specs.Stands.{Stands, EndsAs, state_by}
 use Rattle.lvdc_machine.specs.View.{View, bus_of_votes}
 
 -- it stands at the start
-pub stands-start : (o : Trial) (m : View) (ds : List device.Device) → Shows o m ds (voted_start o) → m.active.last ≡ None → m.end ≡ None → m.steps ≡ 0
+pub stands-start : (o : Trial) (m : View) (ds : List device.Device) → Shows o m ds (voted_start o) → m.on_memory.last ≡ None → m.end ≡ None → m.steps ≡ 0
     → Stands o 0 m ds
 stands-start o m ds s last none first =
     record {
@@ -34,10 +33,6 @@ stands-start o m ds s last none first =
       begun = last ∙ sym (λ i. last_begun (none i) (first i));
       ends = subst (λ (e : Option Outcome). EndsAs e o 0 m.mode m.steps) (sym none) first;
     }
-
--- nothing is in force
-pub nothing-within : (script : List Event) (held : List ℕ) → held ≡ [] → All (λ position. position < length script) held
-nothing-within script held none = rw none (λ k d within. absurd (omega arith))
 
 -- a machine with room by times judges
 pub judges-by : (mode : Mode) → pace_of mode ≡ ByTime → mode ≡ Guarded

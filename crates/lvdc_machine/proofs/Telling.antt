@@ -15,10 +15,10 @@ use Rattle.lvdc_machine.specs.View.{View}
 
 -- what can be recovered by what is in force can be told
 pub known-is : {o : Trial} {m : View} {ds : List device.Device} {v : Voted} → Shows o m ds v → (at : Spot) (b : Bool)
-    → m.active.last ≡ last_begun m.end m.steps
-    → b ≡ is_recovered o.opening.banks at (word_at v.intended at) (λ twin. shows_since m.active.last o v.twins twin at) → b ≡ is_known o v at
+    → m.on_memory.last ≡ last_begun m.end m.steps
+    → b ≡ is_recovered o.opening.banks at (word_at v.intended at) (λ twin. shows_since m.on_memory.last o v.twins twin at) → b ≡ is_known o v at
 known-is {o = o} {m = m} {v = v} s at b begun is =
-    let same : m.active.last ≡ last_begun v.end v.steps = begun ∙ (λ i. last_begun (s.end i) (s.steps i)) in
+    let same : m.on_memory.last ≡ last_begun v.end v.steps = begun ∙ (λ i. last_begun (s.end i) (s.steps i)) in
     is ∙ ap (λ (l : Option ℕ). is_recovered o.opening.banks at (word_at v.intended at) (λ twin. shows_since l o v.twins twin at)) same
 
 -- a word that is known is told

@@ -31,7 +31,7 @@ pub record HasRefused (m : View) : Type 0 where
   pub refusal : IsRefusal m.end
   pub mode : m.mode ≡ Guarded
   pub few : length m.log ≤ m.steps
-  pub begun : m.active.last ≡ Some m.steps
+  pub begun : m.on_memory.last ≡ Some m.steps
   pub left : m.steps < 3 * m.limit
 
 -- what stays of a machine that goes through every fault from then on, with the room of one that does

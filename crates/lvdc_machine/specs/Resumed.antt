@@ -60,5 +60,5 @@ EndsFrom (Some (Device step port)) o first n mode steps = FailedFrom o first n m
 -- the machine and the devices stand n steps after this state for this trial
 pub record StandsFrom (o : Trial) (first : Voted) (n : ℕ) (m : View) (devices : List device.Device) : Type 0 where
   pub shows : Shows o m devices (state_from m.end m.mode o first n)
-  pub begun : m.active.last ≡ last_begun m.end m.steps
+  pub begun : m.on_memory.last ≡ last_begun m.end m.steps
   pub ends : EndsFrom m.end o first n m.mode m.steps

@@ -15,7 +15,7 @@ pub record Shows (o : Trial) (m : View) (devices : List device.Device) (v : Vote
   pub script : m.script ≡ o.script
   pub unplugs : m.unplugs ≡ o.opening.unplugs
   pub copies : m.copies ≡ v.copies
-  pub memory : Holds o m.active.last m.memory v.twins v.intended
+  pub memory : Holds o m.on_memory.last m.memory v.twins v.intended
   pub left : devices ≡ v.devices
   pub log : m.log ≡ v.log
   pub repairs : m.repairs ≡ v.repairs
@@ -28,5 +28,5 @@ pub record Shows (o : Trial) (m : View) (devices : List device.Device) (v : Vote
 pub record HasBegun (before after : View) : Type 0 where
   pub shows : (o : Trial) (v : Voted) (devices : List device.Device) → Shows o before devices v
       → Shows o after devices (record v { twins = damages v.steps o.script v.twins })
-  pub new : after ≡ record before { memory = after.memory; active = after.active }
-  pub last : after.active.last ≡ Some before.steps
+  pub new : after ≡ record before { memory = after.memory; on_memory = after.on_memory }
+  pub last : after.on_memory.last ≡ Some before.steps

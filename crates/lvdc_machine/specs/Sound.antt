@@ -1,8 +1,7 @@
 -- What is true of every machine.
-use Rattle.std.specs.Prelude.{◌≡◌, ℕ, ◌+◌, ◌*◌, ◌/◌, ◌%◌, ◌≤◌, ◌<◌, List, length, All, IfSome, vec_len, vec_capacity}
+use Rattle.std.specs.Prelude.{◌≡◌, ℕ, ◌+◌, ◌*◌, ◌/◌, ◌%◌, ◌≤◌, List, All, IfSome, vec_len, vec_capacity}
 use Rattle.std.specs.declared.option.Option.{Option}
 use Rattle.std.specs.declared.option.Option.TheVariants.{None}
-use Rattle.lvdc_fault.specs.Activity.{Fits}
 use Rattle.lvdc_fault.specs.declared.event.Event.{Event}
 use Rattle.lvdc_fault.specs.Events.{IsEvent}
 use Rattle.lvdc_logic.specs.Logic.{DifferedAtMost}
@@ -11,7 +10,7 @@ use Rattle.lvdc_forces.specs.declared.known.Known.{Known}
 use Rattle.lvdc_machine.specs.declared.machine.Machine.TheInside.{Inside}
 use Rattle.lvdc_machine.specs.declared.mode.Mode.TheVariants.{Guarded}
 use Rattle.lvdc_machine.specs.declared.mode.Pace.TheVariants.{ByTime}
-use Rattle.lvdc_memory.specs.OnMemory.{on_memory}
+use Rattle.lvdc_memory.specs.Order.{AreOnMemory}
 use Rattle.lvdc_machine.specs.Room.{pace_of, exchanges_left, repairs_left, IsInTime}
 use Rattle.lvdc_snapshot.specs.Notes.{IsLog, AreRepairs}
 use Rattle.lvdc_machine.specs.View.{bus_of_votes, end_seen}
@@ -21,17 +20,15 @@ use Rattle.lvdc_machine.specs.View.{bus_of_votes, end_seen}
 abbrev pub KnowsForce : List Event → Option ℕ → Known → Type 0
 KnowsForce script last known = IfSome last (λ step. IsKnown script step known)
 
--- the script is in range, the events on memory are those of it, and what is active fits them; what is kept of the copies fits the
+-- the script is in range, and the events on memory are those of it; what is kept of the copies fits the
 -- script, what is known of them is so in the step in force, and there is room for what may still come; the log of a machine with the
 -- room of its mode is of its own steps alone; a machine with room by times judges, and one that judges has phases that go with the
 -- steps; where no end has come the votes are against a stop; and what is noted is of steps that were made
 pub record IsSound (m : Inside) : Type 0 where
   pub events : All IsEvent m.script
-  pub on_memory : m.on_memory ≡ on_memory m.script
-  pub fits : Fits m.on_memory m.active
-  pub within : All (λ position. position < length m.on_memory) m.active.held
+  pub on_memory : AreOnMemory m.script m.on_memory.events
   pub forces : AreForces m.script m.forces
-  pub known : KnowsForce m.script m.active.last m.forces.known
+  pub known : KnowsForce m.script m.on_memory.last m.forces.known
   pub differed : DifferedAtMost m.steps m.logic.counts
   pub banks : m.memory.twins.banks ≡ m.banks
   pub log : m.pace ≡ pace_of m.mode → vec_len m.log + exchanges_left m.pace m.steps m.limit ≤ exchanges_left m.pace 0 m.limit

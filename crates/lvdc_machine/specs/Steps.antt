@@ -67,7 +67,7 @@ NamesPort (PortWrite named word) port = named ≡ port
 -- a step may be made: it was begun, it is one of those that are left, and of a machine that judges no module has two wrong copies
 -- in it
 pub record MayMake (m : View) : Type 0 where
-  pub begun : m.active.last ≡ Some m.steps
+  pub begun : m.on_memory.last ≡ Some m.steps
   pub left : m.steps < 3 * m.limit
   pub right : m.mode ≡ Guarded → two_wrong m.script m.steps 1 ≡ false
 
@@ -106,5 +106,5 @@ MadeAs (Some (Device step port)) before after = ⊥
 -- what the exchange and the latching of a step leave
 pub record IsMade (before after : View) : Type 0 where
   pub keeps : Keeps before after
-  pub begun : after.active.last ≡ last_begun after.end after.steps
+  pub begun : after.on_memory.last ≡ last_begun after.end after.steps
   pub ends : MadeAs after.end before.steps after.steps

@@ -9,18 +9,18 @@ use Rattle.lvdc_modules.specs.declared.bus.Bus.{Bus}
 use Rattle.lvdc_plain.specs.declared.records.Exchange.{Exchange}
 use Rattle.lvdc_plain.specs.declared.records.Unplug.{Unplug}
 use Rattle.lvdc_plain.specs.declared.records.Visible.{Visible}
-use Rattle.lvdc_fault.specs.Activity.{Activity}
 use Rattle.lvdc_fault.specs.declared.event.Event.{Event}
 use Rattle.lvdc_model.specs.declared.outcome.Outcome.{Outcome}
 use Rattle.lvdc_model.specs.declared.outcome.Outcome.TheVariants.{Done, Stopped, Inadmissible, Device}
 use Rattle.lvdc_model.specs.declared.repair.Repair.{Repair}
+use Rattle.lvdc_memory.specs.Events.{MemoryEvents}
 use Rattle.lvdc_memory.specs.Holds.{Kept}
 use Rattle.lvdc_machine.specs.declared.kept_end.KeptEnd.{KeptEnd}
 use Rattle.lvdc_machine.specs.declared.kept_end.KeptEnd.TheVariants as kept
 use Rattle.lvdc_machine.specs.declared.mode.Mode.{Mode}
 use Rattle.lvdc_machine.specs.declared.mode.Pace.{Pace}
 
--- the copies of the seven modules and their counts, the memory, the script and which of its events are in force, which devices
+-- the copies of the seven modules and their counts, the memory, the script and its events on memory, which devices
 -- are taken away when, the log, the repairs noted, the steps made, the most times that may be made, how it judges, how many
 -- exchanges it has room for, and the end that has come, if one has
 pub record View : Type 0 where
@@ -29,7 +29,7 @@ pub record View : Type 0 where
   pub counts : List (List ℕ)
   pub memory : Kept
   pub script : List Event
-  pub active : Activity
+  pub on_memory : MemoryEvents
   pub unplugs : List Unplug
   pub log : List Exchange
   pub repairs : List Repair

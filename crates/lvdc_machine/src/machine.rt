@@ -18,11 +18,11 @@ use crate::kept_end::KeptEnd;
 use crate::made::Made;
 use crate::start::Start;
 use crate::{Mode, Order, Orders, Pace};
-use lvdc_fault::{Active, Script};
+use lvdc_fault::Script;
 use lvdc_forces::Forces;
 use lvdc_logic::Logic;
 use lvdc_map::{Banks, Hop, Placed, is_hop_constant};
-use lvdc_memory::{VotedMemory, memory_events};
+use lvdc_memory::{MemoryEvents, VotedMemory};
 use lvdc_model::{Outcome, Repair};
 use lvdc_plain::{Exchange, Unplug};
 use lvdc_port::{PortDevice, prepare_all};
@@ -33,14 +33,13 @@ use std::marker::Model;
 
 /// The voted machine, without its devices. Steps are counted from 0, three in an instruction time. What is in force on each copy,
 /// which copies are wrong, and which module has two of them, is worked out where an event begins or has ended. The memory goes by
-/// a script of the events on it alone.
+/// the events on it alone.
 pub struct Machine {
     pub(crate) banks: Banks,
     pub(crate) logic: Logic,
     pub(crate) memory: VotedMemory,
     pub(crate) script: Script,
-    pub(crate) on_memory: Script,
-    pub(crate) active: Active,
+    pub(crate) on_memory: MemoryEvents,
     pub(crate) forces: Forces,
     pub(crate) unplugs: Vec<Unplug>,
     pub(crate) log: Vec<Exchange>,
@@ -65,7 +64,7 @@ impl Model for Machine {
       counts = m.logic.counts;
       memory = m.memory;
       script = m.script;
-      active = m.active;
+      on_memory = m.on_memory;
       unplugs = m.unplugs.items;
       log = m.log.items;
       repairs = m.repairs.items;
@@ -88,7 +87,6 @@ impl Drop for Machine {
             memory: _,
             script: _,
             on_memory: _,
-            active: _,
             forces: _,
             unplugs: _,
             log: _,
@@ -177,8 +175,7 @@ impl Machine {
         is_hop_constant(start);
         let pace = Pace::of(mode);
         let memory = VotedMemory::new(alloc, image, banks)?;
-        let on_memory = memory_events(alloc, &script)?;
-        let active = Active::for_script(alloc, &on_memory)?;
+        let on_memory = MemoryEvents::for_script(alloc, &script)?;
         let forces = Forces::for_script(alloc, &script)?;
         let (log, repairs) = room_for(alloc, pace.exchanges(limit), pace.repairs(limit))?;
         Ok(Machine {
@@ -187,7 +184,6 @@ impl Machine {
             memory,
             script,
             on_memory,
-            active,
             forces,
             unplugs,
             log,

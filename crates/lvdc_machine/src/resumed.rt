@@ -25,7 +25,6 @@ use crate::{Machine, Mode, Pace, Snapshot};
 use lvdc_fault::Script;
 use lvdc_forces::Forces;
 use lvdc_logic::Logic;
-use lvdc_memory::memory_events;
 use lvdc_plain::Unplug;
 use lvdc_port::{PortDevice, prepare_all};
 use lvdc_word::NoMemory;
@@ -84,8 +83,7 @@ impl Machine {
         let steps = snapshot.steps;
         let banks = snapshot.banks;
         let logic = Logic::from_latches(snapshot.latches.items(), snapshot.differed.items());
-        let on_memory = memory_events(alloc, &script)?;
-        let (active, memory) = snapshot.memory(alloc, &on_memory)?;
+        let (on_memory, memory) = snapshot.memory(alloc, &script)?;
         let forces = forces_before(alloc, &script, steps)?;
         let (log, repairs) = snapshot.into_noted(3 * limit - steps)?;
         Ok(Machine {
@@ -94,7 +92,6 @@ impl Machine {
             memory,
             script,
             on_memory,
-            active,
             forces,
             unplugs,
             log,

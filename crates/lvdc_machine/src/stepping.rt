@@ -35,7 +35,6 @@ use crate::notes::note;
 use crate::{Machine, Mode, Order};
 use lvdc_fault::{Verdict, none_wrong};
 use lvdc_map::Address;
-use lvdc_memory::begin_memory;
 use lvdc_model::{Outcome, Repair};
 use lvdc_modules::{Wanted, wish};
 use lvdc_plain::{Exchange, Stop, unplug_all};
@@ -129,12 +128,7 @@ impl Machine {
         ensures { HasBegun self.old self.new }
     {
         self.forces.go_to(&self.script, self.steps);
-        begin_memory(
-            &self.on_memory,
-            self.steps,
-            &mut self.active,
-            &mut self.memory,
-        );
+        self.on_memory.begin(self.steps, &mut self.memory);
     }
 
     /// The exchange that the votes wish for.
@@ -149,7 +143,7 @@ impl Machine {
 
     /// The word of the address that is to be read, where nothing is wrong with it: one look at the cells for the verdict and the read.
     fn sound_word(&self, at: Option<Address>) -> Option<Word>
-        requires begun { self.now.active.last ≡ Some self.now.steps }
+        requires begun { self.now.on_memory.last ≡ Some self.now.steps }
         requires there { IfSome at (λ spot. is_there self.now.banks spot ≡ true) }
         ensures { IsFoundSound self.now at result }
     {
@@ -158,7 +152,7 @@ impl Machine {
 
     /// What is said of the address that is to be read, whether a sound word was found there or not.
     fn found_memory(&self, at: Option<Address>, is_sound: bool) -> Verdict
-        requires begun { self.now.active.last ≡ Some self.now.steps }
+        requires begun { self.now.on_memory.last ≡ Some self.now.steps }
         requires there { IfSome at (λ spot. is_there self.now.banks spot ≡ true) }
         requires sound { is_sound ≡ true → IsRecovered self.now at }
         ensures { (o : Trial) (v : Voted) (ds : List device.Device) → Shows o self.now ds v → result ≡ own_memory o v at }
@@ -180,7 +174,7 @@ impl Machine {
 
     /// What is said of the step that was begun: a module with two wrong copies comes first.
     fn found(&self, wanted: &Wanted, is_sound: bool) -> Verdict
-        requires begun { self.now.active.last ≡ Some self.now.steps }
+        requires begun { self.now.on_memory.last ≡ Some self.now.steps }
         requires there { IsThereFor self.now.banks wanted.now }
         requires sound { is_sound ≡ true → IsRecovered self.now (read_of_wish wanted.now) }
         ensures verdict { (o : Trial) (v : Voted) (ds : List device.Device) → Shows o self.now ds v → wanted.now ≡ wished o v
@@ -199,7 +193,7 @@ impl Machine {
 
     /// What the mode says of the step that was begun.
     fn verdict(&self, wanted: &Wanted, is_sound: bool) -> Verdict
-        requires begun { self.now.active.last ≡ Some self.now.steps }
+        requires begun { self.now.on_memory.last ≡ Some self.now.steps }
         requires there { IsThereFor self.now.banks wanted.now }
         requires sound { is_sound ≡ true → IsRecovered self.now (read_of_wish wanted.now) }
         ensures verdict { (o : Trial) (v : Voted) (ds : List device.Device) → Shows o self.now ds v → wanted.now ≡ wished o v

@@ -141,7 +141,7 @@ impl Machine {
         requires last_number { number ≤ 7 }
         requires first_copy { 1 ≤ copy }
         requires last_copy { copy ≤ 3 }
-        ensures { (step : ℕ) → self.now.active.last ≡ Some step → result ≡ is_wrong self.now.script step number copy }
+        ensures { (step : ℕ) → self.now.on_memory.last ≡ Some step → result ≡ is_wrong self.now.script step number copy }
     {
         self.forces.has(number, copy)
     }

@@ -1,13 +1,10 @@
--- What is in force changes only where an event begins or ends.
-use Rattle.std.proofs.Common.{◌≡◌, ◌≢◌, ℕ, zero, suc, ◌+◌, ◌<◌, ◌==◌, Bool, true, false, cond, not, ◌&&◌, ◌||◌, List, [], ◌∷◌, ◌++◌, length, take, slice_get, filter, All, Option, None, Some, refl, sym, ap, ◌∙◌, subst, bit_or, bit_xor, arith, append-nil}
-use Rattle.std.specs.Prelude.{IsSomeAnd}
+-- What is in force changes only where an event is new.
+use Rattle.std.proofs.Common.{◌≡◌, ℕ, ◌+◌, ◌<◌, ◌==◌, Bool, true, false, cond, not, ◌&&◌, ◌||◌, List, [], ◌∷◌, ◌++◌, length, take, get_or, Option, None, Some, refl, sym, ap, ◌∙◌, subst, bit_or, bit_xor}
+use Rattle.std.specs.Prelude.{IfSome}
 use Rattle.std.specs.List.{list_any}
 use Rattle.std.proofs.lemmas.Bool.{true≢false}
-use Rattle.std.proofs.lemmas.Bool.Decides.{nat_tests}
-use Rattle.std.proofs.lemmas.List.Elements.{All-push, filter-append, filter_map-append}
+use Rattle.std.proofs.lemmas.List.Elements.{filter-append}
 use Rattle.std.proofs.lemmas.List.Folds.{list_any-append}
-use Rattle.std.proofs.lemmas.Option.{slice_get_within}
-use Rattle.std.proofs.Math.Bool.{or-true}
 use Rattle.lvdc_word.specs.Cell.{with_stuck}
 use Rattle.lvdc_map.specs.Address.{Spot, is_same}
 use Rattle.lvdc_map.specs.Memory.{Memory, word_at, IsMemory}
@@ -16,78 +13,83 @@ use Rattle.lvdc_twin.specs.Store as store
 use Rattle.lvdc_twin.specs.declared.stuck.Stuck.{Stuck}
 use Rattle.lvdc_fault.specs.Damage.{stuck_by, stuck_after, stuck, kills, is_dead}
 use Rattle.lvdc_fault.specs.Ledger.{Intended}
-use Rattle.lvdc_fault.specs.Script.{is_within, is_active}
+use Rattle.lvdc_fault.specs.Script.{is_within}
 use Rattle.lvdc_fault.specs.declared.event.Event.{Event}
 use Rattle.lvdc_fault.specs.declared.event.Event.TheVariants.{Damage, Stick, Dead}
 use Rattle.lvdc_model.specs.Exchanges.{damages_by, damages}
 use Rattle.lvdc_model.specs.Trial.{Trial}
 use Rattle.lvdc_model.specs.Twins.{Twins, with_place}
-use Rattle.lvdc_memory.specs.Changes.{begins_or_ends, events_at, AreChanges, StoreThese, Changes}
-use Rattle.lvdc_memory.specs.Faults.{sticks_at, kills_in}
+use Rattle.lvdc_memory.specs.Changes.{damages_in, StoreThese, Changes}
+use Rattle.lvdc_memory.specs.Faults.{sticks_at, kills_in, stuck_since, is_dead_since}
 use Rattle.lvdc_memory.specs.Holds.{Kept, Carries, Holds}
-use Rattle.lvdc_memory.proofs.Begins.{damages-push, damages-step}
-use Rattle.lvdc_memory.proofs.Positions.{take-got}
-use Rattle.lvdc_memory.proofs.Releasing.{both_released, or_parts}
+use Rattle.lvdc_memory.specs.News.{is_new, new_events}
+use Rattle.lvdc_memory.proofs.PartLaws.{take_next}
+
+-- ---- one list of events after another
+
+-- damage one list after another
+damages-append : (step : ℕ) (es fs : List Event) (t : Twins) → damages step (es ++ fs) t ≡ damages step fs (damages step es t)
+damages-append step [] fs t = refl
+damages-append step (e ∷ es) fs t = damages-append step es fs (damages_by step e t)
+
+damages_in-append : (damaged : Option ℕ) (es fs : List Event) (t : Twins) → damages_in damaged (es ++ fs) t ≡ damages_in damaged fs (damages_in damaged es t)
+damages_in-append None es fs t = refl
+damages_in-append (Some step) es fs t = damages-append step es fs t
+
+damages_in-none : (damaged : Option ℕ) (t : Twins) → damages_in damaged [] t ≡ t
+damages_in-none None t = refl
+damages_in-none (Some step) t = refl
+
+-- a change after another: where one of the two changes
+both-changed : {X : Type 0} (a b : Bool) (x y : X) → cond a x (cond b x y) ≡ cond (b || a) x y
+both-changed true true x y = refl
+both-changed true false x y = refl
+both-changed false true x y = refl
+both-changed false false x y = refl
+
+module _ (every : List Event) (step : ℕ) (damaged : Option ℕ) where
+  -- by no event nothing changes
+  pub changes-none : (s : Store) → Changes every step damaged [] s s
+  changes-none s =
+      record {
+        stuck = λ twin two place here. refl;
+        dead = λ twin two pair small. refl;
+        cells = λ t stored. subst (StoreThese s) (sym (damages_in-none damaged t)) stored;
+        selected = refl;
+      }
+
+  -- one list of events changes after another
+  pub changes-append : (es fs : List Event) (s u v : Store) → Changes every step damaged es s u → Changes every step damaged fs u v → Changes every step damaged (es ++ fs) s v
+  changes-append es fs s u v one two =
+      record {
+        stuck = λ twin small place here.
+            two.stuck twin small place here
+            ∙ ap (cond (list_any (sticks_at twin place) fs) (stuck every step twin place)) (one.stuck twin small place here)
+            ∙ both-changed (list_any (sticks_at twin place) fs) (list_any (sticks_at twin place) es) (stuck every step twin place) (stuck_in s twin place)
+            ∙ ap (λ (b : Bool). cond b (stuck every step twin place) (stuck_in s twin place)) (sym (list_any-append (sticks_at twin place) es fs));
+        dead = λ twin small pair less.
+            two.dead twin small pair less
+            ∙ ap (cond (list_any (kills_in twin pair) fs) (is_dead every step twin pair)) (one.dead twin small pair less)
+            ∙ both-changed (list_any (kills_in twin pair) fs) (list_any (kills_in twin pair) es) (is_dead every step twin pair) (store.is_dead s twin pair)
+            ∙ ap (λ (b : Bool). cond b (is_dead every step twin pair) (store.is_dead s twin pair)) (sym (list_any-append (kills_in twin pair) es fs));
+        cells = λ t stored. subst (StoreThese v) (sym (damages_in-append damaged es fs t)) (two.cells (damages_in damaged es t) (one.cells t stored));
+        selected = two.selected ∙ one.selected;
+      }
 
 -- ---- one event more
 
--- the event at one position more
-pub events_at-push : (script : List Event) (positions : List ℕ) (position : ℕ) (e : Event) → slice_get script position ≡ Some e
-    → events_at script (positions ++ position ∷ []) ≡ events_at script positions ++ e ∷ []
-events_at-push script positions position e here =
-    filter_map-append (slice_get script) positions (position ∷ []) ∙ ap (λ (es : List Event). events_at script positions ++ es) (one (slice_get script position) refl here)
-  where
-    one : (o : Option Event) → slice_get script position ≡ o → o ≡ Some e → events_at script (position ∷ []) ≡ e ∷ []
-    one o is same = rw here refl
+-- those of the events up to it that are new
+pub new-next : (last : Option ℕ) (step : ℕ) (events : List Event) (i : ℕ) (e : Event) → i < length events → e ≡ get_or events i e
+    → new_events last step (take (i + 1) events) ≡ new_events last step (take i events) ++ new_events last step (e ∷ [])
+new-next last step events i e within is =
+    ap (new_events last step) (take_next events i e within is) ∙ filter-append (is_new last step) (take i events) (e ∷ [])
 
--- by no event nothing changes
-pub changes-none : (step : ℕ) (script : List Event) (s : Store) → Changes step script [] s s
-changes-none step script s = record { stuck = λ twin two place here. refl; dead = λ twin two pair small. refl; cells = λ t stored. stored; selected = refl }
+-- ---- an event that isn't new
 
--- one event more changes what it does
-pub changes-push : (step : ℕ) (script events : List Event) (e : Event) (s u v : Store) → Changes step script events s u → Changes step script (e ∷ []) u v
-    → Changes step script (events ++ e ∷ []) s v
-changes-push step script events e s u v h one =
-    record {
-      stuck = λ twin two place here.
-          one.stuck twin two place here
-          ∙ ap (cond (list_any (sticks_at twin place) (e ∷ [])) (stuck script step twin place)) (h.stuck twin two place here)
-          ∙ both_released (list_any (sticks_at twin place) (e ∷ [])) (list_any (sticks_at twin place) events) (stuck script step twin place) (stuck_in s twin place)
-          ∙ ap (λ (b : Bool). cond b (stuck script step twin place) (stuck_in s twin place)) (sym (list_any-append (sticks_at twin place) events (e ∷ [])));
-      dead = λ twin two pair small.
-          one.dead twin two pair small
-          ∙ ap (cond (list_any (kills_in twin pair) (e ∷ [])) (is_dead script step twin pair)) (h.dead twin two pair small)
-          ∙ both_released (list_any (kills_in twin pair) (e ∷ [])) (list_any (kills_in twin pair) events) (is_dead script step twin pair) (store.is_dead s twin pair)
-          ∙ ap (λ (b : Bool). cond b (is_dead script step twin pair) (store.is_dead s twin pair)) (sym (list_any-append (kills_in twin pair) events (e ∷ [])));
-      cells = λ t stored. subst (StoreThese v) (sym (damages-push step events e t)) (one.cells (damages step events t) (h.cells t stored));
-      selected = one.selected ∙ h.selected;
-    }
-
--- ---- those that begin or end, as they are gathered
-
--- those of the events up to this one
-changing-next : (before step : ℕ) (script : List Event) (i : ℕ) (e : Event) → slice_get script i ≡ Some e
-    → filter (begins_or_ends before step) (take (i + 1) script) ≡ filter (begins_or_ends before step) (take i script) ++ filter (begins_or_ends before step) (e ∷ [])
-changing-next before step script i e here =
-    ap (filter (begins_or_ends before step)) (take-got script i e here) ∙ filter-append (begins_or_ends before step) (take i script) (e ∷ [])
-
-pub changing-more : (before step : ℕ) (script : List Event) (i : ℕ) (e : Event) → slice_get script i ≡ Some e → begins_or_ends before step e ≡ true
-    → filter (begins_or_ends before step) (take (i + 1) script) ≡ filter (begins_or_ends before step) (take i script) ++ e ∷ []
-changing-more before step script i e here is =
-    changing-next before step script i e here ∙ ap (λ (b : Bool). filter (begins_or_ends before step) (take i script) ++ cond b (e ∷ []) []) is
-
-pub changing-same : (before step : ℕ) (script : List Event) (i : ℕ) (e : Event) → slice_get script i ≡ Some e → begins_or_ends before step e ≡ false
-    → filter (begins_or_ends before step) (take (i + 1) script) ≡ filter (begins_or_ends before step) (take i script)
-changing-same before step script i e here is =
-    changing-next before step script i e here ∙ ap (λ (b : Bool). filter (begins_or_ends before step) (take i script) ++ cond b (e ∷ []) []) is
-    ∙ append-nil (filter (begins_or_ends before step) (take i script))
-
--- and their positions
-pub within-more : (script : List Event) (positions : List ℕ) (position : ℕ) (e : Event) → All (λ p. p < length script) positions → slice_get script position ≡ Some e
-    → All (λ p. p < length script) (positions ++ position ∷ [])
-within-more script positions position e all here = All-push (λ p. p < length script) positions position all (slice_get_within script position e here)
-
--- ---- an event that neither begins nor ends
+-- neither of two
+or_parts : (a b : Bool) → (a || b) ≡ false → (a ≡ false) × (b ≡ false)
+or_parts false b h = (refl, h)
+or_parts true b h = absurd (true≢false h)
 
 -- a test that agrees
 agrees : (a b : Bool) → cond a (not b) b ≡ false → b ≡ a
@@ -96,107 +98,137 @@ agrees true false h = absurd (true≢false h)
 agrees false true h = absurd (true≢false h)
 agrees false false h = refl
 
+-- what an event sticks in the step that is in force, if one is
+abbrev stuck_by_since : Option ℕ → ℕ → Spot → Event → Stuck → Stuck
+stuck_by_since None twin place e s = s
+stuck_by_since (Some before) twin place e s = stuck_by before twin place e s
+
+-- does an event kill a twin of a pair in the step that is in force, if one is?
+abbrev kills_since : Option ℕ → ℕ → ℕ → Event → Bool
+kills_since None twin pair e = false
+kills_since (Some before) twin pair e = kills before twin pair e
+
+-- where bits are stuck or not
+abbrev stuck_where : (on : Bool) (mask value : ℕ) (s : Stuck) → Stuck
+stuck_where on mask value s = cond on (record { mask = bit_or s.mask mask; value = with_stuck s.value mask value }) s
+
+and-false : (a b : Bool) → b ≡ false → (a && b) ≡ false
+and-false true b h = h
+and-false false b h = refl
+
 -- sticks the same bits as before
-stuck_by-same : (step before twin : ℕ) (place : Spot) (e : Event) (s : Stuck) → is_active step e ≡ is_active before e → stuck_by step twin place e s ≡ stuck_by before twin place e s
-stuck_by-same step before twin place (Stick w at first last mask value) s h =
-    ap (λ (b : Bool). cond ((w == twin && is_same place at) && b) (record { mask = bit_or s.mask mask; value = with_stuck s.value mask value }) s) h
-stuck_by-same step before twin place _ s h = refl
+stuck_by-old : (last : Option ℕ) (step twin : ℕ) (place : Spot) (e : Event) (s : Stuck) → is_new last step e ≡ false → stuck_by step twin place e s ≡ stuck_by_since last twin place e s
+stuck_by-old None step twin place (Stick w at first to mask value) s h =
+    ap (λ (b : Bool). stuck_where b mask value s) (and-false (w == twin && is_same place at) (is_within first to step) h)
+stuck_by-old (Some before) step twin place (Stick w at first to mask value) s h =
+    ap (λ (b : Bool). stuck_where ((w == twin && is_same place at) && b) mask value s) (agrees (is_within first to before) (is_within first to step) h)
+stuck_by-old None step twin place _ s h = refl
+stuck_by-old (Some before) step twin place _ s h = refl
 
 -- kills the same twin as before
-kills-same : (step before twin pair : ℕ) (e : Event) → is_active step e ≡ is_active before e → kills step twin pair e ≡ kills before twin pair e
-kills-same step before twin pair (Dead w p first last) h = ap (λ (b : Bool). (w == twin && p == pair) && b) h
-kills-same step before twin pair _ h = refl
+kills-old : (last : Option ℕ) (step twin pair : ℕ) (e : Event) → is_new last step e ≡ false → kills step twin pair e ≡ kills_since last twin pair e
+kills-old None step twin pair (Dead w p first to) h = and-false (w == twin && p == pair) (is_within first to step) h
+kills-old (Some before) step twin pair (Dead w p first to) h =
+    ap (λ (b : Bool). (w == twin && p == pair) && b) (agrees (is_within first to before) (is_within first to step) h)
+kills-old None step twin pair _ h = refl
+kills-old (Some before) step twin pair _ h = refl
 
 -- and damages nothing
-not-now : (when step before : ℕ) → before ≢ step → (when == step) ≡ (when == before) → (when == step) ≡ false
-not-now when step before other h = grind (arith, nat_tests)
-
-undamaged-same : (step before : ℕ) (e : Event) (t : Twins) → before ≢ step → is_active step e ≡ is_active before e → damages_by step e t ≡ t
-undamaged-same step before (Damage twin place when mask) t other h =
-    ap (λ (b : Bool). cond b (with_place t twin place (bit_xor (word_at (t.cells twin) place) mask)) t) (not-now when step before other h)
-undamaged-same step before _ t other h = refl
+undamaged : (last : Option ℕ) (step : ℕ) (e : Event) (t : Twins) → is_new last step e ≡ false → damages_by step e t ≡ t
+undamaged last step (Damage twin place when mask) t h = ap (λ (b : Bool). cond b (with_place t twin place (bit_xor (word_at (t.cells twin) place) mask)) t) h
+undamaged last step _ t h = refl
 
 -- ---- an event elsewhere
 
 -- sticks no bits here
 stuck_by-elsewhere : (step twin : ℕ) (place : Spot) (e : Event) (s : Stuck) → sticks_at twin place e ≡ false → stuck_by step twin place e s ≡ s
-stuck_by-elsewhere step twin place (Stick w at first last mask value) s h =
-    ap (λ (b : Bool). cond (b && is_within first last step) (record { mask = bit_or s.mask mask; value = with_stuck s.value mask value }) s) h
+stuck_by-elsewhere step twin place (Stick w at first to mask value) s h = ap (λ (b : Bool). stuck_where (b && is_within first to step) mask value s) h
 stuck_by-elsewhere step twin place _ s h = refl
+
+stuck_by_since-elsewhere : (last : Option ℕ) (twin : ℕ) (place : Spot) (e : Event) (s : Stuck) → sticks_at twin place e ≡ false → stuck_by_since last twin place e s ≡ s
+stuck_by_since-elsewhere None twin place e s h = refl
+stuck_by_since-elsewhere (Some before) twin place e s h = stuck_by-elsewhere before twin place e s h
 
 -- kills no twin here
 kills-elsewhere : (step twin pair : ℕ) (e : Event) → kills_in twin pair e ≡ false → kills step twin pair e ≡ false
-kills-elsewhere step twin pair (Dead w p first last) h = ap (λ (b : Bool). b && is_within first last step) h
+kills-elsewhere step twin pair (Dead w p first to) h = ap (λ (b : Bool). b && is_within first to step) h
 kills-elsewhere step twin pair _ h = refl
 
--- ---- an active event that kills, or doesn't
-
--- an active event kills where it kills at all
-kills-active : (step twin pair : ℕ) (e : Event) → is_active step e ≡ true → kills_in twin pair e ≡ true → kills step twin pair e ≡ true
-kills-active step twin pair (Dead w p first last) active h = ap (λ (b : Bool). b && is_within first last step) h ∙ active
-kills-active step twin pair _ active h = h
-
-pub killed : (step twin pair : ℕ) (es : List Event) (i : ℕ) (e : Event) → slice_get es i ≡ Some e → is_active step e ≡ true → kills_in twin pair e ≡ true
-    → is_dead es step twin pair ≡ true
-killed step twin pair [] i e here active h = absurd (cc)
-killed step twin pair (x ∷ es) zero e here active h =
-    let same : x ≡ e = cc in
-    ap (λ (b : Bool). b || list_any (kills step twin pair) es) (ap (kills step twin pair) same ∙ kills-active step twin pair e active h)
-killed step twin pair (x ∷ es) (suc i) e here active h =
-    ap (λ (b : Bool). kills step twin pair x || b) (killed step twin pair es i e here active h) ∙ or-true (kills step twin pair x)
-
-pub unkilled-more : (step twin pair : ℕ) (es : List Event) (i : ℕ) (e : Event) → slice_get es i ≡ Some e → is_dead (take i es) step twin pair ≡ false → kills_in twin pair e ≡ false
-    → is_dead (take (i + 1) es) step twin pair ≡ false
-unkilled-more step twin pair es i e here none h =
-    ap (λ (xs : List Event). is_dead xs step twin pair) (take-got es i e here) ∙ list_any-append (kills step twin pair) (take i es) (e ∷ [])
-    ∙ ap (λ (b : Bool). b || list_any (kills step twin pair) (e ∷ [])) none ∙ ap (λ (b : Bool). b || false) (kills-elsewhere step twin pair e h)
+kills_since-elsewhere : (last : Option ℕ) (twin pair : ℕ) (e : Event) → kills_in twin pair e ≡ false → kills_since last twin pair e ≡ false
+kills_since-elsewhere None twin pair e h = refl
+kills_since-elsewhere (Some before) twin pair e h = kills-elsewhere before twin pair e h
 
 -- ---- all events
 
-module _ (before step : ℕ) where
-  -- where none that begins or ends sticks bits, the same bits are stuck as before
-  stuck-step : (b : Bool) (twin : ℕ) (place : Spot) (e : Event) (es fs : List Event) (s : Stuck) → begins_or_ends before step e ≡ b
+-- what a list of events sticks in the step that is in force, if one is
+abbrev stuck_after_since : Option ℕ → ℕ → Spot → List Event → Stuck → Stuck
+stuck_after_since last twin place [] s = s
+stuck_after_since last twin place (e ∷ es) s = stuck_after_since last twin place es (stuck_by_since last twin place e s)
+
+after-since : (last : Option ℕ) (twin : ℕ) (place : Spot) (es : List Event) → stuck_after_since last twin place es nothing ≡ stuck_since last es twin place
+after-since None twin place es = none es where
+  none : (es : List Event) → stuck_after_since None twin place es nothing ≡ nothing
+  none [] = refl
+  none (e ∷ es) = none es
+after-since (Some before) twin place es = same es nothing where
+  same : (es : List Event) (s : Stuck) → stuck_after_since (Some before) twin place es s ≡ stuck_after before twin place es s
+  same [] s = refl
+  same (e ∷ es) s = same es (stuck_by before twin place e s)
+
+any-since : (last : Option ℕ) (twin pair : ℕ) (es : List Event) → list_any (kills_since last twin pair) es ≡ is_dead_since last es twin pair
+any-since None twin pair [] = refl
+any-since None twin pair (e ∷ es) = any-since None twin pair es
+any-since (Some before) twin pair es = refl
+
+module _ (last : Option ℕ) (step : ℕ) where
+  -- where none that is new sticks bits, the same bits are stuck as before
+  stuck-step : (b : Bool) (twin : ℕ) (place : Spot) (e : Event) (es fs : List Event) (s : Stuck) → is_new last step e ≡ b
       → list_any (sticks_at twin place) (cond b (e ∷ fs) fs) ≡ false
-      → ((s : Stuck) → list_any (sticks_at twin place) fs ≡ false → stuck_after step twin place es s ≡ stuck_after before twin place es s)
-      → stuck_after step twin place (e ∷ es) s ≡ stuck_after before twin place (e ∷ es) s
+      → ((s : Stuck) → list_any (sticks_at twin place) fs ≡ false → stuck_after step twin place es s ≡ stuck_after_since last twin place es s)
+      → stuck_after step twin place (e ∷ es) s ≡ stuck_after_since last twin place (e ∷ es) s
   stuck-step true twin place e es fs s is none rest =
       let parts = or_parts (sticks_at twin place e) (list_any (sticks_at twin place) fs) none in
-      ap (stuck_after step twin place es) (stuck_by-elsewhere step twin place e s parts.0 ∙ sym (stuck_by-elsewhere before twin place e s parts.0))
-      ∙ rest (stuck_by before twin place e s) parts.1
+      ap (stuck_after step twin place es) (stuck_by-elsewhere step twin place e s parts.0 ∙ sym (stuck_by_since-elsewhere last twin place e s parts.0))
+      ∙ rest (stuck_by_since last twin place e s) parts.1
   stuck-step false twin place e es fs s is none rest =
-      ap (stuck_after step twin place es) (stuck_by-same step before twin place e s (agrees (is_active before e) (is_active step e) is)) ∙ rest (stuck_by before twin place e s) none
+      ap (stuck_after step twin place es) (stuck_by-old last step twin place e s is) ∙ rest (stuck_by_since last twin place e s) none
 
-  stuck-same : (twin : ℕ) (place : Spot) (es : List Event) (s : Stuck) → list_any (sticks_at twin place) (filter (begins_or_ends before step) es) ≡ false
-      → stuck_after step twin place es s ≡ stuck_after before twin place es s
+  stuck-same : (twin : ℕ) (place : Spot) (es : List Event) (s : Stuck) → list_any (sticks_at twin place) (new_events last step es) ≡ false
+      → stuck_after step twin place es s ≡ stuck_after_since last twin place es s
   stuck-same twin place [] s none = refl
-  stuck-same twin place (e ∷ es) s none =
-      stuck-step (begins_or_ends before step e) twin place e es (filter (begins_or_ends before step) es) s refl none (stuck-same twin place es)
+  stuck-same twin place (e ∷ es) s none = stuck-step (is_new last step e) twin place e es (new_events last step es) s refl none (stuck-same twin place es)
 
   -- and so of the twins that are dead
-  dead-step : (b : Bool) (twin pair : ℕ) (e : Event) (es fs : List Event) → begins_or_ends before step e ≡ b
+  dead-step : (b : Bool) (twin pair : ℕ) (e : Event) (es fs : List Event) → is_new last step e ≡ b
       → list_any (kills_in twin pair) (cond b (e ∷ fs) fs) ≡ false
-      → (list_any (kills_in twin pair) fs ≡ false → list_any (kills step twin pair) es ≡ list_any (kills before twin pair) es)
-      → list_any (kills step twin pair) (e ∷ es) ≡ list_any (kills before twin pair) (e ∷ es)
+      → (list_any (kills_in twin pair) fs ≡ false → list_any (kills step twin pair) es ≡ list_any (kills_since last twin pair) es)
+      → list_any (kills step twin pair) (e ∷ es) ≡ list_any (kills_since last twin pair) (e ∷ es)
   dead-step true twin pair e es fs is none rest =
       let parts = or_parts (kills_in twin pair e) (list_any (kills_in twin pair) fs) none in
-      ap (λ (b : Bool). b || list_any (kills step twin pair) es) (kills-elsewhere step twin pair e parts.0 ∙ sym (kills-elsewhere before twin pair e parts.0))
-      ∙ ap (λ (b : Bool). kills before twin pair e || b) (rest parts.1)
+      ap (λ (b : Bool). b || list_any (kills step twin pair) es) (kills-elsewhere step twin pair e parts.0 ∙ sym (kills_since-elsewhere last twin pair e parts.0))
+      ∙ ap (λ (b : Bool). kills_since last twin pair e || b) (rest parts.1)
   dead-step false twin pair e es fs is none rest =
-      ap (λ (b : Bool). b || list_any (kills step twin pair) es) (kills-same step before twin pair e (agrees (is_active before e) (is_active step e) is))
-      ∙ ap (λ (b : Bool). kills before twin pair e || b) (rest none)
+      ap (λ (b : Bool). b || list_any (kills step twin pair) es) (kills-old last step twin pair e is) ∙ ap (λ (b : Bool). kills_since last twin pair e || b) (rest none)
 
-  dead-same : (twin pair : ℕ) (es : List Event) → list_any (kills_in twin pair) (filter (begins_or_ends before step) es) ≡ false
-      → list_any (kills step twin pair) es ≡ list_any (kills before twin pair) es
+  dead-same : (twin pair : ℕ) (es : List Event) → list_any (kills_in twin pair) (new_events last step es) ≡ false
+      → list_any (kills step twin pair) es ≡ list_any (kills_since last twin pair) es
   dead-same twin pair [] none = refl
-  dead-same twin pair (e ∷ es) none =
-      dead-step (begins_or_ends before step e) twin pair e es (filter (begins_or_ends before step) es) refl none (dead-same twin pair es)
+  dead-same twin pair (e ∷ es) none = dead-step (is_new last step e) twin pair e es (new_events last step es) refl none (dead-same twin pair es)
 
-  -- only those that begin or end damage
-  damages-changed : (es : List Event) (t : Twins) → before ≢ step → damages step (filter (begins_or_ends before step) es) t ≡ damages step es t
-  damages-changed [] t other = refl
-  damages-changed (e ∷ es) t other =
-      damages-step step (begins_or_ends before step e) e es (filter (begins_or_ends before step) es) t
-      (λ is. undamaged-same step before e t other (agrees (is_active before e) (is_active step e) is)) (λ u. damages-changed es u other)
+  -- only those that are new damage
+  damages-step : (b : Bool) (e : Event) (es fs : List Event) (t : Twins) → (b ≡ false → damages_by step e t ≡ t)
+      → ((u : Twins) → damages step fs u ≡ damages step es u) → damages step (cond b (e ∷ fs) fs) t ≡ damages step (e ∷ es) t
+  damages-step true e es fs t idle rest = rest (damages_by step e t)
+  damages-step false e es fs t idle rest = rest t ∙ ap (damages step es) (sym (idle refl))
+
+  damages-new : (es : List Event) (t : Twins) → damages step (new_events last step es) t ≡ damages step es t
+  damages-new [] t = refl
+  damages-new (e ∷ es) t = damages-step (is_new last step e) e es (new_events last step es) t (undamaged last step e t) (damages-new es)
+
+  damages_in-new : (damaged : Option ℕ) (es : List Event) (t : Twins) → IfSome damaged (λ other. other ≡ step) → damages_in damaged (new_events last step es) t ≡ damages_in damaged es t
+  damages_in-new None es t own = refl
+  damages_in-new (Some other) es t own =
+      subst (λ (n : ℕ). damages n (new_events last step es) t ≡ damages n es t) (sym own) (damages-new es t)
 
 -- damage selects no twin
 selected-where : (b : Bool) (t u : Twins) → u.selected ≡ t.selected → (cond b u t).selected ≡ t.selected
@@ -211,6 +243,10 @@ selected-after : (step : ℕ) (es : List Event) (t : Twins) → (damages step es
 selected-after step [] t = refl
 selected-after step (e ∷ es) t = selected-after step es (damages_by step e t) ∙ selected-by step e t
 
+selected-in : (damaged : Option ℕ) (es : List Event) (t : Twins) → (damages_in damaged es t).selected ≡ t.selected
+selected-in None es t = refl
+selected-in (Some step) es t = selected-after step es t
+
 -- ---- what a step puts in force
 
 -- new where it changes, and old where both are the same
@@ -218,39 +254,31 @@ new-or-old : {X : Type 0} (b : Bool) (x y z : X) → y ≡ z → (b ≡ false �
 new-or-old true x y z old same = refl
 new-or-old false x y z old same = old ∙ same refl
 
-carries-changed : (before step : ℕ) (script events : List Event) (s u : Store) (t : Twins) → before ≢ step → events ≡ filter (begins_or_ends before step) script
-    → Changes step script events s u → Carries (Some before) script s t → Carries (Some step) script u (damages step script t)
-carries-changed before step script events s u t other are h old =
+carries-changed : (last : Option ℕ) (step : ℕ) (damaged : Option ℕ) (events : List Event) (s u : Store) (t : Twins) → IfSome damaged (λ other. other ≡ step)
+    → Changes events step damaged (new_events last step events) s u → Carries last events s t → Carries (Some step) events u (damages_in damaged events t)
+carries-changed last step damaged events s u t own h old =
     record {
-      cells = subst (StoreThese u) (ap (λ (es : List Event). damages step es t) are ∙ damages-changed before step script t other) (h.cells t old.cells);
-      selected = h.selected ∙ old.selected ∙ sym (selected-after step script t);
+      cells = subst (StoreThese u) (damages_in-new last step damaged events t own) (h.cells t old.cells);
+      selected = h.selected ∙ old.selected ∙ sym (selected-in damaged events t);
       stuck = λ twin two place here.
           h.stuck twin two place here
-          ∙ new-or-old (list_any (sticks_at twin place) events) (stuck script step twin place) (stuck_in s twin place) (stuck script before twin place)
+          ∙ new-or-old (list_any (sticks_at twin place) (new_events last step events)) (stuck events step twin place) (stuck_in s twin place) (stuck_since last events twin place)
           (old.stuck twin two place here)
-          (λ none. sym (stuck-same before step twin place script nothing (ap (list_any (sticks_at twin place)) (sym are) ∙ none)));
+          (λ none. sym (stuck-same last step twin place events nothing none ∙ after-since last twin place events));
       dead = λ twin two pair small.
           h.dead twin two pair small
-          ∙ new-or-old (list_any (kills_in twin pair) events) (is_dead script step twin pair) (store.is_dead s twin pair) (is_dead script before twin pair)
+          ∙ new-or-old (list_any (kills_in twin pair) (new_events last step events)) (is_dead events step twin pair) (store.is_dead s twin pair) (is_dead_since last events twin pair)
           (old.dead twin two pair small)
-          (λ none. sym (dead-same before step twin pair script (ap (list_any (kills_in twin pair)) (sym are) ∙ none)));
+          (λ none. sym (dead-same last step twin pair events none ∙ any-since last twin pair events));
     }
 
-next-other : (before step : ℕ) → before + 1 ≡ step → before ≢ step
-next-other before step next same = absurd (omega (arith, next, same))
-
--- the memory holds what the step puts in force, where a step before was in force
-pub holds-changed : (o : Trial) (script : List Event) (step : ℕ) (old new : Kept) (t : Twins) (i : Memory) (last : Option ℕ) (positions : List ℕ) → o.script ≡ script
-    → IsSomeAnd last (λ before. (before + 1 ≡ step) × AreChanges script before step positions)
-    → Changes step script (events_at script positions) old.twins new.twins → new.twins.banks ≡ old.twins.banks → new.ledger ≡ old.ledger
-    → Holds o last old t i → Holds o (Some step) new (damages step o.script t) i
-holds-changed o script step old new t i None positions same few changes banks ledger h = absurd few
-holds-changed o script step old new t i (Some before) positions same few changes banks ledger h =
+-- the memory holds what the step puts in force
+pub holds-changed : (o : Trial) (last : Option ℕ) (step : ℕ) (damaged : Option ℕ) (old new : Kept) (t : Twins) (i : Memory) → IfSome damaged (λ other. other ≡ step)
+    → Changes o.script step damaged (new_events last step o.script) old.twins new.twins → new.twins.banks ≡ old.twins.banks → new.ledger ≡ old.ledger
+    → Holds o last old t i → Holds o (Some step) new (damages_in damaged o.script t) i
+holds-changed o last step damaged old new t i own changes banks ledger h =
     record {
       banks = banks ∙ h.banks;
-      twins =
-          subst (λ (es : List Event). Carries (Some step) es new.twins (damages step es t)) (sym same)
-          (carries-changed before step script (events_at script positions) old.twins new.twins t (next-other before step few.0) few.1.events changes
-          (subst (λ (es : List Event). Carries (Some before) es old.twins t) same h.twins));
+      twins = carries-changed last step damaged o.script old.twins new.twins t own changes h.twins;
       words = subst (λ (l : Intended). IsMemory l.words i) (sym ledger) h.words;
     }

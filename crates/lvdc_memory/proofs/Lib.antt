@@ -1,10 +1,10 @@
-mod Begins
 pub mod Begun
 mod Carrying
 mod Changing
-pub mod OnMemory
-mod Positions
-mod Releasing
+mod Joining
+mod OnMemory
+mod Ordered
+mod PartLaws
 mod Rows
-mod Staying
+mod Sorted
 mod Soundness

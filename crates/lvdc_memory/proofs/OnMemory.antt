@@ -1,5 +1,5 @@
 -- The memory goes by the events on it alone as by the whole script.
-use Rattle.std.proofs.Common.{◌≡◌, ℕ, ◌+◌, Bool, ◌||◌, List, [], ◌∷◌, ◌++◌, take, slice_get, refl, sym, ap, ◌∙◌, subst}
+use Rattle.std.proofs.Common.{◌≡◌, ℕ, ◌+◌, Bool, ◌||◌, List, [], ◌∷◌, ◌++◌, take, slice_get, refl, sym, ap, ◌∙◌}
 use Rattle.std.proofs.lemmas.List.{take_more}
 use Rattle.std.proofs.lemmas.List.Elements.{filter-append}
 use Rattle.std.proofs.lemmas.Option.{slice_get_within, get_or_from_slice_get}
@@ -20,7 +20,7 @@ use Rattle.lvdc_memory.specs.OnMemory.{is_on_memory, on_memory}
 
 -- ---- what the events on memory do is what all do
 
-stuck_only : (step twin : ℕ) (place : Spot) (es : List Event) (s : Stuck) → stuck_after step twin place (on_memory es) s ≡ stuck_after step twin place es s
+pub stuck_only : (step twin : ℕ) (place : Spot) (es : List Event) (s : Stuck) → stuck_after step twin place (on_memory es) s ≡ stuck_after step twin place es s
 stuck_only step twin place [] s = refl
 stuck_only step twin place (Flip number copy first last index mask ∷ es) s = stuck_only step twin place es s
 stuck_only step twin place (Force number copy first last index mask value ∷ es) s = stuck_only step twin place es s
@@ -30,7 +30,7 @@ stuck_only step twin place (Damage w at t mask ∷ es) s = stuck_only step twin 
 stuck_only step twin place (Stick w at first last mask value ∷ es) s = stuck_only step twin place es (stuck_by step twin place (Stick w at first last mask value) s)
 stuck_only step twin place (Dead w pair first last ∷ es) s = stuck_only step twin place es s
 
-dead_only : (step twin pair : ℕ) (es : List Event) → is_dead (on_memory es) step twin pair ≡ is_dead es step twin pair
+pub dead_only : (step twin pair : ℕ) (es : List Event) → is_dead (on_memory es) step twin pair ≡ is_dead es step twin pair
 dead_only step twin pair [] = refl
 dead_only step twin pair (Flip number copy first last index mask ∷ es) = dead_only step twin pair es
 dead_only step twin pair (Force number copy first last index mask value ∷ es) = dead_only step twin pair es
@@ -40,7 +40,7 @@ dead_only step twin pair (Damage w at t mask ∷ es) = dead_only step twin pair 
 dead_only step twin pair (Stick w at first last mask value ∷ es) = dead_only step twin pair es
 dead_only step twin pair (Dead w p first last ∷ es) = ap (λ (b : Bool). kills step twin pair (Dead w p first last) || b) (dead_only step twin pair es)
 
-damages_only : (step : ℕ) (es : List Event) (t : Twins) → damages step (on_memory es) t ≡ damages step es t
+pub damages_only : (step : ℕ) (es : List Event) (t : Twins) → damages step (on_memory es) t ≡ damages step es t
 damages_only step [] t = refl
 damages_only step (Flip number copy first last index mask ∷ es) t = damages_only step es t
 damages_only step (Force number copy first last index mask value ∷ es) t = damages_only step es t
@@ -91,14 +91,6 @@ holds-whole o last m t i h =
           };
       words = h.words;
     }
-
--- a step that the memory begins by them is begun by the script
-pub begins-whole : (o : Trial) (script : List Event) (step : ℕ) (last : Option ℕ) (old new : Kept) (t : Twins) (i : Memory) → script ≡ on_memory o.script
-    → ((p : Trial) (t : Twins) (i : Memory) → p.script ≡ script → Holds p last old t i → Holds p (Some step) new (damages step p.script t) i)
-    → Holds o last old t i → Holds o (Some step) new (damages step o.script t) i
-begins-whole o script step last old new t i same begun h =
-    subst (λ (u : Twins). Holds o (Some step) new u i) (damages_only step o.script t)
-    (holds-whole o (Some step) new (damages step (on_memory o.script) t) i (begun (only o) t i (sym same) (holds-only o last old t i h)))
 
 -- ---- as they are gathered
 

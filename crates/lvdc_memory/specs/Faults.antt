@@ -1,15 +1,13 @@
 -- What a script puts in force in a step, and which of its events name memory that is there.
-use Rattle.std.specs.Prelude.{ℕ, ◌<◌, ◌&&◌, ◌==◌, if◌then◌else◌, ◌≡◌, Bool, false, List}
+use Rattle.std.specs.Prelude.{ℕ, ◌&&◌, ◌==◌, Bool, false, List}
 use Rattle.std.specs.declared.option.Option.{Option}
 use Rattle.std.specs.declared.option.Option.TheVariants.{None, Some}
 use Rattle.lvdc_map.specs.Address.{Spot, is_same}
-use Rattle.lvdc_map.specs.Banks.{IsPlace}
-use Rattle.lvdc_twin.specs.Store.{Store, nothing, stuck_in}
-use Rattle.lvdc_twin.specs.Store as store
+use Rattle.lvdc_twin.specs.Store.{nothing}
 use Rattle.lvdc_twin.specs.declared.stuck.Stuck.{Stuck}
 use Rattle.lvdc_fault.specs.Damage.{stuck, is_dead}
 use Rattle.lvdc_fault.specs.declared.event.Event.{Event}
-use Rattle.lvdc_fault.specs.declared.event.Event.TheVariants.{Damage, Stick, Dead}
+use Rattle.lvdc_fault.specs.declared.event.Event.TheVariants.{Stick, Dead}
 
 -- what is stuck at a place of a twin, where what a step of the script sticks is in force
 abbrev pub stuck_since : Option ℕ → List Event → ℕ → Spot → Stuck
@@ -21,13 +19,6 @@ abbrev pub is_dead_since : Option ℕ → List Event → ℕ → ℕ → Bool
 is_dead_since None script twin pair = false
 is_dead_since (Some step) script twin pair = is_dead script step twin pair
 
--- an event on memory names one of two twins and one of four pairs
-abbrev pub NamesMemory : Event → Type 0
-NamesMemory (Damage twin at t mask) = (twin < 2) × (at.pair < 4)
-NamesMemory (Stick twin at first last mask value) = (twin < 2) × (at.pair < 4)
-NamesMemory (Dead twin pair first last) = (twin < 2) × (pair < 4)
-NamesMemory _ = Unit
-
 -- does an event stick bits at a place of a twin?
 abbrev pub sticks_at : ℕ → Spot → Event → Bool
 sticks_at twin place (Stick w at first last mask value) = w == twin && is_same place at
@@ -37,11 +28,3 @@ sticks_at twin place _ = false
 abbrev pub kills_in : ℕ → ℕ → Event → Bool
 kills_in twin pair (Dead w p first last) = w == twin && p == pair
 kills_in twin pair _ = false
-
--- what an event sticks and kills is released, and all else is as before
-pub record Releases (e : Event) (t u : Store) : Type 0 where
-  pub stuck : (twin : ℕ) → twin < 2 → (place : Spot) → IsPlace place
-      → stuck_in u twin place ≡ if sticks_at twin place e then nothing else stuck_in t twin place
-  pub dead : (twin : ℕ) → twin < 2 → (pair : ℕ) → pair < 4 → store.is_dead u twin pair ≡ if kills_in twin pair e then false else store.is_dead t twin pair
-  pub cells : u.cells ≡ t.cells
-  pub selected : u.selected ≡ t.selected

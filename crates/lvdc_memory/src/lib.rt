@@ -2,10 +2,12 @@
 #![tactic(auto)]
 
 mod changed;
+mod events;
 mod memory;
-mod own_events;
+mod order;
+mod parts;
 mod resume;
 mod sound;
 
+pub use events::MemoryEvents;
 pub use memory::VotedMemory;
-pub use own_events::{begin_memory, memory_events, put_last_in_force};

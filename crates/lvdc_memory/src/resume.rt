@@ -1,17 +1,15 @@
 //! A memory that was saved: made again from its cells and intended words, and what it has of them.
 
-ghost use Rattle.std.specs.Prelude.{◌≡◌, ℕ, ◌<◌, All, length, Option, None, Some, IfOk};
+ghost use Rattle.std.specs.Prelude.{◌≡◌, ℕ, ◌<◌, All, length, Option, None, IfOk};
 ghost use Rattle.lvdc_map.specs.Memory.{Memory, AllThere};
 ghost use Rattle.lvdc_twin.specs.Cells.{NamesPlace, AreHeld};
 ghost use Rattle.lvdc_fault.specs.Ledger.{ArePlaced};
-ghost use Rattle.lvdc_fault.specs.Script.{active_at};
 ghost use Rattle.lvdc_model.specs.Trial.{Trial};
 ghost use Rattle.lvdc_model.specs.Twins as model;
-ghost use Rattle.lvdc_memory.specs.Faults.{NamesMemory};
 ghost use Rattle.lvdc_memory.specs.Holds.{Holds, StoreCells, AreIntended};
 
 use crate::VotedMemory;
-use lvdc_fault::{Active, Ledger, Script, active_suffice};
+use lvdc_fault::Ledger;
 use lvdc_map::{Banks, Placed};
 use lvdc_twin::{Held, Twins};
 use lvdc_word::{NoMemory, Seq};
@@ -40,21 +38,6 @@ impl VotedMemory {
             twins: Twins::from_cells(alloc, held, selected, banks)?,
             ledger: Ledger::new(alloc, words, banks)?,
         })
-    }
-
-    /// Puts in force what a step of the script sticks and kills, by the events active at it. Nothing is damaged. What was in
-    /// force before must have been released.
-    pub fn put_in_force(&mut self, script: &Script, active: &Active, step: u64)
-        requires names { All NamesMemory script.now }
-        requires active { active.now.held ≡ active_at script.now step }
-        ensures forced { (o : Trial) (t : model.Twins) (i : Memory) → o.script ≡ script.now
-            → Holds o None self.old t i → Holds o (Some step) self.new t i }
-        ensures banks { self.new.twins.banks ≡ self.old.twins.banks }
-    {
-        active_suffice(script, step);
-        for position in active.positions() {
-            self.put_one(script.event(*position));
-        }
     }
 
     /// The stored cells but for those of the word 0, rising by twin and place.

@@ -1,16 +1,16 @@
 ghost use Rattle.std.specs.Prelude.{◌≡◌, ◌+◌, ◌≤◌, ◌<◌, List, All, length, IfOk, vec_len, vec_capacity};
-ghost use Rattle.lvdc_fault.specs.Activity.{Fits};
 ghost use Rattle.lvdc_fault.specs.Events.{IsEvent};
 ghost use Rattle.lvdc_memory.specs.Holds.{Holds};
+ghost use Rattle.lvdc_memory.specs.Order.{AreOnMemory};
 ghost use Rattle.lvdc_model.specs.Known.{last_made};
 ghost use Rattle.lvdc_model.specs.Trial.{Trial};
 ghost use Rattle.lvdc_model.specs.Voted.{Voted};
 ghost use Rattle.lvdc_snapshot.specs.Snapshot.{IsWhole, Means};
 
 use crate::lists::{once_more, with_room};
-use lvdc_fault::{Active, Script};
+use lvdc_fault::Script;
 use lvdc_map::{Banks, Placed};
-use lvdc_memory::{VotedMemory, put_last_in_force};
+use lvdc_memory::{MemoryEvents, VotedMemory};
 use lvdc_model::Repair;
 use lvdc_plain::Exchange;
 use lvdc_twin::Held;
@@ -92,19 +92,22 @@ impl Snapshot {
         Ok((log, repairs))
     }
 
-    /// The memory that it means, in which what a script sticks and kills in the step before is in force; and by which of the script's
-    /// events it is.
-    pub fn memory(&self, alloc: Global, script: &Script) -> Result<(Active, VotedMemory), NoMemory>
+    /// The memory that it means, in which what a script sticks and kills in the step before is in force; and the script's events on
+    /// memory, by which it is.
+    pub fn memory(
+        &self,
+        alloc: Global,
+        script: &Script,
+    ) -> Result<(MemoryEvents, VotedMemory), NoMemory>
         requires whole { IsWhole self.now }
         requires events { All IsEvent script.now }
-        ensures fits { IfOk result (λ made. Fits script.now made.0) }
-        ensures within { IfOk result (λ made. All (λ position. position < length script.now) made.0.held) }
+        ensures events { IfOk result (λ made. AreOnMemory script.now made.0.events) }
         ensures last { IfOk result (λ made. made.0.last ≡ last_made self.now.steps) }
         ensures holds { IfOk result (λ made. (o : Trial) (v : Voted) → o.script ≡ script.now → o.opening.banks ≡ self.now.banks
             → Means self.now v → Holds o made.0.last made.1 v.twins v.intended) }
         ensures banks { IfOk result (λ made. made.1.twins.banks ≡ self.now.banks) }
     {
-        let mut active = Active::for_script(alloc, script)?;
+        let mut on_memory = MemoryEvents::for_script(alloc, script)?;
         let mut memory = VotedMemory::from_cells(
             alloc,
             self.cells.items(),
@@ -112,8 +115,8 @@ impl Snapshot {
             self.words.items(),
             self.banks,
         )?;
-        put_last_in_force(script, self.steps, &mut active, &mut memory);
-        Ok((active, memory))
+        on_memory.put_last_in_force(self.steps, &mut memory);
+        Ok((on_memory, memory))
     }
 
     /// The port exchanges and the repairs, and room for so many more of each.

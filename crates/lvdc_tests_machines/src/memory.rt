@@ -1,12 +1,11 @@
-ghost use Rattle.std.specs.Prelude.{◌≡◌, ◌<◌, true, All, IfOk, length};
+ghost use Rattle.std.specs.Prelude.{◌≡◌, ◌<◌, ◌≤◌, true, All, IfOk};
 ghost use Rattle.lvdc_map.specs.Banks.{is_there};
-ghost use Rattle.lvdc_fault.specs.Activity.{Fits};
-ghost use Rattle.lvdc_memory.specs.Faults.{NamesMemory};
+ghost use Rattle.lvdc_fault.specs.Events.{IsEvent};
 
 use crate::same::{holds, same};
-use lvdc_fault::{Active, Event, Script};
+use lvdc_fault::{Event, Script};
 use lvdc_map::{Address, Banks, Placed};
-use lvdc_memory::VotedMemory;
+use lvdc_memory::{MemoryEvents, VotedMemory};
 use lvdc_twin::{BothBad, ReadOut};
 use lvdc_word::{Cell, Word};
 use std::test::Fail;
@@ -29,30 +28,15 @@ fn five(rt: &HostRuntime, at: Address, banks: Banks) -> Result<VotedMemory, Fail
     Ok(VotedMemory::new(rt.alloc(), &image, banks)?)
 }
 
-/// A script of two events.
-fn two(rt: &HostRuntime, first: Event, second: Event) -> Result<Script, Fail>
-    requires first { NamesMemory first }
-    requires second { NamesMemory second }
-    ensures { IfOk result (λ s. All NamesMemory s) }
+/// The events of a script of two.
+fn two(rt: &HostRuntime, first: Event, second: Event) -> Result<MemoryEvents, Fail>
+    requires first { IsEvent first }
+    requires second { IsEvent second }
 {
     let mut script = Script::new(rt.alloc());
     script.push(first)?;
     script.push(second)?;
-    Ok(script)
-}
-
-/// One step after another, as a machine makes them.
-fn go_to(memory: &mut VotedMemory, script: &Script, active: &mut Active, step: u64)
-    requires names { All NamesMemory script.now }
-    requires fits { Fits script.now active.old }
-    requires within { All (λ position. position < length script.now) active.old.held }
-    ensures fits { Fits script.now active.new }
-    ensures within { All (λ position. position < length script.now) active.new.held }
-    ensures banks { memory.new.twins.banks ≡ memory.old.twins.banks }
-{
-    memory.release(script, active);
-    script.active(step, active);
-    memory.begin(script, active, step);
+    Ok(MemoryEvents::for_script(rt.alloc(), &script)?)
 }
 
 fn found(repaired: Option<u8>, switched: bool) -> Result<ReadOut, BothBad> {
@@ -67,7 +51,8 @@ fn found(repaired: Option<u8>, switched: bool) -> Result<ReadOut, BothBad> {
 fn damage(twin: u8, at: Address, step: u64) -> Event
     requires twin { twin < 2 }
     requires pair { at.pair < 4 }
-    ensures { NamesMemory result }
+    requires step { step < 9 }
+    ensures { IsEvent result }
 {
     Event::Damage {
         twin,
@@ -81,7 +66,7 @@ fn damage(twin: u8, at: Address, step: u64) -> Event
 fn stuck(mask: u32, value: u32) -> Event
     requires mask { mask < 8 }
     requires value { value < 8 }
-    ensures { NamesMemory result }
+    ensures { IsEvent result }
 {
     Event::Stick {
         twin: 0,
@@ -95,35 +80,32 @@ fn stuck(mask: u32, value: u32) -> Event
 
 #[test]
 fn where_stuck_bits_meet_the_later_ones_count(rt: HostRuntime) -> Result<(), Fail> {
-    let right_last = two(&rt, stuck(3, 0), stuck(1, 1))?;
-    let mut active = Active::for_script(rt.alloc(), &right_last)?;
+    let mut right_last = two(&rt, stuck(3, 0), stuck(1, 1))?;
     let mut memory = five(&rt, HERE, Banks::DUPLEX)?;
-    go_to(&mut memory, &right_last, &mut active, 2);
+    right_last.begin(2, &mut memory);
     same(&rt, memory.read(HERE), found(None, false));
-    let wrong_last = two(&rt, stuck(1, 1), stuck(3, 0))?;
-    let mut active = Active::for_script(rt.alloc(), &wrong_last)?;
+    let mut wrong_last = two(&rt, stuck(1, 1), stuck(3, 0))?;
     let mut memory = five(&rt, HERE, Banks::DUPLEX)?;
-    go_to(&mut memory, &wrong_last, &mut active, 2);
+    wrong_last.begin(2, &mut memory);
     same(&rt, memory.read(HERE), found(Some(0), true));
     same(&rt, memory.read(HERE), found(Some(0), false));
-    go_to(&mut memory, &wrong_last, &mut active, 3);
+    wrong_last.begin(3, &mut memory);
     same(&rt, memory.read(HERE), found(None, false));
     Ok(())
 }
 
 #[test]
 fn a_bank_of_a_simplex_pair_stands_alone(rt: HostRuntime) -> Result<(), Fail> {
-    let script = two(&rt, damage(0, HERE, 0), damage(1, HERE, 1))?;
-    let mut active = Active::for_script(rt.alloc(), &script)?;
+    let mut events = two(&rt, damage(0, HERE, 0), damage(1, HERE, 1))?;
     let other = Address { pair: 5, ..HERE };
     let banks = Banks::new(2).ok_or("pair 1")?;
     let mut memory = five(&rt, other, banks)?;
-    go_to(&mut memory, &script, &mut active, 0);
+    events.begin(0, &mut memory);
     holds(&rt, !memory.recoverable(HERE));
     holds(&rt, memory.recoverable(other));
     same(&rt, memory.read(HERE), Err(BothBad));
     same(&rt, memory.read(other), found(None, false));
-    go_to(&mut memory, &script, &mut active, 1);
+    events.begin(1, &mut memory);
     same(&rt, memory.read(other), Err(BothBad));
     memory.store(other, Word::within(7));
     holds(&rt, memory.recoverable(other));

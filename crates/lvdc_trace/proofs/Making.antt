@@ -151,7 +151,7 @@ module _ (first : Bool) (o : Trial) (v : Voted) (n : ℕ) (m after : View) (ds l
   shown = subst (λ (k : Mode). Shows o after later (state_from after.end k o v (n + 1))) mode t.shows
 
   -- the step was begun last
-  pub told-last : after.active.last ≡ Some m.steps
+  pub told-last : after.on_memory.last ≡ Some m.steps
   told-last =
       let end = shown.end in
       let steps = shown.steps in

@@ -12,7 +12,7 @@ use lvdc_word::NoMemory;
 /// Adds the line of a copy that was wrong in the step that was begun last, where it was.
 fn put_fault(out: &mut Vec<u8>, machine: &Machine, number: u8, copy: u8) -> Result<(), NoMemory>
     requires { IsCopy number copy }
-    ensures line { OnOk result ((step : ℕ) → machine.now.active.last ≡ Some step
+    ensures line { OnOk result ((step : ℕ) → machine.now.on_memory.last ≡ Some step
         → out.new.items ≡ out.old.items ++ fault_line machine.now.script step number copy) }
     ensures short { OnOk result (length out.new.items ≤ length out.old.items + 10) }
 {
@@ -31,7 +31,7 @@ fn put_fault(out: &mut Vec<u8>, machine: &Machine, number: u8, copy: u8) -> Resu
 fn put_module_faults(out: &mut Vec<u8>, machine: &Machine, number: u8) -> Result<(), NoMemory>
     requires first { 1 ≤ number }
     requires last { number ≤ 7 }
-    ensures lines { OnOk result ((step : ℕ) → machine.now.active.last ≡ Some step
+    ensures lines { OnOk result ((step : ℕ) → machine.now.on_memory.last ≡ Some step
         → out.new.items ≡ out.old.items ++ fault_lines machine.now.script step number) }
     ensures short { OnOk result (length out.new.items ≤ length out.old.items + 30) }
 {
@@ -43,7 +43,7 @@ fn put_module_faults(out: &mut Vec<u8>, machine: &Machine, number: u8) -> Result
 
 /// Adds the lines of all copies that were wrong in the step that was begun last, by module and copy.
 pub(crate) fn put_faults(out: &mut Vec<u8>, machine: &Machine) -> Result<(), NoMemory>
-    ensures lines { OnOk result ((step : ℕ) → machine.now.active.last ≡ Some step
+    ensures lines { OnOk result ((step : ℕ) → machine.now.on_memory.last ≡ Some step
         → out.new.items ≡ out.old.items ++ faults_text machine.now.script step) }
     ensures short { OnOk result (length out.new.items ≤ length out.old.items + 210) }
 {

@@ -31,7 +31,7 @@ fn put_step(
     first: bool,
     before: &Votes,
 ) -> Result<(), NoMemory>
-    ensures text { OnOk result ((copies : List Copies) → machine.now.active.last ≡ Some step → AreVotes before.now copies
+    ensures text { OnOk result ((copies : List Copies) → machine.now.on_memory.last ≡ Some step → AreVotes before.now copies
         → out.new.items ≡ out.old.items ++ step_text first machine.now.script step made.now copies machine.now.copies) }
     ensures short { OnOk result (step < 10 ^ 7 → length out.new.items ≤ length out.old.items + 1115) }
 {

@@ -6,7 +6,7 @@ use Rattle.lvdc_trace.proofs.copies.put_faults.Given as goal
 
 abbrev pub invariant-loop-before : goal.invariant-loop-before
 invariant-loop-before l = record {
-  lines : (step : ℕ) → l.machine.active.last ≡ Some step
+  lines : (step : ℕ) → l.machine.on_memory.last ≡ Some step
       → l.out.items ≡ l.initial.out.items ++ lines_below (λ before. fault_lines l.machine.script step (before + 1)) l.before;
   short : length l.out.items ≤ length l.initial.out.items + 30 * l.before;
 }

@@ -1,16 +1,14 @@
 use Rattle.std.proofs.Common.{length, refl, sym, ap, ◌∙◌, arith}
-use Rattle.lvdc_machine.proofs.Starting.{stands-start, nothing-within, starts-in-time, starts-going, judges-by}
+use Rattle.lvdc_machine.proofs.Starting.{stands-start, starts-in-time, starts-going, judges-by}
 use Rattle.lvdc_machine.proofs.Noting.{no-log, no-repairs}
 use Rattle.lvdc_machine.proofs.machine.Machine.at_start.Goals as goal
 
 pub invariant_of-result : goal.invariant_of-result
 invariant_of-result c = record {
   events = c.requires.events;
-  on_memory = c.in_ok-on_memory.ensures;
-  fits = c.in_ok-active.ensures.fits;
-  within = nothing-within _ _ c.in_ok-active.ensures.held;
+  on_memory = c.in_ok-on_memory.ensures.events;
   forces = c.in_ok-forces.ensures;
-  known = rw c.in_ok-active.ensures.last tt;
+  known = rw c.in_ok-on_memory.ensures.last tt;
   differed = c.new-2.ensures.differed;
   banks = c.in_ok-memory.ensures.banks;
   log = λ own. let none = ap length c.in_ok-log.ensures.log in omega (arith, none);
@@ -35,14 +33,14 @@ returns c = record {
       script = refl;
       unplugs = refl;
       copies = c.new-2.ensures.copies;
-      memory = rw c.in_ok-active.ensures.last (c.in_ok-memory.ensures.holds _ refl refl);
+      memory = rw c.in_ok-on_memory.ensures.last (c.in_ok-memory.ensures.holds _ refl refl);
       left = refl;
       log = c.in_ok-log.ensures.log;
       repairs = c.in_ok-log.ensures.repairs;
       counts = c.new-2.ensures.counts;
       steps = refl;
       end = refl;
-    }) c.in_ok-active.ensures.last refl refl;
+    }) c.in_ok-on_memory.ensures.last refl refl;
     fresh = record { mode_is = refl; pace_is = c.of-pace.ensures; limit_is = refl; steps_are = refl; end = refl };
   };
 }

@@ -1,9 +1,6 @@
-use Rattle.std.proofs.Common.{refl, sym, ap, ◌∙◌, subst, arith}
-use Rattle.std.specs.Prelude.{All}
-use Rattle.std.proofs.lemmas.List.Elements.{All-filter}
-use Rattle.lvdc_fault.specs.Events.{IsEvent}
-use Rattle.lvdc_memory.specs.OnMemory.{is_on_memory, on_memory}
-use Rattle.lvdc_memory.proofs.OnMemory.{begins-whole}
+use Rattle.std.proofs.Common.{List, refl, ◌∙◌, subst, arith}
+use Rattle.lvdc_fault.specs.declared.event.Event.{Event}
+use Rattle.lvdc_memory.specs.Order.{AreOnMemory}
 use Rattle.lvdc_machine.proofs.machine.Machine.begin.Goals as goal
 
 pub go_to-requires : goal.go_to-requires
@@ -14,24 +11,14 @@ go_to-requires c =
       bound = omega (arith, c.self.invariant.steps, c.self.invariant.limit);
     }
 
-pub begin_memory-requires : goal.begin_memory-requires
-begin_memory-requires c =
-    record {
-      events = subst (All IsEvent) (sym c.self.invariant.on_memory) (All-filter is_on_memory IsEvent c.self.inside.script c.self.invariant.events);
-      fits = c.self.invariant.fits;
-      within = c.self.invariant.within;
-    }
-
 pub invariant_of-self : goal.invariant_of-self
 invariant_of-self c = record {
   events = c.self.invariant.events;
-  on_memory = c.self.invariant.on_memory;
-  fits = c.begin_memory.ensures.fits;
-  within = c.begin_memory.ensures.within;
+  on_memory = rw c.begin.ensures.events c.self.invariant.on_memory;
   forces = c.go_to.ensures.fit;
-  known = rw c.begin_memory.ensures.last c.go_to.ensures.known;
+  known = rw c.begin.ensures.last c.go_to.ensures.known;
   differed = c.self.invariant.differed;
-  banks = c.begin_memory.ensures.banks ∙ c.self.invariant.banks;
+  banks = c.begin.ensures.banks ∙ c.self.invariant.banks;
   log = c.self.invariant.log;
   log_room = c.self.invariant.log_room;
   repairs = c.self.invariant.repairs;
@@ -54,8 +41,8 @@ returns c = record {
         script = s.script;
         unplugs = s.unplugs;
         copies = s.copies;
-        memory = rw (c.begin_memory.ensures.last, ← s.steps)
-            (begins-whole o _ c.self.inside.steps _ _ _ v.twins v.intended (c.self.invariant.on_memory ∙ ap on_memory s.script) c.begin_memory.ensures.begun s.memory);
+        memory = rw (c.begin.ensures.last, ← s.steps)
+            (c.begin.ensures.begun o v.twins v.intended (subst (λ (es : List Event). AreOnMemory es c.self.inside.on_memory.events) s.script c.self.invariant.on_memory) s.memory);
         left = s.left;
         log = s.log;
         repairs = s.repairs;
@@ -64,5 +51,5 @@ returns c = record {
         end = s.end;
       };
   new = rw (← c.self.view_is) refl;
-  last = rw (← c.self.view_is) c.begin_memory.ensures.last;
+  last = rw (← c.self.view_is) c.begin.ensures.last;
 }

@@ -12,7 +12,7 @@ step_under-requires c = record { differed = λ number copy. omega (arith, c.self
 pub invariant_of-self : goal.invariant_of-self
 invariant_of-self c =
     let may = rw (← c.self.view_is) at c.requires.may in
-    let known = known_then c.self.inside.script c.self.inside.active.last c.self.inside.steps c.self.inside.forces.known c.self.invariant.known may.begun in
+    let known = known_then c.self.inside.script c.self.inside.on_memory.last c.self.inside.steps c.self.inside.forces.known c.self.invariant.known may.begun in
     let in_force = subst (IsInForce c.self.inside.script c.self.inside.steps) (sym c.in_force.ensures) known.force in
     record {
       events = c.self.invariant.events;
@@ -45,7 +45,7 @@ invariant_of-self c =
 
 pub returns-clause-shows : goal.returns-clause-shows
 returns-clause-shows c = λ o v ds h.
-    let known = known_then c.self.inside.script c.self.inside.active.last c.self.inside.steps c.self.inside.forces.known c.self.invariant.known (rw (← c.self.view_is) at c.requires.may).begun in
+    let known = known_then c.self.inside.script c.self.inside.on_memory.last c.self.inside.steps c.self.inside.forces.known c.self.invariant.known (rw (← c.self.view_is) at c.requires.may).begun in
     let in_force = subst (IsInForce c.self.inside.script c.self.inside.steps) (sym c.in_force.ensures) known.force in
     shows-made (rw (← c.self.view_is) at h) c.args.brought _ _ _ _ _ _ (c.step_under.ensures.copies c.self.inside.script c.self.inside.steps c.self.invariant.events in_force) c.step_under.ensures.counts c.note.ensures.items
     c.note-2.ensures.items c.bus.ensures c.stop_of-self-inside.ensures

@@ -1,15 +1,7 @@
-use Rattle.std.proofs.Common.{length, sym, ap, subst, refl, ◌∙◌, arith}
-use Rattle.std.specs.Prelude.{All}
-use Rattle.std.proofs.lemmas.List.Elements.{All-filter}
-use Rattle.lvdc_fault.specs.Events.{IsEvent}
+use Rattle.std.proofs.Common.{length, sym, ap, refl, ◌∙◌, arith}
 use Rattle.lvdc_machine.proofs.Again.{few-repairs, begins-timed, log-whole}
-use Rattle.lvdc_memory.specs.OnMemory.{is_on_memory, on_memory}
-use Rattle.lvdc_memory.proofs.OnMemory.{only, holds-whole}
 use Rattle.lvdc_machine.proofs.Standing.{after-none}
 use Rattle.lvdc_machine.proofs.machine.Machine.resumed.Goals as goal
-
-pub memory-requires-clause-events : goal.memory-requires-clause-events
-memory-requires-clause-events c = subst (All IsEvent) (sym c.in_ok-on_memory.ensures) (All-filter is_on_memory IsEvent c.args.script c.requires.events)
 
 pub invariant_of-result : goal.invariant_of-result
 invariant_of-result c =
@@ -21,13 +13,11 @@ invariant_of-result c =
     let within = c.requires.steps in
     record {
       events = c.requires.events;
-      on_memory = c.in_ok-on_memory.ensures;
-      fits = c.in_ok-active.ensures.fits;
-      within = c.in_ok-active.ensures.within;
+      on_memory = c.in_ok-on_memory.ensures.events;
       forces = c.in_ok-forces.ensures.fit;
-      known = rw c.in_ok-active.ensures.last c.in_ok-forces.ensures.known;
+      known = rw c.in_ok-on_memory.ensures.last c.in_ok-forces.ensures.known;
       differed = c.from_latches-logic.ensures.differed c.args.snapshot.steps (rw c.items-2.ensures whole.most);
-      banks = c.in_ok-active.ensures.banks;
+      banks = c.in_ok-on_memory.ensures.banks;
       log = λ own. absurd (cc own);
       log_room = omega (arith, room);
       repairs = omega (arith, few, same, within);
@@ -48,7 +38,7 @@ returns-clause-stands c devices = λ o v script unplugs banks means left. record
     script = sym script;
     unplugs = sym unplugs;
     copies = rw c.items.ensures at c.from_latches-logic.ensures.copies ∙ sym means.copies;
-    memory = holds-whole o _ _ v.twins v.intended (c.in_ok-active.ensures.holds (only o) v (ap on_memory script ∙ sym c.in_ok-on_memory.ensures) banks means);
+    memory = c.in_ok-on_memory.ensures.holds o v script banks means;
     left = sym left;
     log = c.in_ok-log.ensures.log ∙ sym means.log;
     repairs = c.in_ok-log.ensures.repairs ∙ sym means.repairs;
@@ -56,7 +46,7 @@ returns-clause-stands c devices = λ o v script unplugs banks means left. record
     steps = sym means.steps;
     end = sym means.end;
   };
-  begun = c.in_ok-active.ensures.last;
+  begun = c.in_ok-on_memory.ensures.last;
   ends = sym (after-none v.steps ∙ means.steps);
 }
 

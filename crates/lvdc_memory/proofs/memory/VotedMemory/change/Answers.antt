@@ -1,34 +1,51 @@
--- Each event changes what it does in its turn.
-use Rattle.std.proofs.Common.{◌≡◌, ℕ, ◌+◌, List, [], ◌∷◌, ◌++◌, take, get_or, slice_get, Some, refl, sym, ap, ◌∙◌, subst, rules}
-use Rattle.std.proofs.lemmas.List.{take_more, take_all}
+-- The events of each part that are new change what they change in their turn.
+use Rattle.std.proofs.Common.{◌*◌, List, take, refl, sym, subst, ◌∙◌, arith}
 use Rattle.lvdc_fault.specs.declared.event.Event.{Event}
-use Rattle.lvdc_memory.specs.Changes.{Changes, events_at}
-use Rattle.lvdc_memory.proofs.Changing.{events_at-push, changes-none, changes-push}
+use Rattle.lvdc_memory.specs.Changes.{Changes}
+use Rattle.lvdc_memory.specs.News.{new_events}
+use Rattle.lvdc_memory.specs.Parts.{events_of}
+use Rattle.lvdc_memory.proofs.Begun.{all-parts, new-part, old-part}
+use Rattle.lvdc_memory.proofs.Changing.{changes-none, changes-append}
 use Rattle.lvdc_memory.proofs.memory.VotedMemory.change.Goals as goal
+use Rattle.lvdc_memory.proofs.memory.VotedMemory.change.Goals.{then-is_changed, else-is_changed}
 
-pub loop-position-init : goal.loop-position-init
-loop-position-init c = record { changes = changes-none c.args.step c.args.script.now c.args.self.now.twins; banks = refl; ledger = refl }
+pub loop-number-init : goal.loop-number-init
+loop-number-init c =
+    record { changes = changes-none c.args.by.now.events.now c.args.by.now.step c.args.by.now.damaged c.args.self.now.twins; banks = refl; ledger = refl }
 
-pub loop-position-preserved : goal.loop-position-preserved
-loop-position-preserved c =
-    let script = c.args.script.now in
-    let i = c.loop-position.position-index in
-    let so_far = take i c.args.positions.now in
-    let item : ℕ = get_or c.args.positions.now i 0 in
-    let e = c.event.result.now in
-    let one_more : take (i + 1) c.args.positions.now ≡ so_far ++ item ∷ [] = take_more c.args.positions.now i 0 (search rules) in
-    let here : slice_get script item ≡ Some e = c.event.ensures in
-    let events : events_at script (take (i + 1) c.args.positions.now) ≡ events_at script so_far ++ e ∷ [] =
-    ap (events_at script) one_more ∙ events_at-push script so_far item e here in
-    record {
-      changes = subst (λ (es : List Event). Changes c.args.step script es c.args.self.now.twins c.change_one.new.self.twins) (sym events)
-          (changes-push c.args.step script (events_at script so_far) e c.args.self.now.twins c.loop-position.self.twins c.change_one.new.self.twins
-          c.loop-position.invariant.changes c.change_one.ensures.changes);
-      banks = search rules;
-      ledger = search rules;
-    }
+pub loop-number-preserved : goal.loop-number-preserved
+loop-number-preserved c =
+    let every = c.args.by.now.events.now in
+    let step = c.args.by.now.step in
+    let last = c.args.by.now.last in
+    let damaged = c.args.by.now.damaged in
+    let number = c.loop-number.number in
+    let start = c.args.self.now.twins in
+    let so_far = c.loop-number.invariant in
+    elim c.if-is_changed.branch [
+      | then-is_changed w ↦
+          rw w.self-is
+          (record {
+            changes = subst (λ (es : List Event). Changes every step damaged es start w.change_part.new.self.twins) (sym (new-part last step every number))
+                (changes-append every step damaged (new_events last step (take (256 * number) every)) (new_events last step (events_of every number)) start
+                c.loop-number.self.twins w.change_part.new.self.twins so_far.changes
+                (subst (λ (es : List Event). Changes every step damaged (new_events last step es) c.loop-number.self.twins w.change_part.new.self.twins) w.part_of.ensures
+                w.change_part.ensures.changes));
+            banks = w.change_part.ensures.banks ∙ so_far.banks;
+            ledger = w.change_part.ensures.ledger ∙ so_far.ledger;
+          })
+      | else-is_changed w ↦
+          rw w.self-is
+          (record {
+            changes = subst (λ (es : List Event). Changes every step damaged es start c.loop-number.self.twins)
+                (sym (old-part last step every number (c.requires.old number c.loop-number-test.true (c.is_changed.ensures w.if-is_changed.false)))) so_far.changes;
+            banks = so_far.banks;
+            ledger = so_far.ledger;
+          })
+    ]
 
 pub returns-clause-changes : goal.returns-clause-changes
 returns-clause-changes c =
-    subst (λ (ps : List ℕ). Changes c.args.step c.args.script.now (events_at c.args.script.now ps) c.args.self.now.twins c.loop-position.self.twins)
-    (take_all c.loop-position.position-index c.args.positions.now (search rules)) c.loop-position.invariant.changes
+    let every = c.args.by.now.events.now in
+    subst (λ (es : List Event). Changes every c.args.by.now.step c.args.by.now.damaged (new_events c.args.by.now.last c.args.by.now.step es) c.args.self.now.twins c.loop-number.self.twins)
+    (all-parts every c.args.by.now.parts.now c.loop-number.number c.requires.parts (omega (arith, c.loop-number-test.false))) c.loop-number.invariant.changes

@@ -1,6 +1,0 @@
--- The bits of two cells together make a cell.
-use Rattle.std.proofs.lemmas.Nat.{or_lt}
-use Rattle.lvdc_memory.proofs.changed.stuck_with.Goals as goal
-
-pub within-requires : goal.within-requires
-within-requires c = or_lt 28 c.bits.result c.bits-then-other-twin.result c.bits.ensures.small c.bits-then-other-twin.ensures.small

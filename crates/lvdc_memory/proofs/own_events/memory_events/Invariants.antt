@@ -1,7 +1,0 @@
-use Rattle.std.proofs.Common.{◌≡◌, take}
-use Rattle.lvdc_memory.specs.OnMemory.{on_memory}
-use Rattle.lvdc_memory.proofs.own_events.memory_events.Given as goal
-
--- those of the events passed so far
-abbrev pub invariant-loop-at : goal.invariant-loop-at
-invariant-loop-at l = l.events ≡ on_memory (take l.at l.script)
