@@ -16,7 +16,7 @@ ghost use Rattle.lvdc_model.specs.Runs.{own_verdict, own_memory, read_of_wish};
 ghost use Rattle.lvdc_model.specs.Trial.{Trial, devices_left};
 ghost use Rattle.lvdc_model.specs.Twins.{read_answer};
 ghost use Rattle.lvdc_model.specs.Voted.{Voted};
-ghost use Rattle.lvdc_model.specs.declared.outcome.Outcome.TheVariants.{Inadmissible, Device};
+ghost use Rattle.lvdc_model.specs.declared.outcome.Outcome.TheVariants.{Stopped, Inadmissible, Device};
 ghost use Rattle.lvdc_machine.specs.declared.mode.Mode.TheVariants.{Guarded, Through};
 ghost use Rattle.lvdc_machine.specs.Causes.{Fails, HasCause};
 ghost use Rattle.lvdc_machine.specs.Room.{exchanges_to_come, MayExchange, MayRepair, IsDue};
@@ -51,21 +51,24 @@ struct Brought {
     repair: Option<Repair>,
 }
 
-/// The end that the voted STOP means, by its low two bits.
-fn stop_of(stop: Word, step: u64) -> Option<KeptEnd>
-    ensures { end_seen result ≡ stop_of (stop % 4) step }
+/// Keeps the end that the voted STOP means, by its low two bits.
+#[inline(always)]
+fn keep_end(end: &mut Option<KeptEnd>, stop: Word, step: u64)
+    ensures { end_seen end.new ≡ stop_of (stop % 4) step }
 {
     match stop.value() % 4 {
-        0 => None,
-        1 => Some(KeptEnd::Stopped {
-            step,
-            stop: Stop::Shift,
-        }),
-        _ => Some(KeptEnd::Stopped {
-            step,
-            stop: Stop::Exm,
-        }),
+        0 => *end = None,
+        1 => keep_stop(end, step, Stop::Shift),
+        _ => keep_stop(end, step, Stop::Exm),
     }
+}
+
+/// Keeps that the machine stopped in a step. A stop is rare, so that a step doesn't make room for one.
+#[inline(never)]
+fn keep_stop(end: &mut Option<KeptEnd>, step: u64, stop: Stop)
+    ensures { end_seen end.new ≡ Some (Stopped step stop) }
+{
+    *end = Some(KeptEnd::Stopped { step, stop });
 }
 
 impl Brought {
@@ -223,7 +226,7 @@ impl Machine {
         note(&mut self.log, brought.line);
         note(&mut self.repairs, brought.repair);
         self.logic.step_under(order, self.forces.in_force(), brought.memory, brought.port);
-        self.end = stop_of(self.logic.bus().exchange.stop, self.steps);
+        keep_end(&mut self.end, self.logic.bus().exchange.stop, self.steps);
         self.steps += 1;
     }
 

@@ -17,8 +17,6 @@ invariant_of-self c =
     record {
       events = c.self.invariant.events;
       on_memory = c.self.invariant.on_memory;
-      fits = c.self.invariant.fits;
-      within = c.self.invariant.within;
       forces = c.self.invariant.forces;
       known = c.self.invariant.known;
       differed = c.step_under.ensures.differed c.self.inside.steps c.self.invariant.differed;
@@ -38,7 +36,7 @@ invariant_of-self c =
       judges = c.self.invariant.judges;
       timed = rw (c.step_under.ensures.copies c.self.inside.script c.self.inside.steps c.self.invariant.events in_force) (stays-in-time c.self.inside.mode c.self.inside.script c.self.inside.steps c.self.inside.logic.copies
           c.args.brought.memory c.args.brought.port may.right c.self.invariant.timed);
-      going = λ none. rw c.bus.ensures at (goes-on (c.bus.result.now.exchange.stop % 4) c.self.inside.steps _ c.stop_of-self-inside.ensures none);
+      going = λ none. rw c.bus.ensures at (goes-on (c.bus.result.now.exchange.stop % 4) c.self.inside.steps _ c.keep_end.ensures none);
       logged = rw c.note.ensures.items (log-noted c.self.inside.steps _ c.args.brought.line (rw (← c.self.view_is) at c.requires.dated) c.self.invariant.logged);
       noted = rw c.note-2.ensures.items (repairs-noted c.self.inside.banks c.self.inside.steps _ c.args.brought.repair (rw (← c.self.view_is) at c.requires.noted) c.self.invariant.noted);
     }
@@ -48,11 +46,11 @@ returns-clause-shows c = λ o v ds h.
     let known = known_then c.self.inside.script c.self.inside.on_memory.last c.self.inside.steps c.self.inside.forces.known c.self.invariant.known (rw (← c.self.view_is) at c.requires.may).begun in
     let in_force = subst (IsInForce c.self.inside.script c.self.inside.steps) (sym c.in_force.ensures) known.force in
     shows-made (rw (← c.self.view_is) at h) c.args.brought _ _ _ _ _ _ (c.step_under.ensures.copies c.self.inside.script c.self.inside.steps c.self.invariant.events in_force) c.step_under.ensures.counts c.note.ensures.items
-    c.note-2.ensures.items c.bus.ensures c.stop_of-self-inside.ensures
+    c.note-2.ensures.items c.bus.ensures c.keep_end.ensures
 
 pub returns-clause-made : goal.returns-clause-made
 returns-clause-made c = rw (← c.self.view_is) (record {
   keeps = record { banks = refl; script = refl; unplugs = refl; limit = refl; mode = refl; pace = refl };
-  begun = begun-made (c.bus.result.now.exchange.stop % 4) c.self.inside.steps _ _ c.stop_of-self-inside.ensures (rw (← c.self.view_is) at c.requires.may).begun;
-  ends = ends-made (c.bus.result.now.exchange.stop % 4) c.self.inside.steps _ c.stop_of-self-inside.ensures;
+  begun = begun-made (c.bus.result.now.exchange.stop % 4) c.self.inside.steps _ _ c.keep_end.ensures (rw (← c.self.view_is) at c.requires.may).begun;
+  ends = ends-made (c.bus.result.now.exchange.stop % 4) c.self.inside.steps _ c.keep_end.ensures;
 })
