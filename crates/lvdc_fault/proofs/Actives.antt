@@ -1,16 +1,13 @@
 -- What the active events of a script do is what the whole script does.
-use Rattle.std.proofs.Common.{◌≡◌, ℕ, zero, suc, ◌==◌, bit_or, bit_xor, ◌<◌, Bool, true, false, ◌&&◌, ◌||◌, cond, List, [], ◌∷◌, length, get_or, All, Some, slice_get, refl, sym, ap, ◌∙◌, arith, true≢false}
+use Rattle.std.proofs.Common.{◌≡◌, ℕ, ◌==◌, bit_or, bit_xor, Bool, true, false, ◌&&◌, ◌||◌, cond, List, [], ◌∷◌, refl, sym, ap, ◌∙◌, true≢false}
 use Rattle.std.specs.List.{list_any}
-use Rattle.std.proofs.lemmas.List.Elements.{All-cons, All-nil}
-use Rattle.std.proofs.lemmas.Option.{slice_get_within}
 use Rattle.lvdc_word.specs.Cell.{with_stuck}
 use Rattle.lvdc_map.specs.Address.{Spot, is_same}
 use Rattle.lvdc_twin.specs.declared.stuck.Stuck.{Stuck}
 use Rattle.lvdc_fault.specs.declared.event.Event.{Event}
 use Rattle.lvdc_fault.specs.declared.event.Event.TheVariants.{Flip, Force, Lag, Deaf, Damage, Stick, Dead}
-use Rattle.lvdc_fault.specs.Script.{is_within, makes_wrong, deafens, is_active, put_if, active_from, active_events}
+use Rattle.lvdc_fault.specs.Script.{is_within, makes_wrong, is_active, active_events}
 use Rattle.lvdc_fault.specs.Damage.{damaged_by, damaged, stuck_by, stuck_after, kills}
-use Rattle.lvdc_fault.proofs.Starts.{Stand, stand-head, stand-tail}
 
 -- ---- an event that isn't active does nothing
 
@@ -29,10 +26,6 @@ idle_makes_none_wrong step m c (Force number copy first last index mask value) h
 idle_makes_none_wrong step m c (Lag number copy first last) h = last_fails (number == m) (copy == c) (is_within first last step) h
 idle_makes_none_wrong step m c (Deaf number copy first last) h = last_fails (number == m) (copy == c) (is_within first last step) h
 idle_makes_none_wrong step m c _ h = refl
-
-pub idle_deafens : (step m c : ℕ) (e : Event) → is_active step e ≡ false → deafens step m c e ≡ false
-idle_deafens step m c (Deaf number copy first last) h = last_fails (number == m) (copy == c) (is_within first last step) h
-idle_deafens step m c _ h = refl
 
 pub idle_kills : (step twin pair : ℕ) (e : Event) → is_active step e ≡ false → kills step twin pair e ≡ false
 idle_kills step twin pair (Dead w p first last) h = last_fails (w == twin) (p == pair) (is_within first last step) h
@@ -76,35 +69,3 @@ pub stuck_active : (step twin : ℕ) (place : Spot) (es : List Event) (s : Stuck
 stuck_active step twin place [] s = refl
 stuck_active step twin place (e ∷ es) s =
     stuck_step step twin place (is_active step e) e es (active_events es step) s (idle_sticks step twin place e s) (stuck_active step twin place es)
-
--- ---- where they stand
-
-module _ (script : List Event) (step : ℕ) where
-  length-put : (b : Bool) (k : ℕ) (ps : List ℕ) (e : Event) (fs : List Event) → length fs ≡ length ps → length (cond b (e ∷ fs) fs) ≡ length (put_if b k ps)
-  length-put true k ps e fs h = ap suc h
-  length-put false k ps e fs h = h
-
-  pub length-active : (k : ℕ) (es : List Event) → length (active_events es step) ≡ length (active_from k es step)
-  length-active k [] = refl
-  length-active k (e ∷ es) = length-put (is_active step e) k (active_from (suc k) es step) e (active_events es step) (length-active (suc k) es)
-
-  at_put : (b : Bool) (k : ℕ) (ps : List ℕ) (e : Event) (fs : List Event) → slice_get script k ≡ Some e
-      → ((i : ℕ) → i < length ps → slice_get fs i ≡ slice_get script (get_or ps i 0))
-      → (i : ℕ) → i < length (put_if b k ps) → slice_get (cond b (e ∷ fs) fs) i ≡ slice_get script (get_or (put_if b k ps) i 0)
-  at_put true k ps e fs here rest zero h = sym here
-  at_put true k ps e fs here rest (suc i) h = rest i (omega arith)
-  at_put false k ps e fs here rest i h = rest i h
-
-  pub active_stand : (k : ℕ) (es : List Event) → Stand script k es → (i : ℕ) → i < length (active_from k es step) → slice_get (active_events es step) i ≡ slice_get script (get_or (active_from k es step) i 0)
-  active_stand k [] h i low = absurd (omega arith)
-  active_stand k (e ∷ es) h i low =
-      at_put (is_active step e) k (active_from (suc k) es step) e (active_events es step) (stand-head script k e es h) (active_stand (suc k) es (stand-tail script k e es h)) i low
-
-  within_put : (b : Bool) (k : ℕ) (ps : List ℕ) → k < length script → All (λ p. p < length script) ps → All (λ p. p < length script) (put_if b k ps)
-  within_put true k ps h rest = All-cons (λ p. p < length script) k ps h rest
-  within_put false k ps h rest = rest
-
-  pub active_within : (k : ℕ) (es : List Event) → Stand script k es → All (λ p. p < length script) (active_from k es step)
-  active_within k [] h = All-nil (λ p. p < length script)
-  active_within k (e ∷ es) h =
-      within_put (is_active step e) k (active_from (suc k) es step) (slice_get_within script k e (stand-head script k e es h)) (active_within (suc k) es (stand-tail script k e es h))

@@ -4,7 +4,7 @@ use Rattle.lvdc_word.specs.Cell.{code_of, with_stuck}
 use Rattle.lvdc_map.specs.Address.{Spot}
 use Rattle.lvdc_fault.specs.declared.event.Event.{Event}
 use Rattle.lvdc_fault.specs.declared.event.Event.TheVariants.{Flip, Force, Lag, Deaf, Damage, Stick, Dead}
-use Rattle.lvdc_fault.specs.Script.{wrong_module, is_wrong, is_deaf, active_at}
+use Rattle.lvdc_fault.specs.Script.{wrong_module, is_wrong, is_deaf, active_events}
 use Rattle.lvdc_fault.specs.Damage.{damaged, stuck, is_dead, shown_of}
 use Rattle.lvdc_fault.specs.Recoverable.{is_recovered, shown_by}
 
@@ -137,10 +137,13 @@ a_copy_that_lags_hears : is_deaf (Lag 3 2 2 4 ∷ []) 4 3 2 ≡ false
 a_copy_that_lags_hears = refl
 
 -- of a lag from 2 to 4, damage at 3 and a dead twin from 3
-the_positions_of_step_three : active_at (Lag 3 2 2 4 ∷ Damage 0 here 3 1 ∷ Dead 1 0 3 9 ∷ []) 3 ≡ 0 ∷ 1 ∷ 2 ∷ []
-the_positions_of_step_three = refl
+abbrev three : List Event
+three = Lag 3 2 2 4 ∷ Damage 0 here 3 1 ∷ Dead 1 0 3 9 ∷ []
 
-damage_is_of_one_step : active_at (Lag 3 2 2 4 ∷ Damage 0 here 3 1 ∷ Dead 1 0 3 9 ∷ []) 4 ≡ 0 ∷ 2 ∷ []
+all_are_active_at_step_three : active_events three 3 ≡ three
+all_are_active_at_step_three = refl
+
+damage_is_of_one_step : active_events three 4 ≡ Lag 3 2 2 4 ∷ Dead 1 0 3 9 ∷ []
 damage_is_of_one_step = refl
 
 two_modules_with_one_each : wrong_module (Flip 3 1 4 4 0 0o1000 ∷ Flip 5 2 4 4 0 0o1000 ∷ []) 4 ≡ None

@@ -1,4 +1,3 @@
-pub mod Activity
 pub mod Damage
 pub mod Events
 pub mod Ledger

@@ -1,5 +1,5 @@
 -- The fault script: what is active at a step, which copies are wrong then, and which are deaf.
-use Rattle.std.specs.Prelude.{◌≡◌, ◌≤◌, ℕ, suc, Bool, true, false, ◌==◌, ◌&&◌, ◌||◌, nat_le, List, [], ◌∷◌, Option, None, Some, find, filter}
+use Rattle.std.specs.Prelude.{◌≡◌, ◌≤◌, ℕ, Bool, false, ◌==◌, ◌&&◌, ◌||◌, nat_le, List, [], ◌∷◌, Option, None, Some, find, filter}
 use Rattle.std.specs.List.{list_any}
 use Rattle.lvdc_fault.specs.declared.event.Event.{Event}
 use Rattle.lvdc_fault.specs.declared.event.Span.{Span}
@@ -77,20 +77,6 @@ is_active step e = is_within (span_of e).first (span_of e).last step
 -- the first step of an event
 abbrev pub first_of : Event → ℕ
 first_of e = (span_of e).first
-
--- a position before others, where it is wanted
-abbrev pub put_if : Bool → ℕ → List ℕ → List ℕ
-put_if true position positions = position ∷ positions
-put_if false position positions = positions
-
--- the positions of the active events of a list whose first event has this position
-abbrev pub active_from : ℕ → List Event → ℕ → List ℕ
-active_from position [] step = []
-active_from position (e ∷ es) step = put_if (is_active step e) position (active_from (suc position) es step)
-
--- the positions of the events active at a step, in the order of the script
-abbrev pub active_at : List Event → ℕ → List ℕ
-active_at script step = active_from 0 script step
 
 -- the events active at a step, in the order of the script
 abbrev pub active_events : List Event → ℕ → List Event

@@ -1,5 +1,5 @@
-ghost use Rattle.std.specs.Prelude.{◌≡◌, ℕ, ◌+◌, ◌≤◌};
-ghost use Rattle.lvdc_fault.specs.Script.{first_of, span_of, makes_wrong, is_active, is_within};
+ghost use Rattle.std.specs.Prelude.{◌≡◌, ℕ};
+ghost use Rattle.lvdc_fault.specs.Script.{span_of, makes_wrong, is_active, is_within};
 
 use lvdc_map::Address;
 use lvdc_word::{Cell, Word};
@@ -95,22 +95,8 @@ impl Event {
         }
     }
 
-    /// The first step at which it acts.
-    pub(crate) fn first(&self) -> u64
-        ensures { result ≡ first_of self.now }
-    {
-        self.span().first
-    }
-
-    /// The first step after its last one, or the greatest number where there is none.
-    pub(crate) fn after(&self) -> u64
-        ensures { result ≤ (span_of self.now).last + 1 }
-    {
-        self.span().last.saturating_add(1)
-    }
-
     /// Is it active at the step?
-    pub(crate) fn is_active(&self, step: u64) -> bool
+    fn is_active(&self, step: u64) -> bool
         ensures { result ≡ is_active step self.now }
     {
         let span = self.span();

@@ -1,22 +1,19 @@
-//! The fault script: what is active at a step, which modules have two wrong copies, and the intended words of memory by
+//! The fault script: its events, which copies they act on, which module has two wrong copies, and the intended words of memory by
 //! which a step is judged (this project's profile).
 #![tactic(auto)]
 
-mod active;
 mod copies;
 mod event;
 mod laws;
 mod ledger;
 mod named;
 mod script;
-mod start;
 mod verdict;
 mod wrong;
 
-pub use active::Active;
 pub use copies::number_of_copy;
 pub use event::Event;
-pub use laws::{active_suffice, inactive_idles, none_wrong, same_actives};
+pub use laws::none_wrong;
 pub use ledger::Ledger;
 pub use named::Named;
 pub use script::Script;

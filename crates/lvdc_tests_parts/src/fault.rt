@@ -1,7 +1,5 @@
-ghost use Rattle.lvdc_fault.specs.Activity.{Fits};
-
 use crate::rows::{column, comes, holds, same, script_of, shown};
-use lvdc_fault::{Active, Event, Ledger, Script, wrong_module};
+use lvdc_fault::{Ledger, Script, wrong_module};
 use lvdc_map::{Address, Banks, Placed};
 use lvdc_word::{Cell, Word};
 use std::alloc::Global;
@@ -20,77 +18,35 @@ const OVERLAPPING: &str = "\
     FORCE 5 3 6 8 0 0 1,STICK 0 0 01 000 5 7 1 1,LAG 1 1 4 4\
 ";
 
-/// Steps in any order, the positions of the events that are active in them, and the module that is wrong.
+/// Steps, and the module that is wrong in them.
 const STEPS: &str = "\
-    4|[0, 1, 2, 3, 4, 5, 8]|Some(1);\
-    5|[0, 4, 5, 7]|None;\
-    6|[0, 4, 6, 7]|Some(5);\
-    7|[4, 6, 7]|None;\
-    3|[0, 1, 4]|Some(5);\
-    4|[0, 1, 2, 3, 4, 5, 8]|Some(1);\
-    10|[]|None;\
-    11|[]|None;\
-    0|[4]|None;\
-    1|[4]|None;\
-    2|[1, 4]|None;\
-    2|[1, 4]|None;\
-    9|[4]|None;\
-    18446744073709551615|[]|None;\
+    0|None;\
+    2|None;\
+    3|Some(5);\
+    4|Some(1);\
+    5|None;\
+    6|Some(5);\
+    7|None;\
+    10|None;\
+    18446744073709551615|None;\
 ";
 
-/// In the step of a row the positions and the module are those of the row.
-fn stands_so(
-    rt: &impl Abort,
-    alloc: Global,
-    script: &Script,
-    active: &mut Active,
-    row: &str,
-) -> Result<(), Fail>
-    requires { Fits script.now active.old }
-    ensures { Fits script.now active.new }
-{
-    let (step, row) = column(row)?;
-    let (positions, wrong) = column(row)?;
+/// In the step of a row the module is that of the row.
+fn stands_so(rt: &impl Abort, alloc: Global, script: &Script, row: &str) -> Result<(), Fail> {
+    let (step, wrong) = column(row)?;
     let step: u64 = step.parse().map_err(|_| "a step")?;
-    script.active(step, active);
-    comes(rt, shown(alloc, &active.positions())?.as_str(), positions);
-    let alone = shown(alloc, &wrong_module(script, step))?;
-    comes(rt, alone.as_str(), wrong);
+    let found = shown(alloc, &wrong_module(script, step))?;
+    comes(rt, found.as_str(), wrong);
     Ok(())
 }
 
 #[test]
-fn positions_at_steps_in_any_order(rt: HostRuntime) -> Result<(), Fail> {
+fn the_wrong_module_at_steps(rt: HostRuntime) -> Result<(), Fail> {
     let alloc = rt.alloc();
     let script = script_of(alloc, OVERLAPPING)?;
     same(&rt, script.len(), 9);
-    let mut active = Active::for_script(alloc, &script)?;
-    holds(&rt, active.positions().is_empty());
     for row in STEPS.split_terminator(";") {
-        stands_so(&rt, alloc, &script, &mut active, row)?;
-    }
-    Ok(())
-}
-
-#[test]
-fn one_event_a_step_over_many_steps(rt: HostRuntime) -> Result<(), Fail> {
-    let mut script = Script::new(rt.alloc());
-    for step in 0..65_536 {
-        script.push(Event::Lag {
-            module: 1,
-            copy: 1,
-            first: step,
-            last: step,
-        })?;
-    }
-    let mut active = Active::for_script(rt.alloc(), &script)?;
-    for step in 0..3_000_000u64 {
-        script.active(step, &mut active);
-        if step < 65_536 {
-            same(&rt, active.positions(), [step as usize].as_slice());
-        } else {
-            holds(&rt, active.positions().is_empty());
-        }
+        stands_so(&rt, alloc, &script, row)?;
     }
     Ok(())
 }
