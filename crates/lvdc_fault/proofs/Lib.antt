@@ -1,4 +1,5 @@
 pub mod Actives
 mod FaultRows
 pub mod Lowest
+pub mod Parts
 pub mod Placing

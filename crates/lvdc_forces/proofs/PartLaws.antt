@@ -1,10 +1,10 @@
 -- What is told of the parts of a script is what the script does.
-use Rattle.std.proofs.Common.{◌≡◌, ℕ, zero, suc, ◌+◌, ◌-◌, ◌*◌, ◌/◌, ◌%◌, ◌<◌, ◌≤◌, Bool, true, false, cond, ◌&&◌, ◌||◌, ◌==◌, List, [], ◌∷◌, ◌++◌, length, take, drop, min, refl, sym, ◌∙◌, ap, subst, arith, Some, find, ltb, length-drop, get_or, get_or-drop, set, replicate}
+use Rattle.std.proofs.Common.{◌≡◌, ℕ, zero, suc, ◌+◌, ◌-◌, ◌*◌, ◌/◌, ◌%◌, ◌<◌, ◌≤◌, Bool, true, false, cond, ◌&&◌, ◌||◌, ◌==◌, List, [], ◌∷◌, ◌++◌, length, take, drop, min, refl, sym, ◌∙◌, ap, subst, arith, Some, find, length-drop, get_or, get_or-drop, set, replicate}
 use Rattle.std.specs.List.{list_any}
 use Rattle.std.specs.Prelude.{All, slice_get}
 use Rattle.std.proofs.Math.Bool.{or-false}
 use Rattle.std.proofs.Math.Seq.{take-add}
-use Rattle.std.proofs.lemmas.Bool.{eqb-true, eqb-false, false≢true, ltb-true, ltb-false}
+use Rattle.std.proofs.lemmas.Bool.{eqb-true, eqb-false, false≢true}
 use Rattle.std.proofs.lemmas.Bool.Decides.{nat_tests}
 use Rattle.std.proofs.lemmas.List.{take_all, get_or-replicate, get_or-set_same, get_or-set_other}
 use Rattle.std.proofs.lemmas.List.Elements.{All-more, All-weaker}
@@ -72,22 +72,6 @@ right_part es step until shares at stays n t h low high =
     at n h
     ∙ sym (same_share step t (n / 3 + 1) (n % 3 + 1) es
     (All-weaker (StaysUntil step until) (Same step t (n / 3 + 1) (n % 3 + 1)) (λ e same. same t (n / 3 + 1) (n % 3 + 1) low high) es stays))
-
--- the events from a position up to another, 256 of them or as many as are left
-pub part_events : (script : List Event) (from to left : ℕ) → left ≡ length script - from → to ≡ from + min left 256
-    → take (to - from) (drop from script) ≡ take 256 (drop from script)
-part_events script from to left is ends = by (ltb left 256) refl where
-  long : length (drop from script) ≡ left
-  long = length-drop from script ∙ sym is
-
-  by : (b : Bool) → ltb left 256 ≡ b → take (to - from) (drop from script) ≡ take 256 (drop from script)
-  by true less =
-      let few = ltb-true left 256 less in
-      take_all (to - from) (drop from script) (omega (arith, few, ends, long)) ∙ sym (take_all 256 (drop from script) (omega (arith, few, long)))
-  by false more =
-      let many = ltb-false left 256 more in
-      let n : to - from ≡ 256 = omega (arith, many, ends) in
-      ap (λ (n : ℕ). take n (drop from script)) n
 
 -- ---- what is known
 

@@ -1,10 +1,10 @@
 -- What is told of a part of the events on memory is what its events do.
-use Rattle.std.proofs.Common.{◌≡◌, ◌≢◌, ℕ, zero, suc, ◌+◌, ◌-◌, ◌<◌, ◌≤◌, ◌==◌, Bool, true, false, cond, not, ◌&&◌, ◌||◌, List, [], ◌∷◌, ◌++◌, length, take, drop, min, All, Option, None, Some, refl, sym, ap, ◌∙◌, subst, arith, ltb, length-drop, get_or, set}
+use Rattle.std.proofs.Common.{◌≡◌, ◌≢◌, ℕ, zero, suc, ◌+◌, ◌-◌, ◌<◌, ◌≤◌, ◌==◌, Bool, true, false, cond, not, ◌&&◌, ◌||◌, List, [], ◌∷◌, ◌++◌, length, take, All, Option, None, Some, refl, sym, ap, ◌∙◌, subst, arith, get_or, set}
 use Rattle.std.specs.List.{list_any}
 use Rattle.std.specs.Prelude.{IfSome, IsSomeAnd}
-use Rattle.std.proofs.lemmas.Bool.{eqb-true, eqb-false, and_parts, false≢true, ltb-true, ltb-false}
+use Rattle.std.proofs.lemmas.Bool.{eqb-true, eqb-false, and_parts, false≢true}
 use Rattle.std.proofs.lemmas.Bool.Decides.{nat_tests}
-use Rattle.std.proofs.lemmas.List.{take_all, take_more, get_or-set_same, get_or-set_other}
+use Rattle.std.proofs.lemmas.List.{take_more, get_or-set_same, get_or-set_other}
 use Rattle.std.proofs.lemmas.List.Elements.{All-head, All-tail, All-weaker}
 use Rattle.std.proofs.lemmas.Option.{slice_get-get_or, get_or_from_slice_get}
 use Rattle.lvdc_map.specs.Address.{Spot, is_same}
@@ -157,22 +157,6 @@ none_dead step twin pair (e ∷ es) h =
     λ j. kills_none step twin pair e (All-head (IsOther twin pair) e es h) j || none_dead step twin pair es (All-tail (IsOther twin pair) e es h) j
 
 -- ---- lists
-
--- the events from a position up to another, 256 of them or as many as are left
-pub part_events : (script : List Event) (from to left : ℕ) → left ≡ length script - from → to ≡ from + min left 256
-    → take (to - from) (drop from script) ≡ take 256 (drop from script)
-part_events script from to left is ends = by (ltb left 256) refl where
-  long : length (drop from script) ≡ left
-  long = length-drop from script ∙ sym is
-
-  by : (b : Bool) → ltb left 256 ≡ b → take (to - from) (drop from script) ≡ take 256 (drop from script)
-  by true less =
-      let few = ltb-true left 256 less in
-      take_all (to - from) (drop from script) (omega (arith, few, ends, long)) ∙ sym (take_all 256 (drop from script) (omega (arith, few, long)))
-  by false more =
-      let many = ltb-false left 256 more in
-      let n : to - from ≡ 256 = omega (arith, many, ends) in
-      ap (λ (n : ℕ). take n (drop from script)) n
 
 -- what holds of the items so far, and of one more that is set
 pub set_next : {X : Type 0} (P : ℕ → X → Type 0) (xs : List X) (k i : ℕ) (x d : X) → k ≡ i → i < length xs

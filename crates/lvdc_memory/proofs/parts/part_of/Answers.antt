@@ -1,6 +1,6 @@
 -- The events from a position up to another are those of the part.
 use Rattle.std.proofs.Common.{ℕ, ◌+◌, ◌-◌, ◌*◌, length, refl, ap}
-use Rattle.lvdc_memory.proofs.PartLaws.{part_events}
+use Rattle.lvdc_fault.proofs.Parts.{part_events}
 use Rattle.lvdc_memory.proofs.parts.part_of.Goals as goal
 
 pub returns : goal.returns

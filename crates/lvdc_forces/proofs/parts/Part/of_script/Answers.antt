@@ -1,8 +1,9 @@
 use Rattle.std.proofs.Common.{ℕ, ◌+◌, ◌-◌, ◌*◌, ◌/◌, ◌%◌, List, All, ap, subst, ◌∙◌}
 use Rattle.lvdc_fault.specs.declared.event.Event.{Event}
+use Rattle.lvdc_fault.proofs.Parts.{part_events}
 use Rattle.lvdc_forces.specs.Parts.{StaysUntil, events_of}
 use Rattle.lvdc_forces.specs.Shares.{share_on}
-use Rattle.lvdc_forces.proofs.PartLaws.{part_events, right_part}
+use Rattle.lvdc_forces.proofs.PartLaws.{right_part}
 use Rattle.lvdc_forces.proofs.parts.Part.of_script.Goals as goal
 
 pub returns-clause-right : goal.returns-clause-right
