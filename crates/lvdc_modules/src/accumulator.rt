@@ -120,6 +120,7 @@ fn operand_taken(bus: &Bus, doing: Doing, instruction: Instr) -> Word
 }
 
 /// The accumulator: the product of an MPH where it lands, whatever else this phase has made of it.
+#[inline(always)]
 pub(crate) fn a_landed(bus: &Bus, executed: Word) -> Word
     ensures { result ≡ a_landed (kind (working bus.now)) (landing bus.now) executed }
 {

@@ -80,6 +80,7 @@ impl Vote for MultiplierState {
 }
 
 /// The arithmetic unit with its working latches.
+#[inline(always)]
 pub(crate) fn working(bus: &Bus) -> Unit
     ensures { result ≡ working bus.now }
 {
@@ -87,6 +88,7 @@ pub(crate) fn working(bus: &Bus) -> Unit
 }
 
 /// PQ and the unit after the unit's phase: a result lands in PQ, and the unit is idle then.
+#[inline(always)]
 pub(crate) fn after_phase(bus: &Bus) -> (Word, Unit)
     ensures pq { result.0 ≡ unit_pq bus.now }
     ensures unit { result.1 ≡ unit_working bus.now }
@@ -99,6 +101,7 @@ pub(crate) fn after_phase(bus: &Bus) -> (Word, Unit)
 }
 
 /// The latches of PQ and the unit.
+#[inline(always)]
 pub(crate) fn latched(pq: Word, unit: Unit) -> MultiplierState
     ensures { result ≡ multiplier_with pq unit }
 {

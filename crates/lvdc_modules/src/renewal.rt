@@ -96,7 +96,7 @@ impl Bus {
         }
     }
 
-    /// The arithmetic unit makes its phase, whatever it works on.
+    /// The arithmetic unit makes its phase, whatever it works on. All of the phase is compiled in, so that no latches are copied.
     #[inline(never)]
     fn work(&mut self)
         ensures { self.new ≡ after_unit self.old }

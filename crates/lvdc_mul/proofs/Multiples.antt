@@ -1,71 +1,30 @@
--- Sums and differences of words are those of their signed values, modulo 2 ^ 26.
-use Rattle.std.proofs.Common.{◌≡◌, ℕ, ◌+◌, ◌-◌, ◌*◌, ◌/◌, ◌^◌, ◌<◌, ap, sym, ◌∙◌, arith}
-use Rattle.std.specs.Prelude.{ℤ, pos, negsuc, ◌+ℤ◌, ◌-ℤ◌, ◌*ℤ◌, nat_lt}
-use Rattle.std.proofs.lemmas.Bool.{cond_both}
-use Rattle.std.proofs.lemmas.Int.{ints}
-use Rattle.lvdc_word.specs.Word.{signed, word_of, sum, difference, shifted_left}
-use Rattle.lvdc_mul.proofs.Words.{word_is}
+-- A word and a digit's multiple of another are small numbers.
+use Rattle.std.proofs.Common.{ℕ, ◌+◌, ◌-◌, ◌*◌, ◌≤◌, ◌<◌, ◌^◌, FitsSigned, w32, arith}
+use Rattle.std.specs.Prelude.{ℤ, pos, negsuc, ◌+ℤ◌, ◌-ℤ◌, ◌*ℤ◌, ◌≤ℤ◌, nat_lt, unsigned_abs}
+use Rattle.std.proofs.lemmas.Bool.{cond_both, ltb-true, ltb-false}
+use Rattle.std.proofs.lemmas.Int.{ints, fits_signed_from_abs, unsigned_abs-mul}
+use native.Mathlib.Nat.{mul-le-mul}
+use Rattle.lvdc_word.specs.Word.{signed}
 
--- z is the word w and whole turns of 2 ^ 26
-record IsTurned (z : ℤ) (w : ℕ) : Type 0 where
-  turns : ℤ
-  is : z ≡ (turns *ℤ pos 67108864) +ℤ pos w
+signed_small : (w : ℕ) → w < 2 ^ 26 → unsigned_abs (signed w) ≤ 33554432
+signed_small w word =
+    cond_both (nat_lt w (2 ^ 25)) (pos w) (pos w -ℤ pos (2 ^ 26)) (λ z. unsigned_abs z ≤ 33554432)
+    (λ e. let below = ltb-true w 33554432 e in omega (arith, ints, below))
+    (λ e. let above = ltb-false w 33554432 e in omega (arith, ints, above, word))
 
-signed_turned : (w : ℕ) → IsTurned (signed w) w
-signed_turned w =
-    cond_both (nat_lt w (2 ^ 25)) (pos w) (pos w -ℤ pos (2 ^ 26)) (λ z. IsTurned z w)
-    (λ _. record { turns = pos 0; is = omega (arith, ints) }) (λ _. record { turns = negsuc 0; is = omega (arith, ints) })
+-- a digit's multiple of a word
+module _ (d : ℤ) (m : ℕ) (least : negsuc 1 ≤ℤ d) (most : d ≤ℤ pos 3) (word : m < 2 ^ 26) where
+  digit_small : unsigned_abs d ≤ 3
+  digit_small = omega (arith, ints, least, most)
 
-plus_turned : (x y : ℤ) (a b : ℕ) → IsTurned x a → IsTurned y b → IsTurned (x +ℤ y) (sum a b)
-plus_turned x y a b p q =
-    record {
-      turns = (p.turns +ℤ q.turns) +ℤ pos ((a + b) / 67108864);
-      is = let e = p.is in let f = q.is in omega (arith, ints, e, f);
-    }
+  multiple_small : unsigned_abs (d *ℤ signed m) ≤ 100663296
+  multiple_small = omega (arith, unsigned_abs-mul d (signed m), mul-le-mul digit_small (signed_small m word))
 
-minus_turned : (x y : ℤ) (a b : ℕ) → b < 2 ^ 26 → IsTurned x a → IsTurned y b → IsTurned (x -ℤ y) (difference a b)
-minus_turned x y a b small p q =
-    record {
-      turns = (p.turns -ℤ q.turns) +ℤ (pos ((a + (67108864 - b)) / 67108864) -ℤ pos 1);
-      is = let e = p.is in let f = q.is in omega (arith, ints, e, f, small);
-    }
+  pub multiple_fits : FitsSigned w32 (d *ℤ signed m)
+  multiple_fits = fits_signed_from_abs w32 (d *ℤ signed m) (omega (arith, multiple_small))
 
-twice_turned : (y : ℤ) (b : ℕ) → IsTurned y b → IsTurned (y +ℤ y) (shifted_left b 1)
-twice_turned y b q =
-    record {
-      turns = (q.turns +ℤ q.turns) +ℤ pos (b * 2 / 67108864);
-      is = let f = q.is in omega (arith, ints, f);
-    }
-
-word_turned : (z : ℤ) (w : ℕ) → w < 2 ^ 26 → IsTurned z w → w ≡ word_of z
-word_turned z w small t = sym (word_is z t.turns w t.is small)
-
--- ---- a word and a multiple of another
-
-pub less_twice : (h m : ℕ) → difference h (shifted_left m 1) ≡ word_of (signed h +ℤ (negsuc 1 *ℤ signed m))
-less_twice h m =
-    word_turned (signed h -ℤ (signed m +ℤ signed m)) _ (omega arith)
-    (minus_turned _ _ h (shifted_left m 1) (omega arith) (signed_turned h) (twice_turned _ m (signed_turned m)))
-    ∙ ap word_of (by_sign (signed h) (signed m))
-  where
-    by_sign : (x y : ℤ) → x -ℤ (y +ℤ y) ≡ x +ℤ (negsuc 1 *ℤ y)
-    by_sign x y = omega (arith, ints)
-
-pub more_twice : (h m : ℕ) → sum h (shifted_left m 1) ≡ word_of (signed h +ℤ (pos 2 *ℤ signed m))
-more_twice h m =
-    word_turned (signed h +ℤ (signed m +ℤ signed m)) _ (omega arith)
-    (plus_turned _ _ h (shifted_left m 1) (signed_turned h) (twice_turned _ m (signed_turned m)))
-    ∙ ap word_of (by_sign (signed h) (signed m))
-  where
-    by_sign : (x y : ℤ) → x +ℤ (y +ℤ y) ≡ x +ℤ (pos 2 *ℤ y)
-    by_sign x y = omega (arith, ints)
-
-pub more_thrice : (h m : ℕ) → sum (sum h (shifted_left m 1)) m ≡ word_of (signed h +ℤ (pos 3 *ℤ signed m))
-more_thrice h m =
-    word_turned ((signed h +ℤ (signed m +ℤ signed m)) +ℤ signed m) _ (omega arith)
-    (plus_turned _ _ (sum h (shifted_left m 1)) m
-    (plus_turned _ _ h (shifted_left m 1) (signed_turned h) (twice_turned _ m (signed_turned m))) (signed_turned m))
-    ∙ ap word_of (by_sign (signed h) (signed m))
-  where
-    by_sign : (x y : ℤ) → (x +ℤ (y +ℤ y)) +ℤ y ≡ x +ℤ (pos 3 *ℤ y)
-    by_sign x y = omega (arith, ints)
+  pub sum_fits : (h : ℕ) → h < 2 ^ 26 → FitsSigned w32 (signed h +ℤ (d *ℤ signed m))
+  sum_fits h small =
+      let one = signed_small h small in
+      let more = multiple_small in
+      fits_signed_from_abs w32 (signed h +ℤ (d *ℤ signed m)) (omega (arith, ints, one, more))

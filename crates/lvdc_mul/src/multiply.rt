@@ -27,14 +27,7 @@ fn with_multiple(h: Word, digit: i32, m: Word) -> Word
     requires greatest { digit ≤ℤ pos 3 }
     ensures { result ≡ word_of (signed h +ℤ (digit *ℤ signed m)) }
 {
-    match digit {
-        -2 => h.minus(m.left(1)),
-        -1 => h.minus(m),
-        0 => h,
-        1 => h.plus(m),
-        2 => h.plus(m.left(1)),
-        _ => h.plus(m.left(1)).plus(m),
-    }
+    Word::modulo(i64::from(h.signed() + digit * m.signed()))
 }
 
 /// H and the digit's multiple of M, before they are shifted.

@@ -84,6 +84,7 @@ impl Unit {
     }
 
     /// Makes one phase. The last one leaves the count 0, and the kind, NEG and SAT as they are.
+    #[inline(always)]
     pub fn phase(self) -> Unit
         ensures { result ≡ phase_of self }
     {
@@ -121,6 +122,7 @@ impl Unit {
     }
 
     /// The result, exactly where the next phase is the last one.
+    #[inline(always)]
     pub fn lands(self) -> Option<Word>
         ensures { result ≡ lands_of self }
     {
