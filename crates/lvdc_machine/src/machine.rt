@@ -263,8 +263,15 @@ impl Machine {
         if let Some(end) = self.ended() {
             return end;
         }
+        // Where one order takes all turns, no step asks whose turn it is.
+        let first = orders.at_step(0);
+        let is_alone = orders.count() == 1;
         for _made in 0..steps {
-            let order = orders.at_step(self.steps);
+            let order = if is_alone {
+                first
+            } else {
+                orders.at_step(self.steps)
+            };
             let _ = self.advance(order, devices);
             if let Some(end) = self.ended() {
                 return end;

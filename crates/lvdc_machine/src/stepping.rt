@@ -57,9 +57,19 @@ fn keep_end(end: &mut Option<KeptEnd>, stop: Word, step: u64)
     ensures { end_seen end.new ≡ stop_of (stop % 4) step }
 {
     match stop.value() % 4 {
-        0 => *end = None,
+        0 => clear(end),
         1 => keep_stop(end, step, Stop::Shift),
         _ => keep_stop(end, step, Stop::Exm),
+    }
+}
+
+/// Keeps that no end has come. Mostly none is kept, and then nothing is written.
+#[inline(always)]
+fn clear(end: &mut Option<KeptEnd>)
+    ensures { end_seen end.new ≡ None }
+{
+    if end.is_some() {
+        *end = None;
     }
 }
 
@@ -113,6 +123,7 @@ fn read_of(wanted: &Wanted) -> Option<Address>
 
 impl Machine {
     /// Takes away the devices whose time has come with this step.
+    #[inline(always)]
     fn unplug_due(&self, devices: &mut Vec<Box<dyn PortDevice>>)
         requires { AreDistinct (map device_of devices.old.items) }
         ensures devices { map device_of devices.new.items ≡ devices_left self.now.unplugs self.now.steps (map device_of devices.old.items) }
@@ -120,6 +131,9 @@ impl Machine {
         ensures spare { (n : ℕ) → HasSpare spare n devices.old.items → HasSpare spare n devices.new.items }
         ensures since { Since device_of faults devices.old.items devices.new.items }
     {
+        if self.unplugs.is_empty() {
+            return;
+        }
         if self.steps % 3 == 0 {
             unplug_all(&self.unplugs, self.steps / 3, devices);
         }
@@ -127,6 +141,7 @@ impl Machine {
 
     /// Damages cells, and puts in force what is stuck and dead in this step, and what acts on the copies. Where no event begins or has
     /// ended with it, there is nothing to do.
+    #[inline(always)]
     fn begin(&mut self)
         ensures { HasBegun self.old self.new }
     {
@@ -145,6 +160,7 @@ impl Machine {
     }
 
     /// The word of the address that is to be read, where nothing is wrong with it: one look at the cells for the verdict and the read.
+    #[inline(always)]
     fn sound_word(&self, at: Option<Address>) -> Option<Word>
         requires begun { self.now.on_memory.last ≡ Some self.now.steps }
         requires there { IfSome at (λ spot. is_there self.now.banks spot ≡ true) }
@@ -154,6 +170,7 @@ impl Machine {
     }
 
     /// What is said of the address that is to be read, whether a sound word was found there or not.
+    #[inline(always)]
     fn found_memory(&self, at: Option<Address>, is_sound: bool) -> Verdict
         requires begun { self.now.on_memory.last ≡ Some self.now.steps }
         requires there { IfSome at (λ spot. is_there self.now.banks spot ≡ true) }
@@ -176,6 +193,7 @@ impl Machine {
     }
 
     /// What is said of the step that was begun: a module with two wrong copies comes first.
+    #[inline(always)]
     fn found(&self, wanted: &Wanted, is_sound: bool) -> Verdict
         requires begun { self.now.on_memory.last ≡ Some self.now.steps }
         requires there { IsThereFor self.now.banks wanted.now }
@@ -195,6 +213,7 @@ impl Machine {
     }
 
     /// What the mode says of the step that was begun.
+    #[inline(always)]
     fn verdict(&self, wanted: &Wanted, is_sound: bool) -> Verdict
         requires begun { self.now.on_memory.last ≡ Some self.now.steps }
         requires there { IsThereFor self.now.banks wanted.now }
@@ -311,6 +330,7 @@ impl Machine {
     }
 
     /// Stores a word.
+    #[inline(always)]
     fn store(&mut self, order: &Order, at: Address, word: Word)
         requires may { MayMake self.old }
         requires there { is_there self.old.banks at ≡ true }
@@ -470,7 +490,9 @@ impl Machine {
         });
     }
 
-    /// Makes the next step of a machine that runs, and answers what was made, if the step was.
+    /// Makes the next step of a machine that runs, and answers what was made, if the step was. It is compiled into its callers, and so
+    /// are the parts of it that each step takes: whoever drops the answer has none made.
+    #[inline(always)]
     pub(crate) fn advance(
         &mut self,
         order: &Order,
