@@ -1,9 +1,8 @@
 -- What is told of a part of the events on memory is what its events do.
-use Rattle.std.proofs.Common.{◌≡◌, ◌≢◌, ℕ, zero, suc, ◌+◌, ◌-◌, ◌<◌, ◌≤◌, ◌==◌, Bool, true, false, cond, not, ◌&&◌, ◌||◌, List, [], ◌∷◌, ◌++◌, length, take, All, Option, None, Some, refl, sym, ap, ◌∙◌, subst, arith, get_or, set}
+use Rattle.std.proofs.Common.{◌≡◌, ◌≢◌, ℕ, zero, suc, ◌+◌, ◌<◌, ◌≤◌, ◌==◌, Bool, true, false, cond, not, ◌&&◌, ◌||◌, List, [], ◌∷◌, ◌++◌, length, take, All, Option, None, Some, refl, sym, ap, ◌∙◌, subst, arith, get_or, set}
 use Rattle.std.specs.List.{list_any}
 use Rattle.std.specs.Prelude.{IfSome, IsSomeAnd}
-use Rattle.std.proofs.lemmas.Bool.{eqb-true, eqb-false, and_parts, false≢true}
-use Rattle.std.proofs.lemmas.Bool.Decides.{nat_tests}
+use Rattle.std.proofs.lemmas.Bool.{eqb-true, eqb-false, ne_eqb, and_parts, false≢true}
 use Rattle.std.proofs.lemmas.List.{take_more, get_or-set_same, get_or-set_other}
 use Rattle.std.proofs.lemmas.List.Elements.{All-head, All-tail, All-weaker}
 use Rattle.std.proofs.lemmas.Option.{slice_get-get_or, get_or_from_slice_get}
@@ -22,7 +21,9 @@ use Rattle.lvdc_memory.specs.declared.parts.Part.{Part}
 -- ---- the same at two steps
 
 module _ (s t : ℕ) where
+  -- damage isn't done at the later one, and any other event is active at both or at none
   abbrev Same : Event → Type 0
+  Same (Damage twin at damaged mask) = damaged ≢ t
   Same e = is_active t e ≡ is_active s e
 
   by_same : (twin : ℕ) (place : Spot) (e : Event) (bits : Stuck) → Same e → stuck_by t twin place e bits ≡ stuck_by s twin place e bits
@@ -54,40 +55,49 @@ module _ (s t : ℕ) where
   first_dead_same (_ ∷ es) h = refl
 
   -- no event that stays as it is changes what is in force
-  not_now : (when : ℕ) → s < t → (when == t) ≡ (when == s) → (when == t) ≡ false
-  not_now when less h = grind (arith, nat_tests)
-
   unchanged : (was now : Bool) → now ≡ was → cond was (not now) now ≡ false
   unchanged true now h = ap not h
   unchanged false now h = h
 
-  not_new : (e : Event) → s < t → Same e → is_new (Some s) t e ≡ false
-  not_new (Damage twin at when mask) less h = not_now when less h
-  not_new e less h = unchanged (is_active s e) (is_active t e) h
+  not_new : (e : Event) → Same e → is_new (Some s) t e ≡ false
+  not_new (Damage twin at damaged mask) h = ne_eqb damaged t h
+  not_new e h = unchanged (is_active s e) (is_active t e) h
 
-  pub none_new : (es : List Event) → s < t → All Same es → new_events (Some s) t es ≡ []
-  none_new [] less h = refl
-  none_new (e ∷ es) less h =
-      ap (λ (b : Bool). cond b (e ∷ new_events (Some s) t es) (new_events (Some s) t es)) (not_new e less (All-head Same e es h))
-      ∙ none_new es less (All-tail Same e es h)
+  pub none_new : (es : List Event) → All Same es → new_events (Some s) t es ≡ []
+  none_new [] h = refl
+  none_new (e ∷ es) h =
+      ap (λ (b : Bool). cond b (e ∷ new_events (Some s) t es) (new_events (Some s) t es)) (not_new e (All-head Same e es h))
+      ∙ none_new es (All-tail Same e es h)
 
--- events that stay up to a step are the same at each step before it
-same_then : (s t until : ℕ) (es : List Event) → s ≤ t → t < until → All (StaysUntil s until) es → All (Same s t) es
-same_then s t until es low high = All-weaker (StaysUntil s until) (Same s t) (λ e stays. stays t low high) es
+-- what changes nothing up to a step changes nothing up to an earlier one
+pub stays_less : (step until sooner : ℕ) (e : Event) → sooner ≤ until → StaysUntil step until e → StaysUntil step sooner e
+stays_less step until sooner (Damage twin at damaged mask) less stays = λ t up down. stays t up (omega (arith, less, down))
+stays_less step until sooner e less stays = λ t up down. stays t up (omega (arith, less, down))
 
--- what is told of a part is right while its events stay as they are
+-- nor from a later one on
+stays_later : (s t until : ℕ) (e : Event) → s < t → t < until → StaysUntil s until e → StaysUntil t until e
+stays_later s t until (Damage twin at damaged mask) low high stays = λ u up down. stays u (omega (arith, low, up)) down
+stays_later s t until e low high stays = λ u up down. stays u (omega (arith, low, up)) down ∙ sym (stays t (omega (arith, low)) high)
+
+-- what changes nothing up to a step is the same at each step before it
+same_at : (s t until : ℕ) (e : Event) → s < t → t < until → StaysUntil s until e → Same s t e
+same_at s t until (Damage twin at damaged mask) low high stays = stays t low high
+same_at s t until e low high stays = stays t (omega (arith, low)) high
+
+same_then : (s t until : ℕ) (es : List Event) → s < t → t < until → All (StaysUntil s until) es → All (Same s t) es
+same_then s t until es low high = All-weaker (StaysUntil s until) (Same s t) (λ e stays. same_at s t until e low high stays) es
+
+-- what is told of a part is right while its events change nothing
 pub right_later : (es : List Event) (s t : ℕ) (p : Part) → IsRight es s p → s < t → t < p.until → IsRight es t p
 right_later es s t p h low high = record {
-  stays =
-      All-weaker (StaysUntil s p.until) (StaysUntil t p.until)
-      (λ e stays u up down. stays u (omega (arith, low, up)) down ∙ sym (stays t (omega (arith, low)) high)) es h.stays;
-  stuck = h.stuck ∙ sym (first_stuck_same s t es (same_then s t p.until es (omega (arith, low)) high h.stays));
-  dead = h.dead ∙ sym (first_dead_same s t es (same_then s t p.until es (omega (arith, low)) high h.stays));
+  stays = All-weaker (StaysUntil s p.until) (StaysUntil t p.until) (λ e stays. stays_later s t p.until e low high stays) es h.stays;
+  stuck = h.stuck ∙ sym (first_stuck_same s t es (same_then s t p.until es low high h.stays));
+  dead = h.dead ∙ sym (first_dead_same s t es (same_then s t p.until es low high h.stays));
 }
 
 -- and none of them changes what is in force
 pub none_new_later : (es : List Event) (s t : ℕ) (p : Part) → IsRight es s p → s < t → t < p.until → new_events (Some s) t es ≡ []
-none_new_later es s t p h low high = none_new s t es low (same_then s t p.until es (omega (arith, low)) high h.stays)
+none_new_later es s t p h low high = none_new s t es (same_then s t p.until es low high h.stays)
 
 -- the same, where there may be no last step
 pub right_still : (es : List Event) (last : Option ℕ) (step : ℕ) (p : Part) → IsSomeAnd last (λ at. at < step) → step < p.until

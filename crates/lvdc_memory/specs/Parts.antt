@@ -1,16 +1,17 @@
 -- The events on memory in parts of 256: what each part sticks and kills, and for how long.
-use Rattle.std.specs.Prelude.{◌≡◌, ℕ, ◌+◌, ◌*◌, ◌≤◌, ◌<◌, Bool, false, List, ◌∷◌, length, take, drop, All, Option, slice_index_or, IfSome}
+use Rattle.std.specs.Prelude.{◌≡◌, ◌≢◌, ℕ, ◌+◌, ◌*◌, ◌≤◌, ◌<◌, Bool, false, List, ◌∷◌, length, take, drop, All, Option, slice_index_or, IfSome}
 use Rattle.lvdc_twin.specs.Store.{nothing}
 use Rattle.lvdc_twin.specs.declared.stuck.Stuck.{Stuck}
 use Rattle.lvdc_fault.specs.Damage.{stuck_after, is_dead}
 use Rattle.lvdc_fault.specs.Script.{is_active}
 use Rattle.lvdc_fault.specs.declared.event.Event.{Event}
-use Rattle.lvdc_fault.specs.declared.event.Event.TheVariants.{Stick, Dead}
+use Rattle.lvdc_fault.specs.declared.event.Event.TheVariants.{Damage, Stick, Dead}
 use Rattle.lvdc_memory.specs.Order.{number_of_event}
 use Rattle.lvdc_memory.specs.declared.parts.Part.{Part}
 
--- an event is active at each step from one up to another where it is at that one
+-- an event changes nothing between two steps: no damage is done there, and any other event is active where it is at the first
 abbrev pub StaysUntil : ℕ → ℕ → Event → Type 0
+StaysUntil step until (Damage twin at damaged mask) = (t : ℕ) → step < t → t < until → damaged ≢ t
 StaysUntil step until e = (t : ℕ) → step ≤ t → t < until → is_active t e ≡ is_active step e
 
 -- the number of an event lies between two
@@ -32,7 +33,7 @@ is_first_dead _ step = false
 abbrev pub events_of : List Event → ℕ → List Event
 events_of events k = take 256 (drop (256 * k) events)
 
--- what is told of a part is so at a step, and its events stay as they are up to another
+-- what is told of a part is so at a step, and its events change nothing up to another
 pub record IsRight (events : List Event) (step : ℕ) (p : Part) : Type 0 where
   pub stays : All (StaysUntil step p.until) events
   pub stuck : p.stuck ≡ stuck_first events step

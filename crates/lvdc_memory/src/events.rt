@@ -1,5 +1,5 @@
-//! The events of a script that are on memory, kept from step to step: one that begins or ends costs its part of them and a look at the
-//! parts, and nothing else.
+//! The events of a script that are on memory, kept from step to step: one that begins, or that ends and isn't damage, costs its part of
+//! them and a look at the parts, and nothing else.
 
 ghost use Rattle.std.specs.Prelude.{◌≡◌, ℕ, ◌<◌, true, All, IfOk, IfSome, IsSomeAnd, None, Some};
 ghost use Rattle.lvdc_map.specs.Memory.{Memory};
@@ -57,8 +57,8 @@ impl MemoryEvents {
         })
     }
 
-    /// Begins a step of the memory: damages cells, and puts in force what is stuck and dead. Where no event begins or has ended since
-    /// the last step, the step is noted alone.
+    /// Begins a step of the memory: damages cells, and puts in force what is stuck and dead. Where since the last step no event begins
+    /// and none has ended but damage, the step is noted alone.
     #[inline(always)]
     pub fn begin(&mut self, step: u64, memory: &mut VotedMemory)
         ensures events { self.new.events ≡ self.old.events }

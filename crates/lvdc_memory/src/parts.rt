@@ -1,5 +1,5 @@
-//! The events on memory in parts of 256. What a part sticks and kills is worked out anew only where one of its events begins or has
-//! ended.
+//! The events on memory in parts of 256. What a part sticks and kills is worked out anew only where one of its events begins, or one
+//! that sticks or kills has ended: damage leaves nothing in force.
 
 ghost use Rattle.std.specs.Prelude.{◌≡◌, ◌≢◌, ℕ, ◌*◌, ◌≤◌, ◌<◌, ◌^◌, true, false, [], length, All, IfOk, IfSome, IsSomeAnd};
 ghost use Rattle.lvdc_map.specs.Address.{is_same};
@@ -87,7 +87,7 @@ impl Part {
         }
     }
 
-    /// May an event of the part begin or have ended since the last step, if there was one?
+    /// May an event of the part change what is in force where this step comes after the last one, if there was one?
     fn is_stale(&self, last: Option<u64>, step: u64) -> bool
         ensures last { result ≡ false → IsSomeAnd last (λ at. at < step) }
         ensures until { result ≡ false → step < self.now.until }
@@ -158,7 +158,7 @@ fn highest_number(events: &[Event]) -> usize
     high
 }
 
-/// The first step after this one at which one of these events begins or has ended.
+/// The first step after this one at which one of these events begins, or one that isn't damage has ended.
 fn until_of(events: &[Event], step: u64) -> u64
     ensures { All (StaysUntil step result) events.now }
 {
@@ -169,12 +169,12 @@ fn until_of(events: &[Event], step: u64) -> u64
     until
 }
 
-/// The first step after this one at which an event begins or has ended.
+/// The first step after this one at which an event begins, or has ended if it isn't damage.
 fn change_of(event: &Event, step: u64) -> u64
     ensures { StaysUntil step result event.now }
 {
     match *event {
-        Event::Damage { step: damaged, .. } => change_in(damaged, damaged, step),
+        Event::Damage { step: damaged, .. } => damage_after(damaged, step),
         Event::Stick { first, last, .. }
         | Event::Dead { first, last, .. }
         | Event::Flip { first, last, .. }
@@ -182,6 +182,13 @@ fn change_of(event: &Event, step: u64) -> u64
         | Event::Lag { first, last, .. }
         | Event::Deaf { first, last, .. } => change_in(first, last, step),
     }
+}
+
+/// The step of damage, if it comes after this one. What follows it is no change: damage leaves nothing in force.
+fn damage_after(damaged: u64, step: u64) -> u64
+    ensures { (t : ℕ) → step < t → t < result → damaged ≢ t }
+{
+    if step < damaged { damaged } else { u64::MAX }
 }
 
 /// The first step after this one at which what lasts from a step to another begins or has ended.

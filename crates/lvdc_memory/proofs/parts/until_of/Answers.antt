@@ -1,8 +1,9 @@
--- One event more stays as it is up to the step at which the first of them changes.
+-- One event more changes nothing up to the first step at which one of them does.
 use Rattle.std.proofs.Common.{take, subst, arith, All}
 use Rattle.std.proofs.lemmas.List.{take_all}
 use Rattle.std.proofs.lemmas.List.Elements.{All-more, All-weaker}
 use Rattle.lvdc_memory.specs.Parts.{StaysUntil}
+use Rattle.lvdc_memory.proofs.PartLaws.{stays_less}
 use Rattle.lvdc_memory.proofs.parts.until_of.Goals as goal
 
 pub loop-event-preserved : goal.loop-event-preserved
@@ -14,8 +15,8 @@ loop-event-preserved c =
     let next = c.min-until.result in
     let sooner = c.min-until.ensures in
     All-more (StaysUntil step next) events i c.event-item.result c.loop-event-test.true
-    (All-weaker (StaysUntil step c.loop-event.until) (StaysUntil step next) (λ e was t up down. was t up (omega (arith, sooner, down))) (take i events) so_far)
-    (subst (StaysUntil step next) c.event-item.is (λ t up down. c.change_of.ensures t up (omega (arith, sooner, down))))
+    (All-weaker (StaysUntil step c.loop-event.until) (StaysUntil step next) (λ e was. stays_less step c.loop-event.until next e (omega (arith, sooner)) was) (take i events) so_far)
+    (subst (StaysUntil step next) c.event-item.is (stays_less step c.change_of.result next c.event-item.result (omega (arith, sooner)) c.change_of.ensures))
 
 pub returns : goal.returns
 returns c =

@@ -1,4 +1,4 @@
--- The events so far stay as they are up to this step.
+-- The events so far change nothing up to this step.
 use Rattle.std.proofs.Common.{take, All}
 use Rattle.lvdc_memory.specs.Parts.{StaysUntil}
 use Rattle.lvdc_memory.proofs.parts.until_of.Given as goal
