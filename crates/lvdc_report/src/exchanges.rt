@@ -19,11 +19,11 @@ pub fn put_exchange_line(out: &mut Vec<u8>, exchange: &Exchange) -> Result<(), N
 {
     out.extend_from_slice(direction(exchange.reading))?;
     put_decimal(out, exchange.time)?;
-    out.extend_from_slice(b" ")?;
+    out.push(b' ')?;
     put_octal(out, u64::from(exchange.port), 3)?;
-    out.extend_from_slice(b" ")?;
+    out.push(b' ')?;
     put_octal(out, u64::from(exchange.word.value()), 9)?;
-    out.extend_from_slice(b"\n")?;
+    out.push(b'\n')?;
     Ok(())
 }
 
