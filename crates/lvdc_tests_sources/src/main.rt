@@ -1,4 +1,5 @@
-//! Tests of images, sources, macros, listings and the uplink, over the public calls of their crates.
+//! Tests of images, sources, macros, listings and the uplink, over the public calls of their crates. The program itself does
+//! nothing.
 #![tactic(auto)]
 
 #[cfg(test)]
@@ -17,3 +18,5 @@ mod rows;
 mod source;
 #[cfg(test)]
 mod uplink;
+
+fn main() {}

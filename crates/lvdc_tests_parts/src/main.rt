@@ -1,5 +1,5 @@
 //! Tests of the values, the map, the voters, the twins, the faults and their form, and the devices, over the public calls of their
-//! crates.
+//! crates. The program itself does nothing.
 #![tactic(auto)]
 
 #[cfg(test)]
@@ -28,3 +28,5 @@ mod twin;
 mod vote;
 #[cfg(test)]
 mod word;
+
+fn main() {}

@@ -1,4 +1,5 @@
-//! Tests of the top call: worked rows of each command, refusals, statuses, limits, and streams and devices that fail.
+//! Tests of the top call: worked rows of each command, refusals, statuses, limits, and streams and devices that fail. The program
+//! itself does nothing.
 #![tactic(auto)]
 
 #[cfg(test)]
@@ -29,3 +30,5 @@ mod streams;
 mod told;
 #[cfg(test)]
 mod whole;
+
+fn main() {}

@@ -1,5 +1,5 @@
 //! Tests of decks and their form, the decks of campaigns, of studies and of soak runs, and saved texts, over the public calls of
-//! their crates.
+//! their crates. The program itself does nothing.
 #![tactic(auto)]
 
 #[cfg(test)]
@@ -18,3 +18,5 @@ mod save_read;
 mod soak;
 #[cfg(test)]
 mod study_deck;
+
+fn main() {}
