@@ -7,6 +7,7 @@ use Rattle.lvdc_plain.specs.Plain.{PlainState}
 use Rattle.lvdc_plain.specs.declared.records.Stop.{Stop}
 use Rattle.lvdc_fault.specs.declared.verdict.Verdict.{Verdict}
 use Rattle.lvdc_fault.specs.declared.verdict.Verdict.TheVariants.{Admissible, Logic, Memory}
+use Rattle.lvdc_plain.specs.Run.{IsOpening}
 use Rattle.lvdc_laws_phases.specs.Standing.{Standing}
 use Rattle.lvdc_laws_phases.specs.States.{ShowsRegisters}
 use Rattle.lvdc_model.specs.declared.outcome.Outcome.{Outcome}
@@ -15,7 +16,7 @@ use Rattle.lvdc_model.specs.Judging.{judged, is_begun, or_else, first_bad, first
 use Rattle.lvdc_model.specs.Runs.{through_by, through_step, through, judged_by, guarded_by, guarded_step, guarded}
 use Rattle.lvdc_model.specs.Trial.{Trial, plain_at}
 use Rattle.lvdc_model.specs.Voted.{Voted, votes}
-use Rattle.lvdc_laws_voted.specs.Ends.{IsOpening, ShowsTimes, stop_end, Comes, Good, Bad}
+use Rattle.lvdc_laws_voted.specs.Ends.{ShowsTimes, stop_end, Comes, Good, Bad}
 use Rattle.lvdc_laws_voted.specs.Relation.{Goes, Halts}
 use Rattle.lvdc_report.specs.Report.{visible_in}
 use Rattle.lvdc_report.specs.Voted.{visible_of}

@@ -10,7 +10,7 @@ use Rattle.lvdc_port.specs.Devices.{has_port, count_at, AreDistinct}
 use Rattle.lvdc_port.proofs.Lists.{has-map, rose-has}
 use Rattle.lvdc_port.specs.declared.requests.PortRequest.{PortRequest}
 use Rattle.lvdc_plain.specs.Plain.{PlainState, World}
-use Rattle.lvdc_plain.specs.Run.{Opening, run, time_by}
+use Rattle.lvdc_plain.specs.Run.{Opening, run, time_by, IsOpening}
 use Rattle.lvdc_plain.specs.Table.{fetched_instr, request_by, exchanged, step_by, step}
 use Rattle.lvdc_plain.specs.Stands as plain
 use Rattle.lvdc_plain.specs.View as plain_view
@@ -21,7 +21,6 @@ use Rattle.lvdc_plain.specs.declared.records.Unplug.{Unplug}
 use Rattle.lvdc_fault.specs.declared.event.Event.{Event}
 use Rattle.lvdc_model.specs.declared.outcome.Outcome.{Outcome}
 use Rattle.lvdc_model.specs.declared.outcome.Outcome.TheVariants.{Done, Stopped, Inadmissible, Device}
-use Rattle.lvdc_laws_voted.specs.Ends.{IsOpening}
 use Rattle.lvdc_machine.specs.Causes.{HasCause}
 use Rattle.lvdc_machine.specs.Stands.{Stands}
 use Rattle.lvdc_machine.specs.View.{View, answer_of_end}

@@ -7,12 +7,12 @@ use Rattle.lvdc_map.specs.Hop.{HopConstant}
 use Rattle.lvdc_map.specs.declared.placed.Placed.{Placed}
 use Rattle.lvdc_port.specs.Device as device
 use Rattle.lvdc_port.specs.Devices.{has_port, AreDistinct}
-use Rattle.lvdc_plain.specs.Run.{Opening, run}
+use Rattle.lvdc_plain.specs.Run.{Opening, run, IsOpening}
 use Rattle.lvdc_plain.specs.declared.records.Unplug.{Unplug}
 use Rattle.lvdc_fault.specs.declared.event.Event.{Event}
 use Rattle.lvdc_fault.specs.declared.verdict.Verdict.TheVariants.{Admissible}
 use Rattle.lvdc_laws_early.specs.Early.{BeginsFrom, AllBeginFrom, fault_free}
-use Rattle.lvdc_laws_voted.specs.Ends.{IsOpening, ShowsTimes}
+use Rattle.lvdc_laws_voted.specs.Ends.{ShowsTimes}
 use Rattle.lvdc_model.specs.Judging.{first_bad, first_bad_below}
 use Rattle.lvdc_model.specs.Runs.{alone, guarded}
 use Rattle.lvdc_model.specs.declared.outcome.Outcome.{Outcome}

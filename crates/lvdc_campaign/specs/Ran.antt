@@ -4,7 +4,7 @@ use Rattle.std.specs.declared.option.Option.{Option}
 use Rattle.std.specs.declared.option.Option.TheVariants.{None, Some}
 use Rattle.lvdc_port.specs.Device as device
 use Rattle.lvdc_port.specs.Devices.{AreDistinct}
-use Rattle.lvdc_plain.specs.Run.{Opening, run}
+use Rattle.lvdc_plain.specs.Run.{Opening, run, IsOpening}
 use Rattle.lvdc_plain.specs.Stands as plain
 use Rattle.lvdc_plain.specs.View as plain_view
 use Rattle.lvdc_plain.specs.declared.records.PlainEnd.{PlainEnd}
@@ -14,7 +14,6 @@ use Rattle.lvdc_fault.specs.declared.verdict.Verdict.TheVariants.{Admissible}
 use Rattle.lvdc_model.specs.Trial.{Trial}
 use Rattle.lvdc_model.specs.declared.outcome.Outcome.{Outcome}
 use Rattle.lvdc_model.specs.declared.outcome.Outcome.TheVariants.{Done, Stopped, Inadmissible, Device}
-use Rattle.lvdc_laws_voted.specs.Ends.{IsOpening}
 use Rattle.lvdc_machine.specs.declared.mode.Mode.{Mode}
 use Rattle.lvdc_machine.specs.declared.mode.Mode.TheVariants.{Guarded}
 use Rattle.lvdc_machine.specs.Stands.{Stands}

@@ -1,8 +1,7 @@
 ghost use Rattle.std.specs.Prelude.{◌≡◌, ℕ, ◌*◌, List, [], true};
 ghost use Rattle.lvdc_fault.specs.declared.verdict.Verdict.TheVariants.{Admissible};
-ghost use Rattle.lvdc_laws_voted.specs.Ends.{IsOpening};
 ghost use Rattle.lvdc_port.specs.Device.{Device};
-ghost use Rattle.lvdc_plain.specs.Run.{Opening, run};
+ghost use Rattle.lvdc_plain.specs.Run.{Opening, run, IsOpening};
 ghost use Rattle.lvdc_plain.specs.Stands.{Stands};
 ghost use Rattle.lvdc_plain.specs.View as plain_view;
 ghost use Rattle.lvdc_laws_guarded.specs.Guarded.{UnhurtBy};

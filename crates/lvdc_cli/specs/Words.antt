@@ -1,24 +1,15 @@
 -- Which lists of words are command lines.
-use Rattle.std.specs.Prelude.{ℕ, ◌^◌, Bool, true, false, List, [], ◌∷◌, map, codes, if◌then◌else◌, String, string_bytes}
-use Rattle.std.specs.Global.{Global}
-use Rattle.std.specs.Str.{bytes_eq}
+use Rattle.std.specs.Prelude.{ℕ, ◌^◌, Bool, true, false, List, [], ◌∷◌, codes, if◌then◌else◌}
 use Rattle.std.specs.declared.option.Option.{Option}
 use Rattle.std.specs.declared.option.Option.TheVariants.{None, Some}
 use Rattle.lvdc_text.specs.Numbers.{number_of, below}
+use Rattle.lvdc_text.specs.Words.{is}
 use Rattle.lvdc_command_run.specs.declared.job.Engine.TheVariants.{Guarded, Through, Plain}
 use Rattle.lvdc_command_asm.specs.declared.reply.Product.TheVariants.{Image, Listing}
 use Rattle.lvdc_command_macro.specs.declared.reply.Form.TheVariants as form
 use Rattle.lvdc_cli.specs.declared.TheConstants.{LIMIT, SAVED_LIMIT}
 use Rattle.lvdc_cli.specs.declared.command.Command.{Command}
 use Rattle.lvdc_cli.specs.declared.command.Command.TheVariants.{Run, Soak, Assemble, Debug, Save, Resume, Campaign, Uplink, Expand}
-
--- the bytes of the words
-abbrev pub texts : List (String Global) → List (List ℕ)
-texts words = map string_bytes words
-
--- is it this word?
-abbrev pub is : List ℕ → List ℕ → Bool
-is name word = bytes_eq word name
 
 -- the engine that a flag of `run` names
 abbrev pub flagged : List ℕ → Option Command

@@ -1,9 +1,10 @@
 ghost use Rattle.std.specs.Prelude.{◌≡◌, false, length, map};
 ghost use Rattle.lvdc_text.specs.Room.{HasRoom};
 ghost use Rattle.lvdc_port.specs.Devices.{AreDistinct};
+ghost use Rattle.lvdc_text.specs.Words.{texts};
 ghost use Rattle.lvdc_command_run.specs.Runs.{Judges, Stops, IsStop};
 ghost use Rattle.lvdc_command_resume.specs.Statuses.{IsInadmissible};
-ghost use Rattle.lvdc_cli.specs.Words.{texts, command_of, reads};
+ghost use Rattle.lvdc_cli.specs.Words.{command_of, reads};
 ghost use Rattle.lvdc_cli.specs.Commands.{room_for};
 ghost use Rattle.lvdc_cli.specs.Outside.{outside};
 ghost use Rattle.lvdc_cli.specs.Top.{IsTold, IsEnd, IsRefusal, IsWanting, GivesReply, GivesHeadline, GivesAnswer, ReadsAll, UsageHasCause, RunHasCause, ReadFaultHasCause, WriteFaultHasCause, DeviceFaultHasCause, TooLongHasCause};

@@ -1,5 +1,6 @@
 ghost use Rattle.std.specs.Prelude.{◌≡◌, string_bytes};
-ghost use Rattle.lvdc_cli.specs.Words.{texts, flagged, product_of, form_of, soak_number, times_of, of_one, of_two, command_of, reads_for, limit_of};
+ghost use Rattle.lvdc_text.specs.Words.{texts};
+ghost use Rattle.lvdc_cli.specs.Words.{flagged, product_of, form_of, soak_number, times_of, of_one, of_two, command_of, reads_for, limit_of};
 
 use crate::{LIMIT, SAVED_LIMIT};
 use lvdc_command_asm::Product;

@@ -2,8 +2,8 @@
 
 ghost use Rattle.std.specs.Prelude.{◌≡◌, ℕ, true};
 ghost use Rattle.lvdc_masks.specs.Form.{masks};
+ghost use Rattle.lvdc_plain.specs.Run.{IsOpening};
 ghost use Rattle.lvdc_model.specs.Trial.{Trial};
-ghost use Rattle.lvdc_laws_voted.specs.Ends.{IsOpening};
 ghost use Rattle.lvdc_command_run.specs.Answers.{run_answer};
 ghost use Rattle.lvdc_command_run.specs.declared.job.Engine.TheVariants as engines;
 ghost use Rattle.lvdc_command_run.specs.declared.job.Job.TheVariants as jobs;

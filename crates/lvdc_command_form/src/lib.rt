@@ -2,9 +2,7 @@
 #![tactic(auto)]
 
 mod laws;
-mod opening;
 mod reply;
 
 pub use laws::form_is_answered;
-pub use opening::opens_with_words;
 pub use reply::form_bytes;

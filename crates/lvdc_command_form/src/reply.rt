@@ -7,8 +7,7 @@ ghost use Rattle.lvdc_command_form.specs.Answers.{form_text, unmet_in, form_answ
 ghost use Rattle.lvdc_command_form.specs.Plainly.{RunsAsPlain};
 
 use crate::laws::form_is_answered;
-use crate::opening::opens_with_words;
-use lvdc_command_run::refuse;
+use lvdc_command_run::{opens_with_words, refuse};
 use lvdc_deck::{Deck, read_deck};
 use lvdc_masks::{Condition, first_unmet};
 use lvdc_port::PortDevice;

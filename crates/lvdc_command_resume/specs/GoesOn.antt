@@ -1,9 +1,9 @@
 -- What a saved run comes to where the saved state is one of a trial's run.
 use Rattle.std.specs.Prelude.{◌≡◌, ◌≢◌, List}
 use Rattle.lvdc_port.specs.Device.{Device}
+use Rattle.lvdc_plain.specs.Run.{IsOpening}
 use Rattle.lvdc_model.specs.Runs.{guarded}
 use Rattle.lvdc_model.specs.Trial.{Trial}
-use Rattle.lvdc_laws_voted.specs.Ends.{IsOpening}
 use Rattle.lvdc_reply.specs.Answer.{Answer}
 use Rattle.lvdc_command_run.specs.Answers.{run_answer}
 use Rattle.lvdc_command_run.specs.declared.job.Engine.TheVariants.{Guarded}

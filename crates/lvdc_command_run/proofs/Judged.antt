@@ -4,7 +4,7 @@ use Rattle.std.specs.declared.option.Option.{Option}
 use Rattle.lvdc_port.specs.Device as device
 use Rattle.lvdc_map.specs.Address.{Spot}
 use Rattle.lvdc_map.specs.Banks.{HasBank}
-use Rattle.lvdc_plain.specs.Run.{Opening, run}
+use Rattle.lvdc_plain.specs.Run.{Opening, run, IsOpening}
 use Rattle.lvdc_fault.specs.declared.verdict.Verdict.TheVariants.{Admissible}
 use Rattle.lvdc_laws_phases.specs.Standing.{Standing}
 use Rattle.lvdc_model.specs.Exchanges.{begin_step, with_end, wished}
@@ -15,7 +15,7 @@ use Rattle.lvdc_model.specs.Trial.{Trial, plain_at}
 use Rattle.lvdc_model.specs.Voted.{Voted}
 use Rattle.lvdc_model.specs.declared.outcome.Outcome.{Outcome}
 use Rattle.lvdc_model.specs.declared.outcome.Outcome.TheVariants.{Done, Stopped, Inadmissible, Device}
-use Rattle.lvdc_laws_voted.specs.Ends.{IsOpening, Comes, ShowsTimes, IsBegun, stop_end}
+use Rattle.lvdc_laws_voted.specs.Ends.{Comes, ShowsTimes, IsBegun, stop_end}
 use Rattle.lvdc_laws_guarded.specs.Guarded.{IsExchanged, GuardedBy}
 use Rattle.lvdc_machine.specs.Stands.{Stands, EndsAs, HasFailed, state_by}
 use Rattle.lvdc_machine.specs.Steps.{NamesPort}

@@ -3,14 +3,13 @@ use Rattle.std.proofs.Common.{◌≡◌, ℕ, ◌+◌, ◌*◌, List, map, ap, s
 use Rattle.lvdc_port.specs.Device as device
 use Rattle.lvdc_port.specs.Supplies.{supplied}
 use Rattle.lvdc_map.specs.declared.placed.Placed.{Placed}
-use Rattle.lvdc_plain.specs.Run.{Opening}
+use Rattle.lvdc_plain.specs.Run.{Opening, IsOpening}
 use Rattle.lvdc_plain.specs.Calls as plain_calls
 use Rattle.lvdc_plain.specs.Stands as plain
 use Rattle.lvdc_plain.specs.View as plain_view
 use Rattle.lvdc_plain.specs.declared.records.PlainEnd.{PlainEnd}
 use Rattle.lvdc_plain.specs.declared.records.Unplug.{Unplug}
 use Rattle.lvdc_model.specs.declared.outcome.Outcome.{Outcome}
-use Rattle.lvdc_laws_voted.specs.Ends.{IsOpening}
 use Rattle.lvdc_machine.specs.Calls.{Begins}
 use Rattle.lvdc_machine.specs.Causes.{HasCause}
 use Rattle.lvdc_machine.specs.Stands.{Stands}

@@ -4,9 +4,9 @@ ghost use Rattle.std.specs.Prelude.{◌≡◌, ℕ, ◌*◌, false, List, Some, 
 ghost use Rattle.lvdc_port.specs.Device.{Device};
 ghost use Rattle.lvdc_text.specs.Lines.{NumberedLine, numbered, lines_of};
 ghost use Rattle.lvdc_asm.specs.Assembly.{assembly_of};
+ghost use Rattle.lvdc_plain.specs.Run.{IsOpening};
 ghost use Rattle.lvdc_model.specs.Runs.{guarded};
 ghost use Rattle.lvdc_model.specs.Trial.{Trial};
-ghost use Rattle.lvdc_laws_voted.specs.Ends.{IsOpening};
 ghost use Rattle.lvdc_deck.specs.Deck.{deck_of};
 ghost use Rattle.lvdc_deck.specs.Loading.{source_in, HasLines};
 ghost use Rattle.lvdc_deck.specs.declared.deck.Deck.{Deck};

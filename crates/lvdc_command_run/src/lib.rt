@@ -3,6 +3,7 @@
 
 mod job;
 mod laws;
+mod opening;
 mod perform;
 mod ready;
 mod refusal;
@@ -10,6 +11,7 @@ mod runs;
 
 pub use job::{Engine, Job};
 pub use laws::{guarded_is_answered, headline_told, source_is_loaded, statuses_caused};
+pub use opening::opens_with_words;
 pub use perform::{refuse, run_job};
 pub use ready::{Ready, make_ready};
 pub use runs::{end_status, report_end};

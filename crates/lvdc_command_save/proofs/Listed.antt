@@ -2,7 +2,7 @@
 use Rattle.std.proofs.Common.{◌≡◌, ℕ, zero, suc, ◌+◌, ◌*◌, List, [], ◌∷◌, ◌++◌, length, refl, sym, ap, ◌∙◌, arith, append_assoc, zero-add, add-zero}
 use Rattle.std.specs.Prelude.{slice_index}
 use Rattle.std.specs.List.{concat}
-use Rattle.lvdc_logic.specs.Listing.{items_at, copies_from, copies_of, counts_from, counts_of}
+use Rattle.lvdc_model.specs.Listing.{items_at, copies_from, copies_of, counts_from, counts_of}
 use Rattle.lvdc_command_save.specs.Snapshots.{latches_in}
 
 -- so many items, and the next ones

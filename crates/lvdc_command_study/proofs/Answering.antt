@@ -1,10 +1,9 @@
 -- How a study is answered, by what is told of it.
 use Rattle.std.proofs.Common.{◌≡◌, ◌≢◌, ℕ, List, Result, Ok, Err, IfOk, OnOk, sym, ap, ◌∙◌, subst, All, arith}
-use Rattle.lvdc_plain.specs.Run.{Opening}
+use Rattle.lvdc_plain.specs.Run.{Opening, IsOpening}
 use Rattle.lvdc_port.specs.Device.{Device}
 use Rattle.lvdc_port.specs.Devices.{HoldWords}
 use Rattle.lvdc_fault.specs.declared.named.Named.{Named}
-use Rattle.lvdc_laws_voted.specs.Ends.{IsOpening}
 use Rattle.lvdc_reply.specs.Answer.{answer_with, answer_of, refusal_text}
 use Rattle.lvdc_reply.specs.declared.reply.Reply.{Reply}
 use Rattle.lvdc_word.specs.declared.memory.NoMemory.{NoMemory}

@@ -18,7 +18,7 @@ ghost use Rattle.lvdc_command_study.specs.Studied.{IsRunnable, IsStudied};
 
 use crate::text::study_text;
 use lvdc_command_campaign::refuse;
-use lvdc_command_form::opens_with_words;
+use lvdc_command_run::opens_with_words;
 use lvdc_deck::Deck;
 use lvdc_port::PortDevice;
 use lvdc_reply::Reply;

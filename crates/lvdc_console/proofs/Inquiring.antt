@@ -6,17 +6,11 @@ use Rattle.lvdc_port.specs.Devices.{NeverFail}
 use Rattle.lvdc_reply.specs.Answer.{Answer, answer_with}
 use Rattle.lvdc_reply.proofs.Statuses.{never-failed}
 use Rattle.lvdc_reply.specs.declared.reply.Reply.{Reply as Told}
-use Rattle.lvdc_command_study.specs.Replies as study
+use Rattle.lvdc_inquiries.proofs.Studies.{studied}
 use Rattle.lvdc_inquiries.specs.Replies.{inquiry_answer, IsReplyTo, HoldsFor}
 use Rattle.lvdc_inquiries.specs.declared.inquiry.Inquiry.{Inquiry}
 use Rattle.lvdc_inquiries.specs.declared.inquiry.Inquiry.TheVariants.{Trace, Form, Study}
 use Rattle.lvdc_console.specs.Inquired.{IsInquired}
-
--- of a study, whose runs have devices that never fail either
-studied : {bytes : List ℕ} {devices : List Device} {told : Answer} → study.IsStudyReply bytes devices told → told.status ≢ 10
-    → told ≡ inquiry_answer Study bytes devices
-studied (study.answered is) free = is
-studied (study.failed step port fails ten) free = absurd (free ten)
 
 reply_over : {B : Type 0} (device_of : B → Device) (faults : B → ℕ) (inquiry : Inquiry) (bytes : List ℕ) (old new : List B) (told : Answer)
     → NeverFail faults old → (inquiry ≡ Study → told.status ≢ 10) → IsReplyTo device_of faults inquiry bytes old new told

@@ -1,10 +1,11 @@
 ghost use Rattle.std.specs.Prelude.{◌≡◌, ◌≢◌, List, ℕ, Some, IfOk, OnErr};
 ghost use Rattle.std.specs.Io.KnownBytes.{Appends};
 ghost use Rattle.lvdc_text.specs.Room.{HasRoom};
+ghost use Rattle.lvdc_text.specs.Words.{texts};
 ghost use Rattle.lvdc_console.specs.Rack.{rack};
 ghost use Rattle.lvdc_command_run.specs.declared.job.Engine.TheVariants.{Guarded};
 ghost use Rattle.lvdc_cli.specs.declared.command.Command.TheVariants.{Run};
-ghost use Rattle.lvdc_cli.specs.Words.{texts, command_of};
+ghost use Rattle.lvdc_cli.specs.Words.{command_of};
 ghost use Rattle.lvdc_cli.specs.Commands.{answer, room_for};
 ghost use Rattle.lvdc_cli.specs.Top.{IsInput};
 ghost use Rattle.lvdc_console.specs.Over.{IsAnswerOver, IsUntroubled, CarriesHeadlineOver};

@@ -10,5 +10,7 @@ mod reply;
 
 pub use command::run;
 pub use inquiry::inquire_over_rack;
+pub use lvdc_cli::{Command, read_command};
+pub use lvdc_inquiries::{Inquiry, read_inquiry};
 pub use rack::rack_holds_words;
 pub use reply::reply_over_rack;

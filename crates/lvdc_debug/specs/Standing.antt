@@ -3,9 +3,9 @@ use Rattle.std.specs.Prelude.{◌≡◌, ℕ, ◌*◌, ◌≤◌, ◌<◌, List,
 use Rattle.lvdc_port.specs.Device as device
 use Rattle.lvdc_port.specs.Devices.{has_port, count_at}
 use Rattle.lvdc_plain.specs.Lists.{AreFit}
-use Rattle.lvdc_laws_voted.specs.Ends.{IsOpening}
 use Rattle.lvdc_text.specs.Lines.{part_of}
 use Rattle.lvdc_text.specs.declared.cutting.Line.{Line}
+use Rattle.lvdc_plain.specs.Run.{IsOpening}
 use Rattle.lvdc_model.specs.declared.outcome.Outcome.{Outcome}
 use Rattle.lvdc_model.specs.declared.outcome.Outcome.TheVariants.{Device}
 use Rattle.lvdc_model.specs.Trial.{Trial}

@@ -2,8 +2,8 @@
 
 ghost use Rattle.std.specs.Prelude.{◌≡◌, ℕ, ◌+◌, ◌-◌, ◌*◌, ◌≤◌, min, nat_le, List, map};
 ghost use Rattle.lvdc_port.specs.Device as device;
+ghost use Rattle.lvdc_plain.specs.Run.{IsOpening};
 ghost use Rattle.lvdc_model.specs.Trial.{Trial};
-ghost use Rattle.lvdc_laws_voted.specs.Ends.{IsOpening};
 ghost use Rattle.lvdc_machine.specs.Stands.{Stands, state_by};
 ghost use Rattle.lvdc_debug.specs.Session.{Subject, at_start, place_of, rests, left, after_command, does_all};
 ghost use Rattle.lvdc_debug.specs.Standing.{IsReady, Moves, IsSubject};

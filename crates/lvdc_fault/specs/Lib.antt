@@ -3,3 +3,4 @@ pub mod Events
 pub mod Ledger
 pub mod Recoverable
 pub mod Script
+pub mod Hurts

@@ -17,7 +17,7 @@ use Rattle.lvdc_vote.proofs.BitLaws.{bit_at-flipped, bit_at-forced}
 use Rattle.lvdc_fault.specs.Script.{makes_wrong, is_wrong, deafens, is_deaf}
 use Rattle.lvdc_fault.specs.declared.event.Event.{Event}
 use Rattle.lvdc_fault.specs.declared.event.Event.TheVariants as ev
-use Rattle.lvdc_model.specs.Voted.{hurts_by, hurts_on}
+use Rattle.lvdc_fault.specs.Hurts.{hurts_by, hurts_on}
 use Rattle.lvdc_forces.specs.Shares.{harm_in, share_with, share_on, share_next, patch_join, patches_join, share_join}
 use Rattle.lvdc_forces.specs.declared.shares.Share.{Share}
 

@@ -14,7 +14,7 @@ use Rattle.lvdc_fault.specs.Script.{is_within, makes_wrong, is_wrong, deafens, i
 use Rattle.lvdc_fault.specs.declared.event.Event.{Event}
 use Rattle.lvdc_fault.specs.declared.event.Event.TheVariants.{Flip, Force, Lag, Deaf, Damage, Stick, Dead}
 use Rattle.lvdc_fault.proofs.Lowest.{find_same}
-use Rattle.lvdc_model.specs.Voted.{hurts_by, hurts_on}
+use Rattle.lvdc_fault.specs.Hurts.{hurts_by, hurts_on}
 use Rattle.lvdc_forces.specs.Untouched.{IsUntouched}
 use Rattle.lvdc_forces.specs.InForce.{faults_at, mark_at, no_faults}
 use Rattle.lvdc_forces.specs.Parts.{StaysUntil, faults_in, no_part, part_at, events_of, IsRight, total_of, share_then, IsKnown}

@@ -6,7 +6,7 @@ use Rattle.lvdc_vote.specs.Harms.{no_harm, harm_of}
 use Rattle.lvdc_vote.specs.declared.harm.Harm.{Harm}
 use Rattle.lvdc_fault.specs.Script.{is_deaf}
 use Rattle.lvdc_fault.specs.declared.event.Event.{Event}
-use Rattle.lvdc_model.specs.Voted.{hurts_on}
+use Rattle.lvdc_fault.specs.Hurts.{hurts_on}
 use Rattle.lvdc_forces.specs.Untouched.{IsUntouched}
 use Rattle.lvdc_forces.specs.declared.in_force.Faults.{Faults}
 use Rattle.lvdc_forces.specs.declared.in_force.InForce.{InForce}

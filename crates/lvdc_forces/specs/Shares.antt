@@ -5,7 +5,7 @@ use Rattle.lvdc_vote.specs.declared.harm.Harm.{Harm}
 use Rattle.lvdc_vote.specs.declared.harm.Patch.{Patch}
 use Rattle.lvdc_fault.specs.Script.{makes_wrong, is_wrong, deafens, is_deaf}
 use Rattle.lvdc_fault.specs.declared.event.Event.{Event}
-use Rattle.lvdc_model.specs.Voted.{hurts_by, hurts_on}
+use Rattle.lvdc_fault.specs.Hurts.{hurts_by, hurts_on}
 use Rattle.lvdc_forces.specs.declared.shares.Share.{Share}
 
 -- nothing is done to a copy

@@ -1,5 +1,5 @@
 ghost use Rattle.std.specs.Prelude.{◌≡◌, ◌≤◌, IfSome, string_bytes};
-ghost use Rattle.lvdc_cli.specs.Words.{texts};
+ghost use Rattle.lvdc_text.specs.Words.{texts};
 ghost use Rattle.lvdc_inquiries.specs.Words.{first_of, count_of, traced, of_one, of_three, of_four, inquiry_of, most_bytes, IsInquiry};
 
 use lvdc_machine::Mode;

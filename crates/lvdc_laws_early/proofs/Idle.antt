@@ -18,7 +18,7 @@ use Rattle.lvdc_fault.proofs.Actives.{idle_makes_none_wrong, idle_kills, any_act
 use Rattle.lvdc_model.specs.Twins.{Twins, with_place}
 use Rattle.lvdc_model.specs.Voted.{next_copy, next_copies}
 use Rattle.lvdc_model.specs.Exchanges.{damages_by, damages}
-use Rattle.lvdc_laws_voted.proofs.Copies.{right_copy}
+use Rattle.lvdc_model.proofs.Latching.{right_copy}
 use Rattle.lvdc_laws_early.specs.Early.{BeginsFrom, AllBeginFrom}
 
 -- ---- before the first event

@@ -4,8 +4,8 @@
 #![tactic(auto)]
 
 ghost use Rattle.std.specs.Prelude.{◌≡◌, ℕ, true};
+ghost use Rattle.lvdc_plain.specs.Run.{IsOpening};
 ghost use Rattle.lvdc_model.specs.Trial.{Trial};
-ghost use Rattle.lvdc_laws_voted.specs.Ends.{IsOpening};
 ghost use Rattle.lvdc_masks.specs.Form.{masks};
 ghost use Rattle.lvdc_laws_masking.specs.Kinds.{InOneCopyEach, OneMemoryDead, OneBitEach, AllThree};
 ghost use Rattle.lvdc_laws_repair.specs.Withstood.{Masked, Withstood};

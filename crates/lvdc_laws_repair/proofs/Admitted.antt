@@ -8,7 +8,7 @@ use Rattle.std.proofs.lemmas.Bool.{true≢false, or_cases, not-true, and_parts, 
 use Rattle.lvdc_map.specs.Address.{Spot}
 use Rattle.lvdc_map.specs.Banks.{is_simplex, holds, HasBank}
 use Rattle.lvdc_map.specs.Memory.{word_at}
-use Rattle.lvdc_plain.specs.Run.{run}
+use Rattle.lvdc_plain.specs.Run.{run, IsOpening}
 use Rattle.lvdc_fault.specs.Script.{wrong_module}
 use Rattle.lvdc_fault.specs.Damage.{is_dead}
 use Rattle.lvdc_fault.specs.declared.event.Event.{Event}
@@ -17,7 +17,7 @@ use Rattle.lvdc_laws_phases.specs.Standing.{Standing}
 use Rattle.lvdc_model.specs.Trial.{Trial, plain_in, read_at}
 use Rattle.lvdc_model.specs.Judging.{judged, judged_logic, judged_memory, is_begun, is_recoverable, is_recoverable_after, first_bad_below}
 use Rattle.lvdc_model.specs.Runs.{guarded}
-use Rattle.lvdc_laws_voted.specs.Ends.{IsOpening, Comes, Good, Bad}
+use Rattle.lvdc_laws_voted.specs.Ends.{Comes, Good, Bad}
 use Rattle.lvdc_laws_voted.specs.Laws.{PortLaw, DeviceWords, BankLaw}
 use Rattle.lvdc_laws_voted.specs.Relation.{Goes, Halts}
 use Rattle.lvdc_masks.specs.Form.{lines_in, one_wrong_before, is_duplex, is_seen, is_one_sound}

@@ -18,7 +18,7 @@ use Rattle.lvdc_modules.specs.declared.wanted.Wanted.{Wanted}
 use Rattle.lvdc_modules.specs.declared.wanted.Wanted.TheVariants as wanted
 use Rattle.lvdc_plain.specs.Accesses.{fetched_by, operand_by}
 use Rattle.lvdc_plain.specs.Plain.{PlainState, World}
-use Rattle.lvdc_plain.specs.Run.{run}
+use Rattle.lvdc_plain.specs.Run.{run, IsOpening}
 use Rattle.lvdc_plain.specs.declared.records.Stop.{Stop}
 use Rattle.lvdc_fault.specs.Recoverable.{recovers_by}
 use Rattle.lvdc_fault.specs.declared.verdict.Verdict.{Verdict}
@@ -33,7 +33,7 @@ use Rattle.lvdc_model.specs.Voted.{Voted}
 use Rattle.lvdc_model.specs.Exchanges.{begin_step, repair_by, reading, exchanges, voted_step}
 use Rattle.lvdc_model.specs.Judging.{judged, is_recoverable, first_bad_below}
 use Rattle.lvdc_model.specs.Runs.{read_of_wish, judged_by, guarded_by, guarded}
-use Rattle.lvdc_laws_voted.specs.Ends.{IsOpening, IsBegun, Comes, Good, Bad}
+use Rattle.lvdc_laws_voted.specs.Ends.{IsBegun, Comes, Good, Bad}
 use Rattle.lvdc_laws_voted.specs.Laws.{PortLaw, DeviceWords, BankLaw, StopLaw}
 use Rattle.lvdc_laws_voted.specs.Relation.{Halted, Goes, Halts}
 use Rattle.lvdc_laws_voted.proofs.PlainTimes.{made-reads_none}

@@ -4,8 +4,8 @@
 
 ghost use Rattle.std.specs.Prelude.{◌≡◌, ℕ, ◌*◌, ◌≤◌, true, map};
 ghost use Rattle.std.specs.List.{list_all};
+ghost use Rattle.lvdc_plain.specs.Run.{IsOpening};
 ghost use Rattle.lvdc_model.specs.Trial.{Trial};
-ghost use Rattle.lvdc_laws_voted.specs.Ends.{IsOpening};
 ghost use Rattle.lvdc_laws_repair.specs.Repairs.{repairs};
 ghost use Rattle.lvdc_laws_repair.specs.Scrubs.{Scrubs};
 ghost use Rattle.lvdc_masks.specs.Form.{lines_in};

@@ -4,9 +4,9 @@
 
 ghost use Rattle.std.specs.Prelude.{◌≡◌, ℕ, ◌*◌, ◌<◌, true, false, List, Ok};
 ghost use Rattle.lvdc_port.specs.Device.{Device};
+ghost use Rattle.lvdc_plain.specs.Run.{IsOpening};
 ghost use Rattle.lvdc_model.specs.Trial.{Trial};
 ghost use Rattle.lvdc_model.specs.Runs.{guarded};
-ghost use Rattle.lvdc_laws_voted.specs.Ends.{IsOpening};
 ghost use Rattle.lvdc_masks.specs.Form.{masks};
 ghost use Rattle.lvdc_laws_repair.specs.Repairs.{repairs};
 ghost use Rattle.lvdc_laws_repair.specs.Withstood.{Masked};

@@ -10,7 +10,7 @@ use Rattle.lvdc_map.specs.Memory as memory
 use Rattle.lvdc_map.specs.declared.placed.Placed.{Placed}
 use Rattle.lvdc_modules.specs.Rows.{start_latches}
 use Rattle.lvdc_plain.specs.Plain.{PlainState, World, started}
-use Rattle.lvdc_plain.specs.Run.{run}
+use Rattle.lvdc_plain.specs.Run.{run, IsOpening}
 use Rattle.lvdc_plain.specs.declared.records.Stop.{Stop}
 use Rattle.lvdc_fault.specs.declared.verdict.Verdict.{Verdict}
 use Rattle.lvdc_fault.specs.declared.verdict.Verdict.TheVariants as verdicts
@@ -25,7 +25,7 @@ use Rattle.lvdc_model.specs.Runs.{judged_by, guarded_by, guarded, own_verdict, a
 use Rattle.lvdc_laws_voted.specs.Copies.{wrong_before}
 use Rattle.lvdc_laws_voted.specs.Laws.{StepLaws}
 use Rattle.lvdc_laws_voted.specs.Relation.{devices_by, Matches, ShowsPlain, Follows, Goes, Halts}
-use Rattle.lvdc_laws_voted.specs.Ends.{IsOpening, Opens, ShowsTimes, stop_end, IsBegun, Comes, Good, Bad}
+use Rattle.lvdc_laws_voted.specs.Ends.{Opens, ShowsTimes, stop_end, IsBegun, Comes, Good, Bad}
 use Rattle.lvdc_laws_voted.proofs.PlainRuns.{times-count, stays-world}
 use Rattle.lvdc_laws_voted.proofs.Run.{found-judged, begun-at, kept-here, follows, comes, ends-inadmissible}
 

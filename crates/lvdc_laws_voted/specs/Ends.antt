@@ -1,12 +1,11 @@
 -- What whole runs of the guarded machine come to.
-use Rattle.std.specs.Prelude.{◌≡◌, ◌≢◌, ℕ, suc, length, ◌+◌, ◌-◌, ◌*◌, ◌/◌, ◌%◌, ◌<◌, ◌≤◌, ◌^◌, List, All}
+use Rattle.std.specs.Prelude.{◌≡◌, ◌≢◌, ℕ, suc, length, ◌+◌, ◌-◌, ◌*◌, ◌/◌, ◌%◌, ◌<◌, ◌≤◌, List}
 use Rattle.std.specs.declared.option.Option.{Option}
 use Rattle.std.specs.declared.option.Option.TheVariants.{None, Some}
-use Rattle.lvdc_map.specs.Hop.{IsHopConstant}
 use Rattle.lvdc_port.specs.Devices.{HoldWords}
 use Rattle.lvdc_modules.specs.Rows.{start_latches}
 use Rattle.lvdc_plain.specs.Plain.{PlainState}
-use Rattle.lvdc_plain.specs.Run.{Opening, run}
+use Rattle.lvdc_plain.specs.Run.{run}
 use Rattle.lvdc_plain.specs.declared.records.Stop.{Stop}
 use Rattle.lvdc_fault.specs.declared.verdict.Verdict.TheVariants.{Admissible}
 use Rattle.lvdc_laws_phases.specs.Exchanges.{exchange_in}
@@ -20,12 +19,6 @@ use Rattle.lvdc_model.specs.Judging.{first_bad_below}
 use Rattle.lvdc_model.specs.Runs.{guarded, own_verdict}
 use Rattle.lvdc_laws_voted.specs.Cells.{StoresDamaged}
 use Rattle.lvdc_laws_voted.specs.Relation.{Follows}
-
--- an opening of words: the image's and the devices', and a HOP constant as start
-pub record IsOpening (o : Opening) : Type 0 where
-  pub image : All (λ placed. placed.word < 2 ^ 26) o.image
-  pub start : IsHopConstant o.start
-  pub devices : HoldWords o.devices
 
 -- the states at the start stand for the start of the plain run, and the devices hold words
 pub record Opens (Stands : ℕ → List (List ℕ) → PlainState → Type 0) (o : Trial) : Type 0 where

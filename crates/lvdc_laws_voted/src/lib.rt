@@ -6,7 +6,7 @@
 ghost use Rattle.std.specs.Prelude.{◌≡◌, ◌≢◌, ℕ, suc, ◌*◌, None, Some, []};
 ghost use Rattle.lvdc_map.specs.Address.{Spot};
 ghost use Rattle.lvdc_map.specs.Banks.{HasBank};
-ghost use Rattle.lvdc_plain.specs.Run.{Opening, run};
+ghost use Rattle.lvdc_plain.specs.Run.{Opening, run, IsOpening};
 ghost use Rattle.lvdc_fault.specs.declared.verdict.Verdict.{Verdict};
 ghost use Rattle.lvdc_fault.specs.declared.verdict.Verdict.TheVariants.{Admissible};
 ghost use Rattle.lvdc_laws_phases.specs.Standing.{Standing};
@@ -19,7 +19,7 @@ ghost use Rattle.lvdc_model.specs.Exchanges.{begin_step, with_end};
 ghost use Rattle.lvdc_model.specs.Runs.{guarded, alone};
 ghost use Rattle.lvdc_model.specs.Known.{last_begun, is_known};
 ghost use Rattle.lvdc_laws_voted.specs.Laws.{VotesLaw, CopiesLaw, DamageLaw, ReadLaw, HoldersLaw, StoreLaw, IdleLaw, PortLaw, StepLaws};
-ghost use Rattle.lvdc_laws_voted.specs.Ends.{IsOpening, Opens, ShowsTimes, stop_end, IsBegun, Comes};
+ghost use Rattle.lvdc_laws_voted.specs.Ends.{Opens, ShowsTimes, stop_end, IsBegun, Comes};
 
 /// The headline's law: as long as no step was inadmissible, the guarded machine of 21 copies shows after whole times the
 /// registers, the words, the log and the devices of the plain run, a stop's own time included.

@@ -9,8 +9,8 @@ use Rattle.lvdc_vote.specs.Numbers.{latches_of}
 use Rattle.lvdc_fault.specs.Script.{acts_on, is_within}
 use Rattle.lvdc_fault.specs.declared.event.Event.{Event}
 use Rattle.lvdc_fault.specs.declared.event.Event.TheVariants.{Flip, Force, Lag, Deaf, Damage, Stick, Dead}
-use Rattle.lvdc_model.specs.Voted.{hurts_by, hurts_on}
 use Rattle.lvdc_fault.specs.Events.{IsEvent}
+use Rattle.lvdc_fault.specs.Hurts.{hurts_by, hurts_on}
 
 -- a hurt under a condition
 fits_one : (b : Bool) (n : ℕ) (hurt : Hurt) → (b ≡ true → FitsLatches n hurt) → All (FitsLatches n) (if b then hurt ∷ [] else [])

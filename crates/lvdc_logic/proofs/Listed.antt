@@ -4,7 +4,7 @@ use Rattle.std.specs.Prelude.{slice_index, slice_index_or}
 use Rattle.std.proofs.lemmas.List.{append-nil}
 use Rattle.std.proofs.lemmas.List.Elements.{All-nil, All-append}
 use Rattle.lvdc_vote.specs.Copies.{Copies, settled, IsSized, IsFresh}
-use Rattle.lvdc_logic.specs.Listing.{items_at, three_at, copies_from, counts_from}
+use Rattle.lvdc_model.specs.Listing.{items_at, three_at, copies_from, counts_from}
 
 -- ---- items
 

@@ -1,7 +1,8 @@
 -- Worked latches and counts of the logic.
 use Rattle.std.proofs.Common.{◌≡◌, ℕ, List, [], ◌∷◌, refl}
-use Rattle.lvdc_logic.specs.Listing.{copies_of, counts_of}
-use Rattle.lvdc_logic.specs.Logic.{latch_of, count_of}
+use Rattle.lvdc_model.specs.Voted.{count_of}
+use Rattle.lvdc_model.specs.Listing.{copies_of, counts_of}
+use Rattle.lvdc_logic.specs.Logic.{latch_of}
 
 -- each latch and each count holds its own place in its list
 abbrev places : List ℕ

@@ -9,7 +9,8 @@ use Rattle.lvdc_vote.specs.Numbers.{latches_of}
 use Rattle.lvdc_modules.specs.declared.bus.Bus.{Bus}
 use Rattle.lvdc_fault.specs.Script.{is_deaf}
 use Rattle.lvdc_fault.specs.declared.event.Event.{Event}
-use Rattle.lvdc_model.specs.Voted.{inputs, hurts_on}
+use Rattle.lvdc_fault.specs.Hurts.{hurts_on}
+use Rattle.lvdc_model.specs.Voted.{inputs}
 use Rattle.lvdc_fault.specs.Events.{IsEvent}
 use Rattle.lvdc_forces.specs.InForce.{faults_at, IsInForce}
 use Rattle.lvdc_logic.specs.Harmed.{latched_under}

@@ -1,6 +1,5 @@
 pub mod Counts
 pub mod Latching
-pub mod Listing
 pub mod Logic
 pub mod Seven
 pub mod Harmed

@@ -1,6 +1,7 @@
 -- The logic as it is seen: three copies of each of seven modules, and how often each copy differed from the vote.
 use Rattle.std.specs.Prelude.{ℕ, ◌-◌, ◌≤◌, Bool, List, [], slice_index, slice_index_or}
 use Rattle.lvdc_vote.specs.Copies.{Copies, settled, copy_of, vote_of, differs_of}
+use Rattle.lvdc_model.specs.Voted.{count_of}
 
 -- the copies of the seven modules in order, and of each copy how often it differed from the vote
 pub record LogicState : Type 0 where
@@ -22,10 +23,6 @@ vote_at copies number index = slice_index (vote_of (copies_at copies number)) in
 -- a copy of a module differs from the vote
 abbrev pub is_outvoted : List Copies → ℕ → ℕ → Bool
 is_outvoted copies number copy = differs_of (copies_at copies number) (copy - 1)
-
--- how often a copy differed, by the same numbers
-abbrev pub count_of : List (List ℕ) → ℕ → ℕ → ℕ
-count_of counts number copy = slice_index (slice_index_or counts (number - 1) []) (copy - 1)
 
 -- no copy differed more often than this
 abbrev pub DifferedAtMost : ℕ → List (List ℕ) → Type 0

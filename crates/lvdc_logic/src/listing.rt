@@ -2,9 +2,9 @@
 
 ghost use Rattle.std.specs.Prelude.{◌≡◌, ℕ, ◌+◌, ◌≤◌, ◌++◌, All, IfOk, length};
 ghost use Rattle.lvdc_modules.specs.States.{timer_latches, locator_latches, decoder_latches, selector_latches, accumulator_latches, multiplier_latches, exchange_latches};
+ghost use Rattle.lvdc_model.specs.Listing.{items_at, copies_of, counts_of};
 ghost use Rattle.lvdc_logic.specs.Counts.{counts_in};
 ghost use Rattle.lvdc_logic.specs.Latching.{copies_in, AllFresh, AllSized};
-ghost use Rattle.lvdc_logic.specs.Listing.{items_at, copies_of, counts_of};
 ghost use Rattle.lvdc_logic.specs.Logic.{DifferedAtMost};
 
 use crate::Logic;
@@ -15,7 +15,7 @@ use lvdc_modules::{
     LocatorState, Multiplier, MultiplierState, Selector, SelectorState, Timer, TimerState,
 };
 use lvdc_vote::Triple;
-use lvdc_word::{NoMemory, Word};
+use lvdc_word::{NoMemory, Seq, Word};
 use std::alloc::Global;
 
 impl Logic {
@@ -31,8 +31,21 @@ impl Logic {
         Logic::of_copies(triples_of(latches), counts_of(counts))
     }
 
+    /// The 45 latches, by module, copy and index, and in how many steps each copy differed from the vote, 21 counts by module and copy.
+    pub fn lists(&self, alloc: Global) -> Result<(Seq<Word>, Seq<u64>), NoMemory>
+        ensures latches { IfOk result (λ lists. length lists.0 ≡ 45) }
+        ensures copies { IfOk result (λ lists. copies_of lists.0 ≡ self.now.copies) }
+        ensures differed { IfOk result (λ lists. length lists.1 ≡ 21) }
+        ensures counts { IfOk result (λ lists. counts_of lists.1 ≡ self.now.counts) }
+        ensures most { (most : ℕ) → DifferedAtMost most self.now.counts → IfOk result (λ lists. All (λ count. count ≤ most) lists.1) }
+    {
+        let latches = self.latches(alloc)?;
+        let counts = self.counts(alloc)?;
+        Ok((Seq::from_vec(latches), Seq::from_vec(counts)))
+    }
+
     /// The 45 latches, by module, copy and index.
-    pub fn latches(&self, alloc: Global) -> Result<Vec<Word>, NoMemory>
+    fn latches(&self, alloc: Global) -> Result<Vec<Word>, NoMemory>
         ensures count { IfOk result (λ latches. length latches.items ≡ 45) }
         ensures copies { IfOk result (λ latches. copies_of latches.items ≡ self.now.copies) }
     {
@@ -44,7 +57,7 @@ impl Logic {
     }
 
     /// In how many steps each copy differed from the vote: 21 counts, by module and copy.
-    pub fn counts(&self, alloc: Global) -> Result<Vec<u64>, NoMemory>
+    fn counts(&self, alloc: Global) -> Result<Vec<u64>, NoMemory>
         ensures count { IfOk result (λ counts. length counts.items ≡ 21) }
         ensures counts { IfOk result (λ counts. counts_of counts.items ≡ self.now.counts) }
         ensures most { (most : ℕ) → DifferedAtMost most self.now.counts → IfOk result (λ counts. All (λ count. count ≤ most) counts.items) }

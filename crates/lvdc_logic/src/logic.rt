@@ -3,12 +3,12 @@ ghost use Rattle.lvdc_vote.specs.Copies.{vote_of};
 ghost use Rattle.lvdc_modules.specs.Rows.{rows, bus_of, start_latches};
 ghost use Rattle.lvdc_vote.specs.Numbers.{latches_of};
 ghost use Rattle.lvdc_fault.specs.declared.event.Event.{Event};
-ghost use Rattle.lvdc_model.specs.Voted.{next_copies, counted, thrice};
+ghost use Rattle.lvdc_model.specs.Voted.{next_copies, counted, thrice, count_of};
 ghost use Rattle.lvdc_fault.specs.Events.{IsEvent};
 ghost use Rattle.lvdc_logic.specs.Counts.{counts_in};
 ghost use Rattle.lvdc_forces.specs.InForce.{IsInForce};
 ghost use Rattle.lvdc_logic.specs.Latching.{alike, copies_in, AllFresh, AllSized};
-ghost use Rattle.lvdc_logic.specs.Logic.{latch_of, vote_at, is_outvoted, count_of, DifferedAtMost};
+ghost use Rattle.lvdc_logic.specs.Logic.{latch_of, vote_at, is_outvoted, DifferedAtMost};
 
 use crate::counts::Counts;
 use crate::triples::Triples;

@@ -5,7 +5,7 @@ use Rattle.std.proofs.lemmas.List.Elements.{All-tail}
 use Rattle.lvdc_model.specs.declared.repair.Repair.{Repair}
 use Rattle.lvdc_vote.specs.Copies.{Copies}
 use Rattle.lvdc_plain.specs.declared.records.Exchange.{Exchange}
-use Rattle.lvdc_logic.specs.Listing.{copies_of}
+use Rattle.lvdc_model.specs.Listing.{copies_of}
 use Rattle.lvdc_machine.specs.declared.mode.Mode.{Mode}
 use Rattle.lvdc_machine.specs.declared.mode.Mode.TheVariants.{Guarded, Through}
 use Rattle.lvdc_snapshot.specs.declared.snapshot.Snapshot.{Snapshot}

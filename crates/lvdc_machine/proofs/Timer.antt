@@ -12,7 +12,7 @@ use Rattle.lvdc_modules.specs.declared.bus.Bus.{Bus}
 use Rattle.lvdc_fault.specs.Script.{is_wrong, two_wrong}
 use Rattle.lvdc_fault.specs.declared.event.Event.{Event}
 use Rattle.lvdc_model.specs.Voted.{next_three, next_copies}
-use Rattle.lvdc_laws_voted.proofs.Copies.{two_by, right_copy, length-next_copy}
+use Rattle.lvdc_model.proofs.Latching.{two_by, right_copy, length-next_copy}
 use Rattle.lvdc_machine.specs.declared.mode.Mode.{Mode}
 use Rattle.lvdc_machine.specs.declared.mode.Mode.TheVariants.{Guarded, Through}
 use Rattle.lvdc_machine.specs.Room.{IsInTime}

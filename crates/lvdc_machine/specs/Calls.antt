@@ -5,7 +5,7 @@ use Rattle.lvdc_port.specs.Device as device
 use Rattle.lvdc_port.specs.Devices.{has_port}
 use Rattle.lvdc_plain.specs.Lists.{AreFit}
 use Rattle.lvdc_fault.specs.declared.verdict.Verdict.{Verdict}
-use Rattle.lvdc_laws_voted.specs.Ends.{IsOpening}
+use Rattle.lvdc_plain.specs.Run.{IsOpening}
 use Rattle.lvdc_model.specs.Trial.{Trial}
 use Rattle.lvdc_model.specs.Voted.{Voted}
 use Rattle.lvdc_model.specs.declared.outcome.Outcome.{Outcome}

@@ -11,7 +11,7 @@ use crate::Machine;
 use lvdc_fault::Script;
 use lvdc_model::Repair;
 use lvdc_plain::{Exchange, Unplug};
-use lvdc_snapshot::{Snapshot, logic_lists};
+use lvdc_snapshot::Snapshot;
 use lvdc_word::{NoMemory, Seq};
 use std::alloc::Global;
 
@@ -26,7 +26,7 @@ impl Machine {
         ensures steps { IfOk result (λ s. s.steps ≡ self.now.steps) }
         ensures addresses { IfOk result (λ s. All (λ placed. IsAddress placed.at) s.words) }
     {
-        let (latches, differed) = logic_lists(alloc, &self.logic)?;
+        let (latches, differed) = self.logic.lists(alloc)?;
         let (selected, cells, words) = self.memory.lists(alloc)?;
         let (log, repairs) = noted_lists(alloc, &self.log, &self.repairs)?;
         Ok(Snapshot {

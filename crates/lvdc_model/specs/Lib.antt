@@ -3,6 +3,7 @@ pub mod CellsBefore
 pub mod Judging
 pub mod Twins
 pub mod Voted
+pub mod Listing
 pub mod Exchanges
 pub mod Runs
 pub mod Known

@@ -1,5 +1,5 @@
 -- The voted machine: three copies of each of seven modules and their votes, and what each copy latches.
-use Rattle.std.specs.Prelude.{ℕ, ◌+◌, ◌-◌, Bool, true, false, if◌then◌else◌, List, [], ◌∷◌, ◌++◌, map, replicate, slice_index}
+use Rattle.std.specs.Prelude.{ℕ, ◌+◌, ◌-◌, Bool, true, false, List, [], ◌∷◌, map, replicate, slice_index, slice_index_or}
 use Rattle.std.specs.declared.option.Option.{Option}
 use Rattle.std.specs.declared.option.Option.TheVariants.{None}
 use Rattle.lvdc_word.specs.Word.{bit_of}
@@ -7,14 +7,12 @@ use Rattle.lvdc_map.specs.Memory as memory
 use Rattle.lvdc_port.specs.Device.{Device}
 use Rattle.lvdc_vote.specs.Copies.{Copies, settled, copy_of, vote_of, differs_of}
 use Rattle.lvdc_vote.specs.Latches.{latched_by}
-use Rattle.lvdc_vote.specs.declared.hurt.Hurt.{Hurt}
-use Rattle.lvdc_vote.specs.declared.hurt.Hurt.TheVariants as hurts
 use Rattle.lvdc_modules.specs.Rows.{bus_of, start_latches}
 use Rattle.lvdc_modules.specs.declared.bus.Bus.{Bus}
 use Rattle.lvdc_plain.specs.declared.records.Exchange.{Exchange}
-use Rattle.lvdc_fault.specs.Script.{acts_on, is_deaf}
+use Rattle.lvdc_fault.specs.Hurts.{hurts_on}
+use Rattle.lvdc_fault.specs.Script.{is_deaf}
 use Rattle.lvdc_fault.specs.declared.event.Event.{Event}
-use Rattle.lvdc_fault.specs.declared.event.Event.TheVariants.{Flip, Force, Lag}
 use Rattle.lvdc_model.specs.declared.outcome.Outcome.{Outcome}
 use Rattle.lvdc_model.specs.declared.repair.Repair.{Repair}
 use Rattle.lvdc_model.specs.Trial.{Trial}
@@ -50,18 +48,6 @@ inputs true copies c voted = bus_of (map (λ t. copy_of t (c - 1)) copies) voted
 
 -- ---- what a copy latches
 
--- what an event does to a copy as it latches
-abbrev pub hurts_by : ℕ → ℕ → ℕ → Event → List Hurt
-hurts_by step m c (Flip number copy first last index mask) = if acts_on number copy first last step m c then hurts.Flip index mask ∷ [] else []
-hurts_by step m c (Force number copy first last index mask value) = if acts_on number copy first last step m c then hurts.Force index mask value ∷ [] else []
-hurts_by step m c (Lag number copy first last) = if acts_on number copy first last step m c then hurts.Lag ∷ [] else []
-hurts_by step m c _ = []
-
--- what a script does to a copy in a step, in its order
-abbrev pub hurts_on : ℕ → ℕ → ℕ → List Event → List Hurt
-hurts_on step m c [] = []
-hurts_on step m c (e ∷ es) = hurts_by step m c e ++ hurts_on step m c es
-
 -- what copy c of module m latches: its row over what it reads, changed by what the script does to it
 abbrev pub next_copy : List Event → ℕ → ℕ → ℕ → (Bus → List ℕ) → List ℕ → List Copies → Bus → List ℕ
 next_copy script step m c row old copies voted =
@@ -94,6 +80,10 @@ abbrev pub counted : List Copies → List (List ℕ) → List (List ℕ)
 counted [] counts = []
 counted (t ∷ ts) [] = []
 counted (t ∷ ts) (three ∷ counts) = counted_three t three ∷ counted ts counts
+
+-- how often a copy differed, by the number of its module and its own, both from 1
+abbrev pub count_of : List (List ℕ) → ℕ → ℕ → ℕ
+count_of counts number copy = slice_index (slice_index_or counts (number - 1) []) (copy - 1)
 
 -- ---- the start
 

@@ -1,12 +1,12 @@
 -- The plain run: instruction times one after another, from an opening.
-use Rattle.std.specs.Prelude.{ℕ, zero, suc, ◌==◌, if◌then◌else◌, List, [], ◌∷◌}
+use Rattle.std.specs.Prelude.{ℕ, zero, suc, ◌==◌, ◌<◌, ◌^◌, if◌then◌else◌, List, [], ◌∷◌, All}
 use Rattle.std.specs.declared.option.Option.{Option}
 use Rattle.std.specs.declared.option.Option.TheVariants.{None, Some}
-use Rattle.lvdc_map.specs.Hop.{HopConstant}
+use Rattle.lvdc_map.specs.Hop.{HopConstant, IsHopConstant}
 use Rattle.lvdc_map.specs.Memory as memory
 use Rattle.lvdc_map.specs.declared.placed.Placed.{Placed}
 use Rattle.lvdc_port.specs.Device.{Device}
-use Rattle.lvdc_port.specs.Devices.{without}
+use Rattle.lvdc_port.specs.Devices.{without, HoldWords}
 use Rattle.lvdc_plain.specs.declared.records.Stop.{Stop}
 use Rattle.lvdc_plain.specs.declared.records.Unplug.{Unplug}
 use Rattle.lvdc_plain.specs.Plain.{World, started}
@@ -20,6 +20,12 @@ pub record Opening : Type 0 where
   pub start : HopConstant
   pub unplugs : List Unplug
   pub devices : List Device
+
+-- an opening of words: the image's and the devices', and a HOP constant as start
+pub record IsOpening (o : Opening) : Type 0 where
+  pub image : All (λ placed. placed.word < 2 ^ 26) o.image
+  pub start : IsHopConstant o.start
+  pub devices : HoldWords o.devices
 
 -- the devices that are left when a time begins: each line of this time takes its device away
 abbrev pub left_at : {B : Type 0} → (B → Device) → List Unplug → ℕ → List B → List B

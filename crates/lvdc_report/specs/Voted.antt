@@ -5,9 +5,8 @@ use Rattle.lvdc_plain.specs.declared.records.Exchange.{Exchange}
 use Rattle.lvdc_plain.specs.declared.records.Visible.{Visible}
 use Rattle.lvdc_model.specs.Known.{is_known}
 use Rattle.lvdc_model.specs.Trial.{Trial}
-use Rattle.lvdc_model.specs.Voted.{Voted}
+use Rattle.lvdc_model.specs.Voted.{Voted, count_of}
 use Rattle.lvdc_model.specs.declared.repair.Repair.{Repair}
-use Rattle.lvdc_logic.specs.Logic.{count_of}
 use Rattle.lvdc_machine.specs.View.{registers_on, bus_of_votes, answer_of_end}
 use Rattle.lvdc_machine.specs.declared.mode.Mode.{Mode}
 use Rattle.lvdc_machine.specs.declared.mode.Mode.TheVariants.{Guarded, Through}

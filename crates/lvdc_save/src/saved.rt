@@ -1,8 +1,8 @@
 use lvdc_fault::Script;
-use lvdc_machine::Snapshot;
 use lvdc_orders::Orders;
 use lvdc_plain::Unplug;
 use lvdc_port::Supply;
+use lvdc_snapshot::Snapshot;
 use lvdc_word::Seq;
 
 /// A run that was stopped between two instruction times: its state, and what it needs to go on.

@@ -19,7 +19,6 @@ use crate::lines::{
     put_steps, put_unplug,
 };
 use lvdc_fault::Script;
-use lvdc_machine::Snapshot;
 use lvdc_map::{Banks, Placed};
 use lvdc_modules::latches;
 use lvdc_orders::{COPIES, Orders};
@@ -27,6 +26,7 @@ use lvdc_plain::Unplug;
 use lvdc_port::Supply;
 use lvdc_report::{put_log, put_repairs};
 use lvdc_save::Saved;
+use lvdc_snapshot::Snapshot;
 use lvdc_twin::Held;
 use lvdc_word::NoMemory;
 use std::alloc::Global;

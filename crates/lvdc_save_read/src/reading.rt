@@ -13,7 +13,6 @@ ghost use Rattle.lvdc_save.specs.Reading.{nothing_said, section_of, place_of, ho
 
 use crate::entries::entry_of;
 use lvdc_fault::{MOST_EVENTS, Script};
-use lvdc_machine::Snapshot;
 use lvdc_map::{Banks, Placed};
 use lvdc_model::Repair;
 use lvdc_modules::latches;
@@ -21,6 +20,7 @@ use lvdc_orders::{COPIES, MOST_ORDERS, Order, Orders};
 use lvdc_plain::{Exchange, Unplug};
 use lvdc_port::{Kind, PortDevice, Supply, kind_at};
 use lvdc_save::{CopyState, Entry, Mark, SaveFault, Saved, Section};
+use lvdc_snapshot::Snapshot;
 use lvdc_twin::Held;
 use lvdc_vote::majority;
 use lvdc_word::{Cell, NoMemory, Seq, Word};

@@ -3,9 +3,7 @@ use Rattle.std.proofs.Common.{◌≡◌, ℕ, ◌<◌, ◌≤◌, true, false, L
 use Rattle.std.proofs.lemmas.List.{append-nil}
 use Rattle.lvdc_text.specs.Causes.{Rose}
 use Rattle.lvdc_text.specs.Streams.{SourceState}
-use Rattle.lvdc_cli.specs.declared.command.Command.{Command}
-use Rattle.lvdc_cli.specs.Words.{command_of, reads_for, limit_of}
-use Rattle.lvdc_cli.specs.Commands.{input_of}
+use Rattle.lvdc_console.specs.Commands.{Command, command_of, reads_for, limit_of, input_of}
 use Rattle.lvdc_frames.specs.Frames.{frame_line_of, cut_line, longest_line, frame_at}
 use Rattle.lvdc_frames.specs.Reading.{IsOpen}
 use Rattle.lvdc_frames.proofs.Uses.{uses_more}

@@ -4,16 +4,11 @@ use Rattle.std.specs.declared.option.Option.{Option}
 use Rattle.std.specs.declared.option.Option.TheVariants.{None, Some}
 use Rattle.std.specs.List.{flat_map}
 use Rattle.lvdc_reply.specs.Answer.{Answer}
-use Rattle.lvdc_cli.specs.declared.command.Command.{Command}
-use Rattle.lvdc_cli.specs.Words.{command_of, limit_of}
-use Rattle.lvdc_cli.specs.Texts.{read_fault_text, too_long_text}
-use Rattle.lvdc_cli.specs.Commands.{answer, input_of}
+use Rattle.lvdc_console.specs.Commands.{Command, command_of, limit_of, read_fault_text, too_long_text, answer, input_of}
 use Rattle.lvdc_console.specs.Rack.{rack}
 use Rattle.lvdc_console.specs.Over.{IsReplied}
 use Rattle.lvdc_console.specs.Inquired.{IsInquired}
-use Rattle.lvdc_inquiries.specs.Replies.{inquiry_answer}
-use Rattle.lvdc_inquiries.specs.Words.{inquiry_of, most_bytes}
-use Rattle.lvdc_inquiries.specs.declared.inquiry.Inquiry.{Inquiry}
+use Rattle.lvdc_console.specs.Inquiries.{inquiry_answer, inquiry_of, most_bytes, Inquiry}
 use Rattle.lvdc_frames.specs.Frames.{Request, Frames, frames_of}
 
 -- ---- a reply

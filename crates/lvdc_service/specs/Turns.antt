@@ -4,7 +4,7 @@ use Rattle.std.specs.declared.option.Option.{Option}
 use Rattle.std.specs.declared.option.Option.TheVariants.{None, Some}
 use Rattle.std.specs.Io.KnownBytes.{Appends}
 use Rattle.lvdc_text.specs.Causes.{Rose}
-use Rattle.lvdc_cli.specs.Texts.{too_long_text}
+use Rattle.lvdc_console.specs.Commands.{too_long_text}
 use Rattle.lvdc_text.specs.Streams.{SourceState, SinkState}
 use Rattle.lvdc_frames.specs.Frames.{Request, frame_at}
 use Rattle.lvdc_frames.specs.Reading.{Uses, to_come, IsShort}

@@ -1,6 +1,6 @@
 ghost use Rattle.std.specs.Prelude.{◌≡◌, length, None};
 ghost use Rattle.lvdc_text.specs.Room.{HasRoom};
-ghost use Rattle.lvdc_cli.specs.Top.{IsTold};
+ghost use Rattle.lvdc_console.specs.Commands.{IsTold};
 ghost use Rattle.lvdc_service.specs.Service.{IsServiceEnd};
 ghost use Rattle.lvdc_service.specs.Served.{reply_with, usage_text};
 ghost use Rattle.lvdc_service.specs.Turns.{stream, IsFinished, IsTurn};

@@ -10,7 +10,7 @@ use Rattle.lvdc_vote.specs.Copies.{vote_of}
 use Rattle.lvdc_modules.specs.Rows.{bus_of}
 use Rattle.lvdc_modules.specs.declared.bus.Bus.{Bus}
 use Rattle.lvdc_model.specs.Voted.{Voted}
-use Rattle.lvdc_logic.specs.Listing.{copies_of, counts_of}
+use Rattle.lvdc_model.specs.Listing.{copies_of, counts_of}
 use Rattle.lvdc_memory.specs.Holds.{StoreCells, AreIntended}
 use Rattle.lvdc_snapshot.specs.declared.snapshot.Snapshot.{Snapshot}
 use Rattle.lvdc_snapshot.specs.Notes.{IsLog, AreRepairs}

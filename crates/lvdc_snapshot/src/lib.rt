@@ -4,5 +4,5 @@
 mod lists;
 mod snapshot;
 
-pub use lists::{logic_lists, room_for};
+pub use lists::room_for;
 pub use snapshot::Snapshot;

@@ -1,27 +1,11 @@
 //! The lists of a snapshot.
 
-ghost use Rattle.std.specs.Prelude.{◌≡◌, ℕ, ◌+◌, ◌≤◌, [], All, length, IfOk, vec_len, vec_capacity};
-ghost use Rattle.lvdc_logic.specs.Listing.{copies_of, counts_of};
-ghost use Rattle.lvdc_logic.specs.Logic.{DifferedAtMost};
+ghost use Rattle.std.specs.Prelude.{◌≡◌, ◌+◌, ◌≤◌, [], IfOk, vec_len, vec_capacity};
 
-use lvdc_logic::Logic;
 use lvdc_model::Repair;
 use lvdc_plain::Exchange;
-use lvdc_word::{NoMemory, Seq, Word};
+use lvdc_word::{NoMemory, Seq};
 use std::alloc::Global;
-
-/// The latches of the logic, 45 by module, copy and index, and in how many steps each copy differed from the vote, 21 by module and copy.
-pub fn logic_lists(alloc: Global, logic: &Logic) -> Result<(Seq<Word>, Seq<u64>), NoMemory>
-    ensures latches { IfOk result (λ lists. length lists.0 ≡ 45) }
-    ensures copies { IfOk result (λ lists. copies_of lists.0 ≡ logic.now.copies) }
-    ensures differed { IfOk result (λ lists. length lists.1 ≡ 21) }
-    ensures counts { IfOk result (λ lists. counts_of lists.1 ≡ logic.now.counts) }
-    ensures most { (most : ℕ) → DifferedAtMost most logic.now.counts → IfOk result (λ lists. All (λ count. count ≤ most) lists.1) }
-{
-    let latches = logic.latches(alloc)?;
-    let counts = logic.counts(alloc)?;
-    Ok((Seq::from_vec(latches), Seq::from_vec(counts)))
-}
 
 /// A list once more.
 pub(crate) fn once_more<T: Copy>(alloc: Global, list: &[T]) -> Result<Seq<T>, NoMemory>

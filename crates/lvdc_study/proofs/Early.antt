@@ -7,7 +7,7 @@ use Rattle.lvdc_port.specs.declared.requests.PortRequest.{PortRequest}
 use Rattle.lvdc_port.specs.declared.requests.PortRequest.TheVariants.{Read, Write}
 use Rattle.lvdc_plain.specs.Accesses.{Store}
 use Rattle.lvdc_plain.specs.Plain.{PlainState, World}
-use Rattle.lvdc_plain.specs.Run.{Opening, run}
+use Rattle.lvdc_plain.specs.Run.{Opening, run, IsOpening}
 use Rattle.lvdc_plain.specs.Stands as plain
 use Rattle.lvdc_plain.specs.View.{View}
 use Rattle.lvdc_plain.specs.declared.records.Stop.{Stop}
@@ -21,7 +21,7 @@ use Rattle.lvdc_model.specs.Runs.{guarded, through}
 use Rattle.lvdc_model.specs.Trial.{Trial, plain_in}
 use Rattle.lvdc_model.specs.Voted.{Voted, voted_start}
 use Rattle.lvdc_laws_early.specs.Early.{AllBeginFrom}
-use Rattle.lvdc_laws_voted.specs.Ends.{IsOpening, IsBegun, Comes, Good, Bad}
+use Rattle.lvdc_laws_voted.specs.Ends.{IsBegun, Comes, Good, Bad}
 use Rattle.lvdc_laws_voted.specs.Relation.{Goes, Halts}
 use Rattle.lvdc_machine.specs.Resumed.{FailedFrom}
 use Rattle.lvdc_machine.specs.Steps.{NamesPort}

@@ -3,7 +3,7 @@ use Rattle.std.proofs.Common.{◌≡◌, ℕ, ◌*◌, Bool, true, List, sym, �
 use Rattle.std.specs.declared.option.Option.{Option}
 use Rattle.std.specs.declared.option.Option.TheVariants.{None}
 use Rattle.lvdc_port.specs.Device.{Device}
-use Rattle.lvdc_plain.specs.Run.{Opening}
+use Rattle.lvdc_plain.specs.Run.{Opening, IsOpening}
 use Rattle.lvdc_plain.specs.View as plain_view
 use Rattle.lvdc_fault.specs.declared.named.Named.{Named}
 use Rattle.lvdc_fault.specs.declared.verdict.Verdict.{Verdict}
@@ -14,7 +14,6 @@ use Rattle.lvdc_model.specs.Judging.{first_bad}
 use Rattle.lvdc_model.specs.Runs.{through}
 use Rattle.lvdc_model.specs.Trial.{Trial}
 use Rattle.lvdc_laws_repair.specs.Withstood.{Masked}
-use Rattle.lvdc_laws_voted.specs.Ends.{IsOpening}
 use Rattle.lvdc_machine.specs.Shows.{Shows}
 use Rattle.lvdc_machine.specs.View.{View}
 use Rattle.lvdc_machine.specs.declared.mode.Mode.TheVariants.{Guarded, Through}

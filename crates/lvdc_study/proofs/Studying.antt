@@ -1,14 +1,13 @@
 -- Rows that are made one after the other, and what is so of each.
 use Rattle.std.proofs.Common.{◌≡◌, ℕ, true, List, [], ◌∷◌, ◌++◌, All, Contains, map, sym, ap, ◌∙◌, append_assoc, get_or}
 use Rattle.std.proofs.lemmas.List.Elements.{All-map}
-use Rattle.lvdc_plain.specs.Run.{Opening}
+use Rattle.lvdc_plain.specs.Run.{Opening, IsOpening}
 use Rattle.lvdc_fault.specs.declared.named.Named.{Named}
 use Rattle.lvdc_fault.specs.declared.verdict.Verdict.TheVariants.{Admissible}
 use Rattle.lvdc_masks.specs.Form.{masks}
 use Rattle.lvdc_model.specs.Judging.{first_bad}
 use Rattle.lvdc_model.specs.Trial.{Trial}
 use Rattle.lvdc_laws_repair.specs.Withstood.{Masked}
-use Rattle.lvdc_laws_voted.specs.Ends.{IsOpening}
 use Rattle.lvdc_campaign.specs.Campaign.{trial_under}
 use Rattle.lvdc_study.specs.Failures.{FailsUnder, FailsPlainly, plainly, under, FailsInRuns}
 use Rattle.lvdc_study.specs.Study.{row_of, rows_of, IsSame, KeepsLaws}

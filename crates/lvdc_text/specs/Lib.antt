@@ -4,5 +4,6 @@ pub mod Room
 pub mod Transfer
 pub mod Numbers
 pub mod Lines
+pub mod Words
 pub mod Joined
 pub mod Headings

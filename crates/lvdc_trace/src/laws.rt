@@ -1,6 +1,6 @@
 //! What a guarded trace says of the plain run, as a law over the definitions: a function that does nothing.
 
-ghost use Rattle.lvdc_laws_voted.specs.Ends.{IsOpening};
+ghost use Rattle.lvdc_plain.specs.Run.{IsOpening};
 ghost use Rattle.lvdc_model.specs.Trial.{Trial};
 ghost use Rattle.lvdc_trace.specs.Plainly.{TellsPlainly};
 

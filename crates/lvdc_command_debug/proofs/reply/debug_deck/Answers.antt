@@ -1,6 +1,6 @@
 use Rattle.std.proofs.Common.{◌≤◌, ◌∙◌, ℕ, List, length, map, refl, sym, ap, subst}
 use Rattle.lvdc_text.specs.declared.cutting.Line.{Line}
-use Rattle.lvdc_laws_voted.specs.Ends.{IsOpening}
+use Rattle.lvdc_plain.specs.Run.{IsOpening}
 use Rattle.lvdc_model.specs.Trial.{Trial}
 use Rattle.lvdc_command_run.specs.Accounts.{end_status}
 use Rattle.lvdc_command_run.specs.Trials.{trial_of}

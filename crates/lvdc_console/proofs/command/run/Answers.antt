@@ -1,5 +1,5 @@
+use Rattle.lvdc_text.specs.Words.{texts}
 use Rattle.lvdc_console.specs.Rack.{rack}
-use Rattle.lvdc_cli.specs.Words.{texts}
 use Rattle.lvdc_console.proofs.Over.{end_over, end_never, unhindered, headline_over, answer_over}
 use Rattle.lvdc_console.proofs.command.run.Goals as goal
 

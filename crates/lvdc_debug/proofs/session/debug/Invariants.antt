@@ -1,6 +1,6 @@
 use Rattle.std.proofs.Common.{◌≡◌, ◌+◌, ◌*◌, ◌≤◌, ◌++◌, map, take, fold, length, codes}
+use Rattle.lvdc_plain.specs.Run.{IsOpening}
 use Rattle.lvdc_model.specs.Trial.{Trial}
-use Rattle.lvdc_laws_voted.specs.Ends.{IsOpening}
 use Rattle.lvdc_machine.specs.Stands.{Stands}
 use Rattle.lvdc_debug.specs.Session.{Subject, at_start, after_line, entries}
 use Rattle.lvdc_debug.specs.Standing.{command_texts, AreApart, IsReady, Moves, IsSubject}

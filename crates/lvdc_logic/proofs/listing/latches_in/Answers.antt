@@ -1,7 +1,7 @@
 -- The latches of one module after another.
 use Rattle.std.proofs.Common.{◌≡◌, [], ◌∷◌, ◌++◌, refl, ap, ◌∙◌}
+use Rattle.lvdc_model.specs.Listing.{copies_of}
 use Rattle.lvdc_logic.specs.Latching.{copies_in}
-use Rattle.lvdc_logic.specs.Listing.{copies_of}
 use Rattle.lvdc_logic.proofs.Listed.{words_of, AreSized, NoneSized, MoreSized, copies-back, seven-appended}
 use Rattle.lvdc_logic.proofs.listing.latches_in.Goals as goal
 

@@ -1,5 +1,5 @@
 use Rattle.std.proofs.Common.{sym, ◌∙◌}
-use Rattle.lvdc_cli.specs.Words.{texts}
+use Rattle.lvdc_text.specs.Words.{texts}
 use Rattle.lvdc_service.specs.Served.{usage}
 use Rattle.lvdc_service.proofs.frame.answer_others.Goals as goal
 

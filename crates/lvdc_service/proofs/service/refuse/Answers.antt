@@ -1,5 +1,5 @@
 use Rattle.std.proofs.Common.{refl}
-use Rattle.lvdc_cli.specs.Top.{cut}
+use Rattle.lvdc_console.specs.Commands.{cut}
 use Rattle.lvdc_service.proofs.service.refuse.Goals as goal
 
 pub returns-in-Err : goal.returns-in-Err

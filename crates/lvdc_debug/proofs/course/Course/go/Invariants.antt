@@ -1,6 +1,6 @@
 use Rattle.std.proofs.Common.{◌≡◌, ℕ, ◌-◌, ◌*◌, ◌<◌, ◌≤◌, map, false}
+use Rattle.lvdc_plain.specs.Run.{IsOpening}
 use Rattle.lvdc_model.specs.Trial.{Trial}
-use Rattle.lvdc_laws_voted.specs.Ends.{IsOpening}
 use Rattle.lvdc_machine.specs.Stands.{Stands}
 use Rattle.lvdc_debug.specs.Session.{state_after, rests}
 use Rattle.lvdc_debug.specs.Standing.{IsReady, Moves, failure_of}

@@ -1,7 +1,7 @@
 -- The counts of one module after another.
 use Rattle.std.proofs.Common.{◌≡◌, ◌≤◌, [], All, refl, sym, ap, ◌∙◌, subst, rules}
+use Rattle.lvdc_model.specs.Listing.{counts_of}
 use Rattle.lvdc_logic.specs.Counts.{counts_in}
-use Rattle.lvdc_logic.specs.Listing.{counts_of}
 use Rattle.lvdc_logic.specs.Logic.{LogicState, DifferedAtMost}
 use Rattle.lvdc_logic.proofs.Differing.{at_most}
 use Rattle.lvdc_logic.proofs.Listed.{all_counts, AreThrees, NoneCounted, MoreCounted, counts-back, seven-appended, listed-most}

@@ -1,7 +1,7 @@
 use Rattle.std.proofs.Common.{◌<◌, ◌^◌, All, subst}
 use Rattle.lvdc_map.specs.declared.placed.Placed.{Placed}
 use Rattle.lvdc_port.specs.declared.requests.Supply.{Supply}
-use Rattle.lvdc_command_form.proofs.opening.opens_with_words.Goals as goal
+use Rattle.lvdc_command_run.proofs.opening.opens_with_words.Goals as goal
 
 pub returns : goal.returns
 returns c = λ devices hold.

@@ -3,7 +3,7 @@
 ghost use Rattle.std.specs.Prelude.{List};
 ghost use Rattle.lvdc_port.specs.Device.{Device};
 ghost use Rattle.lvdc_port.specs.Devices.{HoldWords};
-ghost use Rattle.lvdc_laws_voted.specs.Ends.{IsOpening};
+ghost use Rattle.lvdc_plain.specs.Run.{IsOpening};
 ghost use Rattle.lvdc_command_run.specs.Trials.{trial_of};
 
 use lvdc_deck::Deck;
