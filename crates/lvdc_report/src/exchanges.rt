@@ -1,14 +1,27 @@
-ghost use Rattle.std.specs.Prelude.{◌≡◌, ◌≤◌, ◌++◌, length, All, OnOk};
+ghost use Rattle.std.specs.Prelude.{◌≡◌, ◌≤◌, ◌<◌, ◌^◌, ◌++◌, length, All, OnOk, codes};
+ghost use Rattle.lvdc_text.specs.Numbers.{octal_text};
 ghost use Rattle.lvdc_report.specs.Report.{direction, exchange_line, IsInRange, log_text};
 
 use lvdc_plain::Exchange;
-use lvdc_text::{put_decimal, put_octal};
-use lvdc_word::NoMemory;
+use lvdc_text::{fill_octal, put_decimal};
+use lvdc_word::{NoMemory, Word};
 
 fn direction(reading: bool) -> &'static [u8]
     ensures { result.now ≡ direction reading }
 {
     if reading { b"IN " } else { b"OUT " }
+}
+
+/// What stands behind the time in the line of an exchange: the port and the word, each with a blank before it, and LF.
+#[inline(always)]
+fn behind_time(port: u8, word: Word) -> [u8; 15]
+    ensures value { result ≡ codes " " ++ octal_text 3 port ++ codes " " ++ octal_text 9 word ++ codes "\n" }
+    ensures range { word < 2 ^ 26 }
+{
+    let mut text = *b" 000 000000000\n";
+    fill_octal(&mut text[1..4], u64::from(port));
+    fill_octal(&mut text[5..14], u64::from(word.value()));
+    text
 }
 
 /// Adds the line of a port exchange.
@@ -19,11 +32,7 @@ pub fn put_exchange_line(out: &mut Vec<u8>, exchange: &Exchange) -> Result<(), N
 {
     out.extend_from_slice(direction(exchange.reading))?;
     put_decimal(out, exchange.time)?;
-    out.push(b' ')?;
-    put_octal(out, u64::from(exchange.port), 3)?;
-    out.push(b' ')?;
-    put_octal(out, u64::from(exchange.word.value()), 9)?;
-    out.push(b'\n')?;
+    out.extend_from_slice(&behind_time(exchange.port, exchange.word))?;
     Ok(())
 }
 

@@ -17,7 +17,7 @@ pub use cutting::{Line, few_tokens, is_blank, lines, part, tokens};
 pub use faulty::{FaultySink, FaultySource};
 pub use headings::{is_alone, is_word, place_of};
 pub use memory::{MemorySink, MemorySource};
-pub use numbers::{decimal, octal, octal_word, plain_decimal, put_decimal, put_octal};
+pub use numbers::{decimal, fill_octal, octal, octal_word, plain_decimal, put_decimal, put_octal};
 pub use standard::{StdSink, StdSource};
 pub use streams::{Failed, Sink, Source};
 pub use transfer::{ReadEnd, WriteFault, read_all, write_all};

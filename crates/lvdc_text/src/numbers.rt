@@ -1,4 +1,4 @@
-ghost use Rattle.std.specs.Prelude.{◌≡◌, ◌≤◌, ◌<◌, ◌^◌, ◌++◌, ℕ, Some, IfSome, OnOk, OnErr, decimal};
+ghost use Rattle.std.specs.Prelude.{◌≡◌, ◌≤◌, ◌<◌, ◌^◌, ◌++◌, ℕ, Some, IfSome, OnOk, OnErr, decimal, length};
 ghost use Rattle.lvdc_text.specs.Numbers.{number_of, is_plain, plain_number_of, word_in, octal_text};
 
 use itoa::Buffer;
@@ -78,6 +78,19 @@ pub fn octal_word(text: &[u8]) -> Option<Word>
     }
 }
 
+/// Writes the number in as many octal digits as there is room for, with zeros in front.
+#[inline(always)]
+pub fn fill_octal(digits: &mut [u8], value: u64)
+    requires { value < 8 ^ length digits.old }
+    ensures { digits.new ≡ octal_text (length digits.old) value }
+{
+    let mut rest = value;
+    for at in (0..digits.len()).rev() {
+        digits[at] = b'0' + (rest % 8) as u8;
+        rest /= 8;
+    }
+}
+
 /// Appends the number in `width` octal digits, with zeros in front.
 pub fn put_octal(out: &mut Vec<u8>, value: u64, width: u8) -> Result<(), NoMemory>
     requires { value < 8 ^ width }
@@ -86,15 +99,10 @@ pub fn put_octal(out: &mut Vec<u8>, value: u64, width: u8) -> Result<(), NoMemor
     // What it appends, read again, is the number.
     ensures back { 0 < width → number_of 8 width (octal_text width value) ≡ Some value }
 {
-    let mut digits = [b'0'; 255];
-    let mut rest = value;
-    let mut at = 255;
-    for _done in 0..width {
-        at -= 1;
-        digits[at] = b'0' + (rest % 8) as u8;
-        rest /= 8;
-    }
-    out.extend_from_slice(&digits[at..])?;
+    let mut room = [b'0'; 255];
+    let digits = &mut room[..usize::from(width)];
+    fill_octal(digits, value);
+    out.extend_from_slice(digits)?;
     Ok(())
 }
 

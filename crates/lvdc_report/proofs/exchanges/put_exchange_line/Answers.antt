@@ -9,4 +9,4 @@ returns-clause-short c =
     simp (length-append, length-octal_text) (omega (arith, length-direction e.reading, decimal_short e.time (omega arith)))
 
 pub returns-clause-ranges : goal.returns-clause-ranges
-returns-clause-ranges c = record { port = omega arith; word = omega (arith, c.value.ensures.small, c.value.ensures.value) }
+returns-clause-ranges c = record { port = omega arith; word = c.behind_time.ensures.range }
