@@ -204,60 +204,52 @@ impl Plain {
     }
 
     /// Makes an instruction, which takes this word.
-    fn execute(&mut self, instr: Instr, m: Word) -> Option<PlainEnd>
+    fn execute(&mut self, instr: Instr, m: Word)
+        requires running { self.old.end ≡ None }
         requires small { instr.address < 512 }
         requires left { self.old.times < self.old.limit }
         ensures shows { (p : PlainState) → Shows self.old p → p.stop ≡ None
             → Shows self.new (makes instr p m) }
         ensures end { (p : PlainState) → p.stop ≡ None
             → self.new.end ≡ end_of self.old.times (makes instr p m).stop }
-        ensures answer { result ≡ self.new.end }
-        ensures plain { IsPlainEnd (answer_of_end result) }
         ensures times { self.new.times ≡ self.old.times + 1 }
         ensures keeps { Keeps self.old self.new }
     {
         log_exchange(&mut self.log, instr, self.times, self.processor.a, m);
-        match self.processor.execute(instr, m) {
-            None => self.end = None,
-            Some(stop) => keep_stop(&mut self.end, self.times, stop),
+        if let Some(stop) = self.processor.execute(instr, m) {
+            keep_stop(&mut self.end, self.times, stop);
         }
         self.times += 1;
-        self.end
     }
 
     /// Keeps the end that a failed device is. The state is that before the time.
-    fn fail(&mut self, port: u8) -> Option<PlainEnd>
+    fn fail(&mut self, port: u8)
         requires { self.old.times < self.old.limit }
         ensures new { self.new
             ≡ record self.old { end = Some (Device (3 * self.old.times + 2) port) } }
-        ensures answer { result ≡ self.new.end }
-        ensures plain { IsPlainEnd (answer_of_end result) }
     {
         self.end = Some(PlainEnd::Device {
             step: 3 * self.times + 2,
             port,
         });
-        self.end
     }
 
     /// Makes the next time of a machine that runs.
     #[inline(always)]
-    fn advance(&mut self, devices: &mut Vec<Box<dyn PortDevice>>) -> Option<PlainEnd>
+    fn advance(&mut self, devices: &mut Vec<Box<dyn PortDevice>>)
         requires running { self.old.end ≡ None }
         requires left { self.old.times < self.old.limit }
         requires fit { AreFit device_of spare (times_left self.old) devices.old.items }
         ensures stands { (o : Opening) (t : ℕ)
             → Stands o t self.old (map device_of devices.old.items)
             → Stands o (t + 1) self.new (map device_of devices.new.items) }
-        ensures answer { result ≡ self.new.end }
-        ensures plain { IsPlainEnd (answer_of_end result) }
         ensures cause { HasCause device_of faults (answer_of_end self.new.end) devices.old.items devices.new.items }
         ensures leaves { Leaves device_of spare 1 self.old self.new devices.old.items devices.new.items }
     {
         unplug_all(&self.unplugs, self.times, devices);
         if self.processor.hold > 0 {
             self.wait();
-            return None;
+            return;
         }
         let instr = self.processor.fetched();
         let request = self.processor.request(instr);
@@ -311,7 +303,8 @@ impl Plain {
             return end;
         }
         for _made in 0..times {
-            if let Some(end) = self.advance(devices) {
+            self.advance(devices);
+            if let Some(end) = self.end {
                 return end;
             }
         }

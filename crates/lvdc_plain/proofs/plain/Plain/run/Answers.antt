@@ -1,4 +1,4 @@
-use Rattle.std.proofs.Common.{◌+◌, sym, arith, rules}
+use Rattle.std.proofs.Common.{◌≡◌, ◌+◌, sym, Some, None, arith, rules}
 use Rattle.lvdc_plain.proofs.Steps.{stands-kept-for, stands-next, stands-early, stands-at}
 use Rattle.lvdc_plain.proofs.Causes.{since-more, since-caused}
 use Rattle.lvdc_plain.proofs.Calls.{answers-kept, answers-made, leaves-kept, keeps-then}
@@ -17,19 +17,20 @@ pub returns-in-Some-clause-leaves : goal.returns-in-Some-clause-leaves
 returns-in-Some-clause-leaves g c =
     leaves-kept (λ b. (goal.PortDevice-dyn g (b.vtable, b.value)).device_of b.value) (λ b. (goal.PortDevice-dyn g (b.vtable, b.value)).spare b.value) c.args.times c.args.self.now c.args.devices.now.items c.requires.fit
 
-pub returns-in-Some-advance-clause-stands : goal.returns-in-Some-advance-clause-stands
-returns-in-Some-advance-clause-stands g c =
-    λ o t h. stands-early o t c.loop-made._made c.args.times _ _ _ c.in-Some-advance.ensures.answer c.loop-made-test.true (c.in-Some-advance.ensures.stands o (t + c.loop-made._made) (c.loop-made.invariant.stands o t h))
+pub returns-in-Some-end-clause-stands : goal.returns-in-Some-end-clause-stands
+returns-in-Some-end-clause-stands g c =
+    let come : c.advance.new.self.end ≡ Some c.in-Some-end.end = rw (← c.self-in-loop-made.view_is) c.in-Some-end.is in
+    λ o t h. stands-early o t c.loop-made._made c.args.times _ _ _ (sym come) c.loop-made-test.true (c.advance.ensures.stands o (t + c.loop-made._made) (c.loop-made.invariant.stands o t h))
 
-pub returns-in-Some-advance-clause-answers : goal.returns-in-Some-advance-clause-answers
-returns-in-Some-advance-clause-answers g c =
+pub returns-in-Some-end-clause-answers : goal.returns-in-Some-end-clause-answers
+returns-in-Some-end-clause-answers g c =
     answers-made (λ b. (goal.PortDevice-dyn g (b.vtable, b.value)).device_of b.value) (λ b. (goal.PortDevice-dyn g (b.vtable, b.value)).faults b.value) c.args.self.now c.advance.new.self c.args.devices.now.items c.advance.new.devices.items _
-    (search rules) (search rules) c.in-Some-advance.ensures.plain
-    (since-caused c.loop-made.invariant.since _ _ c.in-Some-advance.ensures.leaves.left c.in-Some-advance.ensures.cause)
+    (search rules) (search rules) (rw c.in-Some-end.is at c.self-in-loop-made.invariant.4)
+    (since-caused c.loop-made.invariant.since _ _ c.advance.ensures.leaves.left c.advance.ensures.cause)
 
-pub returns-in-Some-advance-clause-leaves : goal.returns-in-Some-advance-clause-leaves
-returns-in-Some-advance-clause-leaves g c =
-    let more = c.in-Some-advance.ensures.leaves in
+pub returns-in-Some-end-clause-leaves : goal.returns-in-Some-end-clause-leaves
+returns-in-Some-end-clause-leaves g c =
+    let more = c.advance.ensures.leaves in
     record {
       keeps = keeps-then c.loop-made.invariant.keeps more.keeps;
       most = omega (arith, c.loop-made.invariant.times, more.most, c.loop-made-test.true);
@@ -39,14 +40,15 @@ returns-in-Some-advance-clause-leaves g c =
 
 pub loop-made-preserved : goal.loop-made-preserved
 loop-made-preserved g c =
-    let more = c.in_default-advance.ensures.leaves in
+    let more = c.advance.ensures.leaves in
+    let runs : c.advance.new.self.end ≡ None = rw (← c.self-in-loop-made.view_is) c.in_default-end.is in
     record {
-      stands = λ o t h. stands-next o t c.loop-made._made _ _ (c.in_default-advance.ensures.stands o (t + c.loop-made._made) (c.loop-made.invariant.stands o t h));
-      running = sym c.in_default-advance.ensures.answer;
+      stands = λ o t h. stands-next o t c.loop-made._made _ _ (c.advance.ensures.stands o (t + c.loop-made._made) (c.loop-made.invariant.stands o t h));
+      running = runs;
       keeps = keeps-then c.loop-made.invariant.keeps more.keeps;
       times = omega (arith, c.loop-made.invariant.times, more.most);
       fit = more.fit;
-      since = since-more c.loop-made.invariant.since _ more.left (rw (← c.in_default-advance.ensures.answer) at c.in_default-advance.ensures.cause);
+      since = since-more c.loop-made.invariant.since _ more.left (rw runs at c.advance.ensures.cause);
     }
 
 pub returns-clause-stands : goal.returns-clause-stands
