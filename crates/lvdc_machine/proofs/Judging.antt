@@ -72,7 +72,7 @@ sound-recovered m at None sound some = absurd (true≢false (sym some))
 sound-recovered m None (Some word) sound some = λ o v ds h. tt
 sound-recovered m (Some spot) (Some word) sound some = λ o v ds h. (sound o v ds h).recovered
 
--- of an address
-pub recovered-at : (m : View) (at : Option Spot) (spot : Spot) → IsRecovered m at → at ≡ Some spot
-    → (o : Trial) (v : Voted) (ds : List device.Device) → Shows o m ds v → true ≡ recovers o v spot
-recovered-at m at spot all is o v ds h = sym (subst (λ (a : Option Spot). IfSome a (λ x. recovers o v x ≡ true)) is (all o v ds h))
+-- what can be recovered, where anything is read, is admissible
+pub found-recovered : (o : Trial) (v : Voted) (at : Option Spot) → IfSome at (λ spot. recovers o v spot ≡ true) → Admissible ≡ own_memory o v at
+found-recovered o v None good = refl
+found-recovered o v (Some spot) good = found-good o v spot (sym good)

@@ -131,9 +131,20 @@ impl Machine {
         ensures spare { (n : ℕ) → HasSpare spare n devices.old.items → HasSpare spare n devices.new.items }
         ensures since { Since device_of faults devices.old.items devices.new.items }
     {
-        if self.unplugs.is_empty() {
-            return;
+        if !self.unplugs.is_empty() {
+            self.unplug_listed(devices);
         }
+    }
+
+    /// The same where devices are to be taken away at some time.
+    #[inline(never)]
+    fn unplug_listed(&self, devices: &mut Vec<Box<dyn PortDevice>>)
+        requires { AreDistinct (map device_of devices.old.items) }
+        ensures devices { map device_of devices.new.items ≡ devices_left self.now.unplugs self.now.steps (map device_of devices.old.items) }
+        ensures distinct { AreDistinct (map device_of devices.new.items) }
+        ensures spare { (n : ℕ) → HasSpare spare n devices.old.items → HasSpare spare n devices.new.items }
+        ensures since { Since device_of faults devices.old.items devices.new.items }
+    {
         if self.steps % 3 == 0 {
             unplug_all(&self.unplugs, self.steps / 3, devices);
         }
@@ -177,10 +188,13 @@ impl Machine {
         requires sound { is_sound ≡ true → IsRecovered self.now at }
         ensures { (o : Trial) (v : Voted) (ds : List device.Device) → Shows o self.now ds v → result ≡ own_memory o v at }
     {
+        if is_sound {
+            return Verdict::Admissible;
+        }
         match at {
             None => Verdict::Admissible,
             Some(address) => {
-                if is_sound || self.memory.recoverable(address) {
+                if self.memory.recoverable(address) {
                     Verdict::Admissible
                 } else {
                     Verdict::Memory {
@@ -251,7 +265,7 @@ impl Machine {
 
     /// Reads an address for this exchange, where something may be wrong with it. Where no twin shows a good cell there the machine stops,
     /// and the step isn't made.
-    #[inline(never)]
+    #[inline(always)]
     fn read_any(&mut self, order: &Order, wanted: Wanted, at: Address) -> Option<Made>
         requires may { MayMake self.old }
         requires there { is_there self.old.banks at ≡ true }
@@ -343,6 +357,7 @@ impl Machine {
     }
 
     /// Reads a port. An error is the port of the device that failed; then nothing has changed.
+    #[inline(always)]
     fn read_port(
         &mut self,
         order: &Order,
@@ -388,6 +403,7 @@ impl Machine {
     }
 
     /// Writes the word to a port. An error is the port of the device that failed; then nothing has changed.
+    #[inline(always)]
     fn write_port(
         &mut self,
         order: &Order,
