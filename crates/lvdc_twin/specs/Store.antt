@@ -1,5 +1,5 @@
 -- The memory of two twins: what each stores and shows, where it is dead, and which is selected.
-use Rattle.std.specs.Prelude.{◌≡◌, ℕ, ◌+◌, ◌*◌, ◌<◌, Bool, false, not, ◌==◌, ◌&&◌, ◌||◌, if◌then◌else◌, List, length, slice_index, slice_index_or, slice_set}
+use Rattle.std.specs.Prelude.{◌≡◌, ℕ, ◌+◌, ◌*◌, ◌<◌, Bool, true, false, not, ◌==◌, ◌&&◌, ◌||◌, if◌then◌else◌, List, length, slice_index, slice_index_or, slice_set}
 use Rattle.lvdc_word.specs.Cell.{code_of, with_stuck, is_good}
 use Rattle.lvdc_map.specs.Address.{Spot, number_of}
 use Rattle.lvdc_twin.specs.declared.stuck.Stuck.{Stuck}
@@ -46,6 +46,16 @@ is_dead t twin pair = slice_index_or t.dead (twin * 4 + pair) false
 -- the twin selected in a pair
 abbrev pub selected_in : Store → ℕ → ℕ
 selected_in t pair = slice_index t.selected pair
+
+-- nothing is stuck at any place, and no twin is dead
+pub record IsBare (t : Store) : Type 0 where
+  pub stuck : (twin : ℕ) (place : Spot) → stuck_in t twin place ≡ nothing
+  pub dead : (twin pair : ℕ) → is_dead t twin pair ≡ false
+
+-- the memory is whole, and where it is noted as bare, it is
+pub record IsNoted (t : Store) (noted : Bool) : Type 0 where
+  pub whole : IsStore t
+  pub bare : noted ≡ true → IsBare t
 
 -- what a twin shows at a place: 0 while it is dead, else the stored cell with its stuck bits replaced
 abbrev pub shown_in : Store → ℕ → Spot → ℕ

@@ -41,10 +41,12 @@ impl Twins {
             stuck: nothing_stuck(alloc)?,
             dead: [false; 8],
             selected: [selected[0], selected[1], selected[2], selected[3]],
+            bare: true,
         })
     }
 
     /// The cell that a twin stores at a physical place, whatever is stuck or dead there.
+    #[inline(always)]
     pub fn stored(&self, twin: u8, at: Address) -> Cell
         requires twin { twin < 2 }
         requires pair { at.pair < 4 }

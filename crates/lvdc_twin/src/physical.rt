@@ -12,12 +12,27 @@ use lvdc_word::Cell;
 
 impl Twins {
     /// What a twin shows at a physical place.
+    #[inline(always)]
     pub fn view(&self, twin: u8, at: Address) -> Cell
         requires twin { twin < 2 }
         requires pair { at.pair < 4 }
         ensures value { result ≡ shown_in self.now twin at }
         ensures whole { IsStore self.now }
         ensures place { IsPlace at }
+    {
+        if self.bare {
+            self.stored(twin, at)
+        } else {
+            self.shown_under_faults(twin, at)
+        }
+    }
+
+    /// The same where the twin may be dead, or bits of the cell stuck.
+    #[inline(never)]
+    fn shown_under_faults(&self, twin: u8, at: Address) -> Cell
+        requires twin { twin < 2 }
+        requires pair { at.pair < 4 }
+        ensures { result ≡ shown_in self.now twin at }
     {
         if self.is_dead(twin, at.pair) {
             Cell::within(0)
@@ -50,6 +65,7 @@ impl Twins {
         ensures whole { IsStore self.old }
         ensures place { IsPlace at }
     {
+        self.bare = false;
         self.stuck[slot(twin, at)] = Stuck { mask, value };
     }
 
@@ -71,10 +87,12 @@ impl Twins {
         ensures after { self.new ≡ with_dead self.old twin pair on }
         ensures whole { IsStore self.old }
     {
+        self.bare = false;
         self.dead[usize::from(twin) * 4 + usize::from(pair)] = on;
     }
 
     /// Is a twin dead in a pair?
+    #[inline(always)]
     pub(crate) fn is_dead(&self, twin: u8, pair: u8) -> bool
         requires twin { twin < 2 }
         requires pair { pair < 4 }
@@ -84,6 +102,7 @@ impl Twins {
     }
 
     /// The twin that is used first in a pair.
+    #[inline(always)]
     pub fn selected(&self, pair: u8) -> u8
         requires { pair < 4 }
         ensures value { result ≡ selected_in self.now pair }

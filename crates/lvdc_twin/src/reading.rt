@@ -38,6 +38,7 @@ impl Twins {
     }
 
     /// Does each twin that holds an address show this cell there?
+    #[inline(always)]
     pub fn all_show(&self, at: Address, cell: Cell) -> bool
         requires { is_there self.now.banks at ≡ true }
         ensures value { result ≡ all_show self.now at cell }

@@ -2,7 +2,7 @@ ghost use Rattle.std.specs.Prelude.{◌≡◌, ℕ, ◌-◌, ◌<◌, false, Ok,
 ghost use Rattle.lvdc_word.specs.Cell.{code_of};
 ghost use Rattle.lvdc_map.specs.Banks.{IsPlace};
 ghost use Rattle.lvdc_map.specs.Memory.{AllThere};
-ghost use Rattle.lvdc_twin.specs.Store.{IsStore, nothing, slot_of};
+ghost use Rattle.lvdc_twin.specs.Store.{nothing, slot_of};
 ghost use Rattle.lvdc_twin.specs.Calls.{Begins};
 
 use crate::Stuck;
@@ -23,10 +23,12 @@ pub struct Twins {
     pub(crate) stuck: Vec<Stuck>,
     pub(crate) dead: [bool; 8],
     pub(crate) selected: [u8; 4],
+    /// Where it is true, nothing is stuck at any place and no twin is dead: each twin shows what it stores. False says nothing.
+    pub(crate) bare: bool,
 }
 
 impl Model for Twins {
-    ghost use Rattle.lvdc_twin.specs.Store.{Store, IsStore};
+    ghost use Rattle.lvdc_twin.specs.Store.{Store, IsNoted};
 
     ghost Value = { Store };
 
@@ -38,13 +40,13 @@ impl Model for Twins {
       selected = t.selected;
     } };
 
-    ghost invariant = { λ t. IsStore (record {
+    ghost invariant = { λ t. IsNoted (record {
       banks = t.banks;
       cells = t.cells.items;
       stuck = t.stuck.items;
       dead = t.dead;
       selected = t.selected;
-    }) };
+    }) t.bare };
 }
 
 impl Twins {
@@ -68,6 +70,7 @@ impl Twins {
             stuck: nothing_stuck(alloc)?,
             dead: [false; 8],
             selected: [0; 4],
+            bare: true,
         })
     }
 
@@ -113,6 +116,7 @@ pub(crate) fn nothing_stuck(alloc: Global) -> Result<Vec<Stuck>, NoMemory>
 }
 
 /// Where a physical place of a twin stands in a table.
+#[inline(always)]
 pub(crate) fn slot(twin: u8, place: Address) -> usize
     requires twin { twin < 2 }
     requires pair { place.pair < 4 }

@@ -14,7 +14,7 @@ loop-slot-preserved c =
     let n = c.loop-slot.slot in
     let cells = c.args.self.now.cells in
     let small = c.loop-slot-test.true in
-    let within : n < length c.self.inside.cells.items = let whole = c.self.invariant.cells in omega (arith, whole) in
+    let within : n < length c.self.inside.cells.items = let whole = c.self.invariant.whole.cells in omega (arith, whole) in
     let here : c.index.result.now ≡ get_or cells n 0 =
     c.index.ensures ∙ get_or_default c.self.inside.cells.items n c.index.result.now 0 within ∙ ap (λ (t : Store). get_or t.cells n 0) c.self.view_is in
     let zero_cell : c.encode-zero.result ≡ code_of 0 = c.encode-zero.ensures in
