@@ -86,8 +86,8 @@ impl Cell {
         has_odd_ones(self.bits >> 14) && has_odd_ones(self.bits & 0x3fff)
     }
 
-    /// The syllables, whatever the parity bits are.
-    fn word(self) -> Word
+    /// The word of the syllables, whatever the parity bits are.
+    pub fn word(self) -> Word
         ensures { result ≡ word_in self }
     {
         Word::within(((self.bits >> 14) & 0x1fff) * (1 << 13) + (self.bits & 0x1fff))
