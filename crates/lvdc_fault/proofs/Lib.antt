@@ -1,4 +1,5 @@
 pub mod Actives
+mod Coding
 mod FaultRows
 pub mod Lowest
 pub mod Parts

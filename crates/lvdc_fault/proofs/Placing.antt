@@ -47,7 +47,7 @@ one_number a b ha hb e =
     let lb : b.loc < 256 = hb.loc in
     same-from a b (omega arith) (omega arith) (omega arith)
 
-number_test : (a b : Spot) → IsAddress a → IsAddress b → is_same a b ≡ (number_of a == number_of b)
+pub number_test : (a b : Spot) → IsAddress a → IsAddress b → is_same a b ≡ (number_of a == number_of b)
 number_test a b ha hb = by_case (number_of a == number_of b) refl
   where
     by_case : (t : Bool) → (number_of a == number_of b) ≡ t → is_same a b ≡ t

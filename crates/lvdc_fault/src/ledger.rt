@@ -1,4 +1,5 @@
 ghost use Rattle.std.specs.Prelude.{◌≡◌, ◌<◌, ◌^◌, true, All, IfOk, slice_set};
+ghost use Rattle.lvdc_word.specs.Cell.{code_of, word_in};
 ghost use Rattle.lvdc_map.specs.Address.{number_of};
 ghost use Rattle.lvdc_map.specs.Banks.{is_there};
 ghost use Rattle.lvdc_map.specs.Memory.{Memory, AllThere, IsMemory, word_at, stored, memory_of};
@@ -6,17 +7,18 @@ ghost use Rattle.lvdc_fault.specs.Ledger.{intended_at, ArePlaced};
 ghost use Rattle.lvdc_fault.specs.Recoverable.{recovers_by, is_recovered, shown_by};
 ghost use Rattle.lvdc_twin.specs.Store.{survives};
 
-use lvdc_map::{Address, Banks, Placed, Words};
+use crate::codes::Codes;
+use lvdc_map::{Address, Banks, Placed};
 use lvdc_word::{Cell, NoMemory, Word};
 use std::alloc::Global;
 use std::marker::Model;
 
-/// The intended words: the last word that was written at each address, else the image's, else 0. It knows nothing of cells
-/// and faults.
+/// The intended words: the last word that was written at each address, else the image's, else 0. Each is kept as its good
+/// cell, since that is what the twins are compared with. It knows nothing of faults.
 #[derive(Drop)]
 pub struct Ledger {
     banks: Banks,
-    words: Words,
+    words: Codes,
 }
 
 impl Model for Ledger {
@@ -40,7 +42,7 @@ impl Ledger {
         // What an image places are words, by their type.
         ensures placed { IfOk result (λ l. All (λ placed. placed.word < 2 ^ 26) image.now) }
     {
-        let words = Words::of_image(alloc, image)?;
+        let words = Codes::of_image(alloc, image)?;
         Ok(Ledger { banks, words })
     }
 
@@ -63,6 +65,16 @@ impl Ledger {
         ensures words { (m : Memory) → IsMemory self.now.words m → result ≡ word_at m at }
     {
         self.words.word(at)
+    }
+
+    /// The good cell of the word intended at an address.
+    pub fn code(&self, at: Address) -> Cell
+        requires { is_there self.now.banks at ≡ true }
+        ensures value { result ≡ code_of (intended_at self.now at) }
+        ensures word { word_in result ≡ intended_at self.now at }
+        ensures words { (m : Memory) → IsMemory self.now.words m → result ≡ code_of (word_at m at) }
+    {
+        self.words.code(at)
     }
 
     /// The intended words other than 0, rising by address.
@@ -90,7 +102,7 @@ impl Ledger {
         ensures words { (m : Memory) → IsMemory self.now.words m
             → result ≡ is_recovered self.now.banks at (word_at m at) (shown_by zeroth first) }
     {
-        let code = Cell::encode(self.intended(at));
+        let code = self.code(at);
         recovers(
             self.banks.simplex(at.pair % 4),
             at.pair,

@@ -2,6 +2,7 @@
 //! which a step is judged (this project's profile).
 #![tactic(auto)]
 
+mod codes;
 mod copies;
 mod event;
 mod laws;

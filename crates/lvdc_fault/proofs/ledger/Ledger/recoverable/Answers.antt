@@ -6,6 +6,6 @@ returns c =
     let banks = ap (λ l. l.banks) c.self.view_is in
     let pair = ap (λ a. a.pair) c.at.view_is in
     record {
-      value = let word = c.intended.ensures.value in cc;
-      words = λ m h. let word = c.intended.ensures.words m h in cc;
+      value = let code = c.code-code.ensures.value in cc;
+      words = λ m h. let code = c.code-code.ensures.words m h in cc;
     }

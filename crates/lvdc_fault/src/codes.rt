@@ -1,0 +1,76 @@
+ghost use Rattle.std.specs.Prelude.{◌≡◌, ◌<◌, ◌^◌, All, [], IfOk, slice_index, slice_set};
+ghost use Rattle.lvdc_word.specs.Cell.{code_of, word_in};
+ghost use Rattle.lvdc_map.specs.Address.{number_of};
+ghost use Rattle.lvdc_map.specs.Memory.{Memory, word_at, stored, memory_of, IsMemory};
+
+use lvdc_map::{Address, Placed};
+use lvdc_word::{Cell, NoMemory, Word};
+use std::alloc::Global;
+use std::marker::Model;
+
+/// The words of all addresses, in the order of their numbers, each kept as its good cell. Contracts see the words.
+#[derive(Drop)]
+pub(crate) struct Codes {
+    cells: Vec<Cell>,
+}
+
+impl Model for Codes {
+    ghost use Rattle.std.specs.Prelude.{ℕ, List, map};
+    ghost use Rattle.lvdc_word.specs.Cell.{word_in};
+    ghost use Rattle.lvdc_fault.specs.Codes.{AreCodes};
+
+    ghost Value = { List ℕ };
+
+    ghost view = { λ c. map word_in c.cells.items };
+
+    ghost invariant = { λ c. AreCodes c.cells.items };
+}
+
+impl Codes {
+    /// The words of an image at their places, and 0 elsewhere.
+    pub(crate) fn of_image(alloc: Global, image: &[Placed]) -> Result<Codes, NoMemory>
+        ensures memory { IfOk result (λ words. IsMemory words (memory_of image.now)) }
+        // What an image places are words, by their type.
+        ensures words { IfOk result (λ words. All (λ placed. placed.word < 2 ^ 26) image.now) }
+    {
+        let mut codes = Codes::zero(alloc)?;
+        for placed in image {
+            codes.store(placed.at, placed.word);
+        }
+        Ok(codes)
+    }
+
+    /// 0 at every address.
+    fn zero(alloc: Global) -> Result<Codes, NoMemory>
+        ensures { IfOk result (λ words. IsMemory words (memory_of [])) }
+    {
+        let cells = Vec::from_elem(alloc, Cell::encode(Word::ZERO), Address::COUNT)?;
+        Ok(Codes { cells })
+    }
+
+    /// The word at an address.
+    pub(crate) fn word(&self, at: Address) -> Word
+        ensures value { result ≡ slice_index self.now (number_of at) }
+        ensures memory { (m : Memory) → IsMemory self.now m → result ≡ word_at m at }
+    {
+        self.cells[at.number()].word()
+    }
+
+    /// The good cell of the word at an address.
+    pub(crate) fn code(&self, at: Address) -> Cell
+        ensures value { result ≡ code_of (slice_index self.now (number_of at)) }
+        ensures word { word_in result ≡ slice_index self.now (number_of at) }
+        ensures memory { (m : Memory) → IsMemory self.now m → result ≡ code_of (word_at m at) }
+    {
+        self.cells[at.number()]
+    }
+
+    /// Puts a word at an address.
+    pub(crate) fn store(&mut self, at: Address, word: Word)
+        ensures value { self.new ≡ slice_set self.old (number_of at) word }
+        ensures memory { (m : Memory) → IsMemory self.old m → IsMemory self.new (stored m at word) }
+        ensures word { word < 2 ^ 26 }
+    {
+        self.cells[at.number()] = Cell::encode(word);
+    }
+}
