@@ -35,10 +35,10 @@ recovered_by false bank cell shown small h =
     both_survive cell (shown 0) (shown 1) (eqb-true (shown 0) cell parts.0) (eqb-true (shown 1) cell parts.1)
 
 -- so it can be recovered from what the twins show
-pub recovered-sound : (o : Trial) (in_force : Option ℕ) (m : Kept) (t : Twins) (i : Memory) (at : Spot) (w : ℕ) → Holds o in_force m t i → at.pair < 8 → IsPlace (home at)
-    → w ≡ word_at i at → all_show m.twins at (code_of w) ≡ true
+pub recovered-sound : (o : Trial) (in_force : Option ℕ) (m : Kept) (t : Twins) (i : Memory) (at : Spot) (cell : ℕ) → Holds o in_force m t i → at.pair < 8 → IsPlace (home at)
+    → cell ≡ code_of (word_at i at) → all_show m.twins at cell ≡ true
     → is_recovered o.opening.banks at (word_at i at) (λ twin. shows_since in_force o t twin at) ≡ true
-recovered-sound o in_force m t i at w h small here is shown =
+recovered-sound o in_force m t i at cell h small here is shown =
     sym (recovered-holds o in_force m t i at (shown_in m.twins 0 (home at)) (shown_in m.twins 1 (home at)) h small here refl refl)
-    ∙ ap (λ (x : ℕ). is_recovered m.twins.banks at x (shown_by (shown_in m.twins 0 (home at)) (shown_in m.twins 1 (home at)))) (sym is)
-    ∙ recovered_by (is_simplex m.twins.banks (at.pair % 4)) at.pair (code_of w) (λ twin. shown_in m.twins twin (home at)) small shown
+    ∙ ap (λ (c : ℕ). recovers_by (is_simplex m.twins.banks (at.pair % 4)) at.pair c (shown_by (shown_in m.twins 0 (home at)) (shown_in m.twins 1 (home at)))) (sym is)
+    ∙ recovered_by (is_simplex m.twins.banks (at.pair % 4)) at.pair cell (λ twin. shown_in m.twins twin (home at)) small shown

@@ -13,7 +13,7 @@ ghost use Rattle.lvdc_memory.specs.Holds.{Holds};
 use crate::VotedMemory;
 use lvdc_map::Address;
 use lvdc_twin::shown_word_is_read;
-use lvdc_word::{Cell, Word};
+use lvdc_word::Word;
 
 impl VotedMemory {
     /// The word that is intended at an address, where each twin that holds the address shows its code: it can be recovered, and a read
@@ -28,9 +28,9 @@ impl VotedMemory {
             → read_answer o step t at ≡ Ok (record { word = word; repaired = None; switched = false })) }
     {
         shown_word_is_read();
-        let word = self.ledger.intended(at);
-        if self.twins.all_show(at, Cell::encode(word)) {
-            Some(word)
+        let code = self.ledger.code(at);
+        if self.twins.all_show(at, code) {
+            Some(code.word())
         } else {
             None
         }
