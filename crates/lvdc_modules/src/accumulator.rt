@@ -70,6 +70,7 @@ impl Vote for AccumulatorState {
 }
 
 /// What the operation makes of the accumulator.
+#[inline(always)]
 pub(crate) fn accumulated(op: Op, bus: &Bus, address: u16) -> Word
     ensures { result ≡ accumulated op bus.now address }
 {

@@ -110,6 +110,7 @@ fn jumps(bus: &Bus, address: u16) -> LocatorState
 }
 
 /// Where the operation goes on.
+#[inline(always)]
 pub(crate) fn located(op: Op, bus: &Bus, address: u16) -> LocatorState
     ensures { result ≡ located op bus.now (here bus.now) address }
 {

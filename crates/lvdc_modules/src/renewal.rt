@@ -71,6 +71,7 @@ impl Bus {
     }
 
     /// Phase C: the instruction is executed.
+    #[inline(never)]
     fn execute(&mut self)
         requires hold { hold self.old ≡ 0 }
         requires phase { phase self.old ≡ C }

@@ -62,6 +62,7 @@ fn a_word_is_recovered_from_the_twins_that_hold_it(rt: HostRuntime) -> Result<()
     let bad = Cell::within(0);
     let mut ledger = Ledger::new(rt.alloc(), &image, Banks::DUPLEX)?;
     same(&rt, ledger.intended(HERE), Word::within(0o5));
+    same(&rt, ledger.code(HERE), code);
     holds(&rt, ledger.recoverable(HERE, code, bad));
     holds(&rt, ledger.recoverable(HERE, bad, code));
     holds(&rt, !ledger.recoverable(HERE, code, other));

@@ -1,7 +1,8 @@
 use crate::rows::same;
 use lvdc_text::{
     FaultySink, FaultySource, Line, MemorySink, MemorySource, ReadEnd, StdSink, StdSource,
-    WriteFault, decimal, lines, octal, part, put_decimal, put_octal, read_all, tokens, write_all,
+    WriteFault, decimal, fill_octal, lines, octal, part, put_decimal, put_octal, read_all, tokens,
+    write_all,
 };
 use std::test::Fail;
 
@@ -40,6 +41,9 @@ fn numbers_have_one_to_so_many_digits(rt: HostRuntime) -> Result<(), Fail> {
         decimal(b"999999999999999999", 18),
         Some(999999999999999999),
     );
+    let mut digits = [b' '; 4];
+    fill_octal(&mut digits[1..], 0o17);
+    same(&rt, digits.as_slice(), b" 017".as_slice());
     let mut out = Vec::new(rt.alloc());
     put_octal(&mut out, 0o17, 3)?;
     put_decimal(&mut out, u64::MAX)?;

@@ -34,6 +34,7 @@ fn a_cell_is_good_where_each_half_has_an_odd_count_of_ones(rt: HostRuntime) -> R
     same(&rt, zero.bits(), 0o1000020000);
     same(&rt, zero.decode(), Some(Word::ZERO));
     same(&rt, Cell::within(0).decode(), None);
+    same(&rt, Cell::within(0o40001).word(), Word::within(0o20001));
     same(&rt, Cell::within(0o20000).decode(), None);
     let two_bits = Cell::within(0o40001);
     same(&rt, zero.flip(two_bits).bits(), 0o1000060001);
