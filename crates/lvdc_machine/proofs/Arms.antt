@@ -1,6 +1,7 @@
 -- What a read and a store make of the state.
-use Rattle.std.proofs.Common.{◌≡◌, ℕ, Bool, List, ◌++◌, refl, sym, ap, ◌∙◌, subst, append-nil}
-use Rattle.std.specs.Prelude.{Result, Ok, Err}
+use Rattle.std.proofs.Common.{◌≡◌, ℕ, Bool, false, List, ◌++◌, refl, sym, ap, ◌∙◌, subst, append-nil}
+use Rattle.std.proofs.lemmas.Bool.{true≢false}
+use Rattle.std.specs.Prelude.{Result, Ok, Err, IfSome, IsSome}
 use Rattle.std.specs.declared.option.Option.{Option}
 use Rattle.std.specs.declared.option.Option.TheVariants.{None, Some}
 use Rattle.lvdc_map.specs.Address.{Spot}
@@ -8,14 +9,17 @@ use Rattle.lvdc_port.specs.Device as device
 use Rattle.lvdc_twin.specs.declared.both_bad.BothBad.{BothBad}
 use Rattle.lvdc_twin.specs.declared.read_out.ReadOut.{ReadOut}
 use Rattle.lvdc_plain.specs.declared.records.Stop.TheVariants as stops
-use Rattle.lvdc_model.specs.Exchanges.{latches, reading, with_end, repair_by}
+use Rattle.lvdc_modules.specs.declared.wanted.Wanted.{Wanted}
+use Rattle.lvdc_modules.specs.declared.wanted.Wanted.TheVariants.{Nothing, Fetch, Operand, Store, PortRead, PortWrite}
+use Rattle.lvdc_model.specs.Exchanges.{latches, reading, exchanges, with_end, repair_by}
+use Rattle.lvdc_model.specs.Runs.{read_of_wish}
 use Rattle.lvdc_model.specs.Trial.{Trial}
 use Rattle.lvdc_model.specs.Twins.{read_answer, after_read}
 use Rattle.lvdc_model.specs.Voted.{Voted}
 use Rattle.lvdc_model.specs.declared.outcome.Outcome.TheVariants.{Stopped}
 use Rattle.lvdc_model.specs.declared.repair.Repair.{Repair}
 use Rattle.lvdc_machine.specs.Shows.{Shows}
-use Rattle.lvdc_machine.specs.Steps.{noted, noting, repair_noted}
+use Rattle.lvdc_machine.specs.Steps.{noted, noting, repair_noted, IsSoundAt}
 use Rattle.lvdc_machine.specs.View.{View}
 
 -- the optional repair of a machine is the list of one or none of the definition
@@ -45,3 +49,15 @@ pub shows-lost : {o : Trial} {m : View} {ds : List device.Device} (v : Voted) (a
     → Shows o m ds (reading (read_answer o v.steps v.twins at) o v at)
 shows-lost {o = o} {m = m} {ds = ds} v at answer bad is lost h =
     subst (λ (a : Result ReadOut BothBad). Shows o m ds (reading a o v at)) (sym lost ∙ is) h
+
+-- an exchange that takes a sound word is a read of its address
+pub shows-sound : {o : Trial} {m : View} {ds : List device.Device} (v : Voted) (wanted : Wanted) (word : ℕ)
+    → IfSome (read_of_wish wanted) (IsSoundAt o v word) → IsSome (read_of_wish wanted)
+    → Shows o m ds (latches o (noting v (record { memory = word; port = 0; line = None; repair = None })) word 0)
+    → Shows o m ds (exchanges o v wanted)
+shows-sound v Nothing word sound read h = absurd (true≢false (sym read))
+shows-sound v (Fetch at) word sound read h = shows-read v at _ (record { word = word; repaired = None; switched = false }) v.steps None refl sound.answer refl refl h
+shows-sound v (Operand at) word sound read h = shows-read v at _ (record { word = word; repaired = None; switched = false }) v.steps None refl sound.answer refl refl h
+shows-sound v (Store at other) word sound read h = absurd (true≢false (sym read))
+shows-sound v (PortRead port) word sound read h = absurd (true≢false (sym read))
+shows-sound v (PortWrite port other) word sound read h = absurd (true≢false (sym read))

@@ -1,6 +1,7 @@
 -- What a step hands out is what it makes.
-use Rattle.std.proofs.Common.{◌≡◌, ℕ, List, refl, sym, ap, ◌∙◌}
-use Rattle.std.specs.Prelude.{◌≢◌, Result, Ok, Err}
+use Rattle.std.proofs.Common.{◌≡◌, ℕ, false, List, refl, sym, ap, ◌∙◌}
+use Rattle.std.proofs.lemmas.Bool.{true≢false}
+use Rattle.std.specs.Prelude.{◌≢◌, Result, Ok, Err, IfSome, IsSome}
 use Rattle.std.specs.declared.option.Option.{Option}
 use Rattle.std.specs.declared.option.Option.TheVariants.{None, Some}
 use Rattle.lvdc_map.specs.Address.{Spot}
@@ -8,6 +9,8 @@ use Rattle.lvdc_port.specs.Device as device
 use Rattle.lvdc_twin.specs.declared.both_bad.BothBad.{BothBad}
 use Rattle.lvdc_twin.specs.declared.read_out.ReadOut.{ReadOut}
 use Rattle.lvdc_modules.specs.declared.wanted.Wanted.{Wanted}
+use Rattle.lvdc_modules.specs.declared.wanted.Wanted.TheVariants.{Nothing, Fetch, Operand, Store, PortRead, PortWrite}
+use Rattle.lvdc_model.specs.Runs.{read_of_wish}
 use Rattle.lvdc_fault.specs.declared.verdict.Verdict.{Verdict}
 use Rattle.lvdc_fault.specs.declared.verdict.Verdict.TheVariants.{Admissible, Logic, Memory}
 use Rattle.lvdc_model.specs.declared.outcome.Outcome.{Outcome}
@@ -18,7 +21,7 @@ use Rattle.lvdc_model.specs.Trial.{Trial}
 use Rattle.lvdc_model.specs.Voted.{Voted}
 use Rattle.lvdc_machine.specs.Made.{read_made, exchange_made, made_if, made_unless, made_next, told_by}
 use Rattle.lvdc_machine.specs.Resumed.{state_from}
-use Rattle.lvdc_machine.specs.Steps.{repair_noted, run_from, verdict_of, MadeAs}
+use Rattle.lvdc_machine.specs.Steps.{repair_noted, run_from, verdict_of, IsSoundAt, MadeAs}
 use Rattle.lvdc_machine.specs.declared.made.Made.{Made}
 use Rattle.lvdc_machine.specs.declared.mode.Mode.{Mode}
 use Rattle.lvdc_machine.specs.View.{View}
@@ -36,6 +39,16 @@ read-told wanted at r is found same noted = rw (noted, same, sym is ∙ found) r
 pub lost-told : {answer right : Result ReadOut BothBad} → (wanted : Wanted) (at : Spot) (bad : BothBad) (real : ℕ)
     → answer ≡ right → answer ≡ Err bad → None ≡ read_made right real at wanted
 lost-told wanted at bad real is lost = rw (sym is ∙ lost) refl
+
+-- one that takes a sound word
+pub sound-told : (o : Trial) (v : Voted) (wanted : Wanted) (word : ℕ) → IfSome (read_of_wish wanted) (IsSoundAt o v word) → IsSome (read_of_wish wanted)
+    → Some (record { wanted = wanted; word = word; repair = None }) ≡ exchange_made o v wanted
+sound-told o v Nothing word sound read = absurd (true≢false (sym read))
+sound-told o v (Fetch at) word sound read = read-told (Fetch at) at (record { word = word; repaired = None; switched = false }) refl sound.answer refl refl
+sound-told o v (Operand at) word sound read = read-told (Operand at) at (record { word = word; repaired = None; switched = false }) refl sound.answer refl refl
+sound-told o v (Store at other) word sound read = absurd (true≢false (sym read))
+sound-told o v (PortRead port) word sound read = absurd (true≢false (sym read))
+sound-told o v (PortWrite port other) word sound read = absurd (true≢false (sym read))
 
 -- ---- a step
 

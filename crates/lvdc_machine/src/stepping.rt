@@ -23,6 +23,7 @@ ghost use Rattle.lvdc_machine.specs.Room.{exchanges_to_come, MayExchange, MayRep
 ghost use Rattle.lvdc_snapshot.specs.Notes.{IsNoted};
 ghost use Rattle.lvdc_machine.specs.Made.{of_port, without_a_word, read_made, exchange_made, made_next, told_by};
 ghost use Rattle.lvdc_modules.specs.declared.wanted.Wanted.TheVariants.{PortWrite};
+ghost use Rattle.lvdc_modules.specs.declared.wanted.Wanted.TheVariants as wishes;
 ghost use Rattle.lvdc_machine.specs.Resumed.{state_from, StandsFrom};
 ghost use Rattle.lvdc_machine.specs.Shows.{Shows, HasBegun};
 ghost use Rattle.lvdc_machine.specs.Steps.{verdict_of, repair_noted, noting, NamesPort, MayMake, IsMade, IsFoundSound, IsRecovered};
@@ -175,7 +176,8 @@ impl Machine {
     fn sound_word(&self, at: Option<Address>) -> Option<Word>
         requires begun { self.now.on_memory.last ≡ Some self.now.steps }
         requires there { IfSome at (λ spot. is_there self.now.banks spot ≡ true) }
-        ensures { IsFoundSound self.now at result }
+        ensures sound { IsFoundSound self.now at result }
+        ensures read { IsSome result → IsSome at }
     {
         self.memory.sound_word(at?)
     }
@@ -305,41 +307,27 @@ impl Machine {
         }
     }
 
-    /// Reads an address for this exchange, of which a sound word was found or not.
+    /// Takes the sound word that was found at the address that is to be read, and answers what was made.
     #[inline(always)]
-    fn read(
-        &mut self,
-        order: &Order,
-        wanted: Wanted,
-        at: Address,
-        sound: Option<Word>,
-    ) -> Option<Made>
+    fn take(&mut self, order: &Order, wanted: Wanted, word: Word) -> Made
         requires may { MayMake self.old }
-        requires there { is_there self.old.banks at ≡ true }
-        requires due { MayRepair self.old.pace self.old.steps }
-        requires sound { IsFoundSound self.old (Some at) sound }
-        ensures shows { (o : Trial) (v : Voted) (ds : List device.Device) → Shows o self.old ds v
-            → Shows o self.new ds (reading (read_answer o v.steps v.twins at) o v at) }
-        ensures told { (o : Trial) (v : Voted) (ds : List device.Device) → Shows o self.old ds v
-            → result ≡ read_made (read_answer o v.steps v.twins at) v.steps at wanted }
+        requires sound { IsFoundSound self.old (read_of_wish wanted) (Some word) }
+        requires read { IsSome (read_of_wish wanted) }
+        ensures shows { (o : Trial) (v : Voted) (ds : List device.Device) → Shows o self.old ds v → Shows o self.new ds (exchanges o v wanted) }
+        ensures told { (o : Trial) (v : Voted) (ds : List device.Device) → Shows o self.old ds v → Some result ≡ exchange_made o v wanted }
         ensures made { IsMade self.old self.new }
     {
-        match sound {
-            Some(word) => {
-                self.make(
-                    order,
-                    Brought {
-                        memory: word,
-                        ..Brought::nothing()
-                    },
-                );
-                Some(Made {
-                    wanted,
-                    word,
-                    repair: None,
-                })
-            }
-            None => self.read_any(order, wanted, at),
+        self.make(
+            order,
+            Brought {
+                memory: word,
+                ..Brought::nothing()
+            },
+        );
+        Made {
+            wanted,
+            word,
+            repair: None,
         }
     }
 
@@ -447,19 +435,17 @@ impl Machine {
         }
     }
 
-    /// Makes the exchange that is wanted, for which a sound word was found or not, lets all copies latch, and answers what was made. An error is the port of the device that
-    /// failed; then nothing has changed.
+    /// Makes the exchange that is wanted where there is one, and no sound word was found for it. It answers as `exchange` does.
     #[inline(always)]
-    pub(crate) fn exchange(
+    fn exchange_any(
         &mut self,
         order: &Order,
         wanted: &Wanted,
-        sound: Option<Word>,
         devices: &mut Vec<Box<dyn PortDevice>>,
     ) -> Result<Option<Made>, u8>
         requires may { MayMake self.old }
         requires there { IsThereFor self.old.banks wanted.now }
-        requires sound { IsFoundSound self.old (read_of_wish wanted.now) sound }
+        requires some { wanted.now ≢ wishes.Nothing }
         requires due { IsDue self.old.pace self.old.steps wanted.now }
         requires fit { AreFit device_of spare (exchanges_to_come self.old) devices.old.items }
         ensures shows { OnOk result ((o : Trial) (v : Voted) → Shows o self.old (map device_of devices.old.items) v
@@ -474,18 +460,54 @@ impl Machine {
         ensures fit { AreFit device_of spare (exchanges_to_come self.new) devices.new.items }
     {
         match *wanted {
-            Wanted::Nothing => {
-                self.make(order, Brought::nothing());
-                Ok(Some(Made::without_a_word(Wanted::Nothing)))
-            }
-            Wanted::Fetch(at) => Ok(self.read(order, Wanted::Fetch(at), at, sound)),
-            Wanted::Operand(at) => Ok(self.read(order, Wanted::Operand(at), at, sound)),
+            Wanted::Nothing => unreachable!(),
+            Wanted::Fetch(at) => Ok(self.read_any(order, Wanted::Fetch(at), at)),
+            Wanted::Operand(at) => Ok(self.read_any(order, Wanted::Operand(at), at)),
             Wanted::Store { at, word } => {
                 self.store(order, at, word);
                 Ok(Some(Made::without_a_word(Wanted::Store { at, word })))
             }
             Wanted::PortRead(port) => self.read_port(order, port, devices),
             Wanted::PortWrite { port, word } => self.write_port(order, port, word, devices),
+        }
+    }
+
+    /// Makes the exchange that is wanted, for which a sound word was found or not, lets all copies latch, and answers what was made. An error is the port of the device that
+    /// failed; then nothing has changed.
+    #[inline(always)]
+    pub(crate) fn exchange(
+        &mut self,
+        order: &Order,
+        wanted: &Wanted,
+        sound: Option<Word>,
+        devices: &mut Vec<Box<dyn PortDevice>>,
+    ) -> Result<Option<Made>, u8>
+        requires may { MayMake self.old }
+        requires there { IsThereFor self.old.banks wanted.now }
+        requires sound { IsFoundSound self.old (read_of_wish wanted.now) sound }
+        requires read { IsSome sound → IsSome (read_of_wish wanted.now) }
+        requires due { IsDue self.old.pace self.old.steps wanted.now }
+        requires fit { AreFit device_of spare (exchanges_to_come self.old) devices.old.items }
+        ensures shows { OnOk result ((o : Trial) (v : Voted) → Shows o self.old (map device_of devices.old.items) v
+            → Shows o self.new (map device_of devices.new.items) (exchanges o v wanted.now)) }
+        ensures told { IfOk result (λ made. (o : Trial) (v : Voted) → Shows o self.old (map device_of devices.old.items) v
+            → made ≡ exchange_made o v wanted.now) }
+        ensures made { OnOk result (IsMade self.old self.new) }
+        ensures since { OnOk result (Since device_of faults devices.old.items devices.new.items) }
+        ensures named { IfErr result (λ failed. NamesPort wanted.now failed) }
+        ensures fails { IfErr result (λ failed. Fails device_of faults failed devices.old.items devices.new.items) }
+        ensures unchanged { OnErr result (self.new ≡ self.old) }
+        ensures fit { AreFit device_of spare (exchanges_to_come self.new) devices.new.items }
+    {
+        if let Some(word) = sound {
+            return Ok(Some(self.take(order, *wanted, word)));
+        }
+        match wanted {
+            Wanted::Nothing => {
+                self.make(order, Brought::nothing());
+                Ok(Some(Made::without_a_word(Wanted::Nothing)))
+            }
+            _ => self.exchange_any(order, wanted, devices),
         }
     }
 

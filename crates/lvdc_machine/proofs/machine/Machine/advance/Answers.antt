@@ -125,5 +125,5 @@ returns-in-Err-clause-told g c = λ o r t h. told-failed _ _ _ _ (ap (λ (m : Vi
 
 pub verdict-requires-clause-sound : goal.verdict-requires-clause-sound
 verdict-requires-clause-sound g c = λ some.
-    sound-recovered c.begin.new.self (read_of_wish c.wanted-wanted.result) c.sound_word-sound.result (rw c.read_of.ensures.value at c.sound_word-sound.ensures)
+    sound-recovered c.begin.new.self (read_of_wish c.wanted-wanted.result) c.sound_word-sound.result (rw c.read_of.ensures.value at c.sound_word-sound.ensures.sound)
     (sym c.is_some.ensures ∙ some)
