@@ -21,7 +21,7 @@ use Rattle.lvdc_forces.specs.Parts.{StaysUntil, faults_in, no_part, part_at, eve
 use Rattle.lvdc_forces.specs.Shares.{no_share, share_at, share_with, share_on, share_of, share_next, share_join}
 use Rattle.lvdc_forces.specs.declared.in_force.Faults.{Faults}
 use Rattle.lvdc_forces.specs.declared.known.Known.{Known}
-use Rattle.lvdc_forces.specs.declared.parts.Part.{Part}
+use Rattle.lvdc_forces.specs.declared.part.Part.{Part}
 use Rattle.lvdc_forces.specs.declared.shares.Share.{Share}
 use Rattle.lvdc_forces.proofs.Joins.{idle, idle_next, joined_none, join_shares}
 
@@ -66,12 +66,12 @@ module _ (s t m c : ℕ) where
   same_share es h = λ j. share_with (same_wrong es h j) (same_deaf es h j) (harm_of (same_hurts_on es h j))
 
 -- what is worked out for a step is right while no event of the part begins or has ended
-pub right_part : (es : List Event) (step until : ℕ) (shares : List Share) → ((n : ℕ) → n < 21 → share_at shares n ≡ share_on es step (n / 3 + 1) (n % 3 + 1))
-    → All (StaysUntil step until) es → IsRight es step (record { until = until; shares = shares })
-right_part es step until shares at stays n t h low high =
+pub right_part : (es : List Event) (step : ℕ) (p : Part) → ((n : ℕ) → n < 21 → share_at p.shares n ≡ share_on es step (n / 3 + 1) (n % 3 + 1))
+    → All (StaysUntil step p.until) es → IsRight es step p
+right_part es step p at stays n t h low high =
     at n h
     ∙ sym (same_share step t (n / 3 + 1) (n % 3 + 1) es
-    (All-weaker (StaysUntil step until) (Same step t (n / 3 + 1) (n % 3 + 1)) (λ e same. same t (n / 3 + 1) (n % 3 + 1) low high) es stays))
+    (All-weaker (StaysUntil step p.until) (Same step t (n / 3 + 1) (n % 3 + 1)) (λ e same. same t (n / 3 + 1) (n % 3 + 1) low high) es stays))
 
 -- ---- what is known
 

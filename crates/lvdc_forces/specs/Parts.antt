@@ -1,12 +1,12 @@
 -- A script in parts of 256 events: what each part does to each copy, and for how long; and what is known of all copies by that.
-use Rattle.std.specs.Prelude.{◌≡◌, ℕ, zero, suc, ◌+◌, ◌*◌, ◌/◌, ◌%◌, ◌≤◌, ◌<◌, if◌then◌else◌, List, length, take, drop, replicate, slice_index_or}
+use Rattle.std.specs.Prelude.{◌≡◌, ℕ, zero, suc, false, ◌+◌, ◌*◌, ◌/◌, ◌%◌, ◌≤◌, ◌<◌, if◌then◌else◌, List, length, take, drop, replicate, slice_index_or, refl}
 use Rattle.lvdc_fault.specs.Script.{makes_wrong, is_wrong, wrong_module}
 use Rattle.lvdc_fault.specs.declared.event.Event.{Event}
 use Rattle.lvdc_forces.specs.InForce.{no_faults, mark_at, IsInForce}
 use Rattle.lvdc_forces.specs.Shares.{no_share, harm_in, share_at, share_of, share_join}
 use Rattle.lvdc_forces.specs.declared.shares.Share.{Share}
 use Rattle.lvdc_forces.specs.declared.in_force.Faults.{Faults}
-use Rattle.lvdc_forces.specs.declared.parts.Part.{Part}
+use Rattle.lvdc_forces.specs.declared.part.Part.{Part}
 use Rattle.lvdc_forces.specs.declared.known.Known.{Known}
 use Rattle.lvdc_forces.specs.declared.forces.Forces.{Forces}
 
@@ -16,7 +16,7 @@ StaysUntil step until e = (t m c : ℕ) → step ≤ t → t < until → makes_w
 
 -- nothing is known of a part
 abbrev pub no_part : Part
-no_part = record { until = 0; shares = replicate 21 no_share }
+no_part = record { until = 0; names_any = false; shares = replicate 21 no_share; told = refl }
 
 -- a part by its number
 abbrev pub part_at : List Part → ℕ → Part

@@ -10,7 +10,8 @@ ghost use Rattle.lvdc_forces.specs.Parts.{events_of, no_part, part_at, AreForces
 
 use crate::in_force::InForce;
 use crate::known::Known;
-use crate::parts::{Part, renew};
+use crate::part::Part;
+use crate::parts::renew;
 use lvdc_fault::Script;
 use lvdc_word::NoMemory;
 use std::alloc::Global;

@@ -10,7 +10,8 @@ ghost use Rattle.lvdc_forces.specs.Parts.{faults_in, total_of, IsKnown};
 ghost use Rattle.lvdc_forces.specs.Shares.{share_at, share_of};
 
 use crate::in_force::{Faults, InForce};
-use crate::parts::{Part, total};
+use crate::part::Part;
+use crate::parts::add_part;
 use crate::shares::Share;
 
 /// What is in force on each copy, which copies are wrong, and the lowest module with two of them.
@@ -54,8 +55,8 @@ fn totals(parts: &[Part]) -> [Share; 21]
     ensures { (n : ℕ) → n < 21 → share_at result n ≡ total_of parts.now n (length parts.now) }
 {
     let mut shares = [Share::none(); 21];
-    for number in 0..21 {
-        shares[number] = total(parts, number);
+    for part in parts {
+        add_part(part, &mut shares);
     }
     shares
 }

@@ -5,6 +5,7 @@
 mod forces;
 mod in_force;
 mod known;
+mod part;
 mod parts;
 mod shares;
 

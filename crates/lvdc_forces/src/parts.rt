@@ -4,48 +4,27 @@
 ghost use Rattle.std.specs.Prelude.{◌≡◌, ℕ, ◌+◌, ◌-◌, ◌*◌, ◌/◌, ◌%◌, ◌≤◌, ◌<◌, ◌^◌, true, false, length, take, drop, All};
 ghost use Rattle.lvdc_fault.specs.Events.{IsEvent};
 ghost use Rattle.lvdc_fault.specs.Script.{is_within};
-ghost use Rattle.lvdc_forces.specs.Parts.{StaysUntil, IsRight, events_of, no_part, part_at, share_then, total_of};
+ghost use Rattle.lvdc_forces.specs.Parts.{StaysUntil, IsRight, events_of, share_then};
 ghost use Rattle.lvdc_forces.specs.Shares.{share_at, share_on};
 
+use crate::part::Part;
 use crate::shares::{Share, add_event};
 use lvdc_fault::{Event, Script};
 
-/// What the events of a part do to each of the 21 copies, up to the first step at which one of them begins or has ended. Copy `n`
-/// is copy `n % 3` of module `n / 3`, both counted from 0.
-#[derive(Clone, Copy, Debug)]
-pub struct Part {
-    pub(crate) until: u64,
-    pub(crate) shares: [Share; 21],
-}
-
-impl Part {
-    /// Nothing is known.
-    pub(crate) fn none() -> Part
-        ensures { result ≡ no_part }
-    {
-        Part {
-            until: 0,
-            shares: [Share::none(); 21],
-        }
-    }
-
-    /// The part of this number of a script, from a step on.
-    fn of_script(script: &Script, number: usize, step: u64) -> Part
-        requires events { All IsEvent script.now }
-        requires number { 256 * number ≤ length script.now }
-        requires bound { step < 2 ^ 63 }
-        ensures right { IsRight (events_of script.now number) step result }
-        ensures later { step < result.until }
-    {
-        let length = script.len();
-        let from = 256 * number;
-        let left = length - from;
-        let to = from + left.min(256);
-        Part {
-            until: until_of(script, from, to, step),
-            shares: shares_of(script, from, to, step),
-        }
-    }
+/// The part of this number of a script, from a step on.
+fn part_of(script: &Script, number: usize, step: u64) -> Part
+    requires events { All IsEvent script.now }
+    requires number { 256 * number ≤ length script.now }
+    requires bound { step < 2 ^ 63 }
+    ensures right { IsRight (events_of script.now number) step result }
+    ensures later { step < result.until }
+{
+    let length = script.len();
+    let from = 256 * number;
+    let left = length - from;
+    let to = from + left.min(256);
+    let until = until_of(script, from, to, step);
+    Part::of_shares(shares_of(script, from, to, step), until)
 }
 
 /// What the events from a position up to another do to each copy in a step.
@@ -119,7 +98,7 @@ pub(crate) fn renew(script: &Script, number: usize, at: u64, step: u64, part: &m
     ensures until { result ≡ part.new.until }
 {
     if is_due(part, at, step) {
-        *part = Part::of_script(script, number, step);
+        *part = part_of(script, number, step);
     }
     part.until
 }
@@ -132,25 +111,31 @@ fn is_due(part: &Part, at: u64, step: u64) -> bool
     step < at || part.until <= step
 }
 
-/// What all parts do to a copy.
-pub(crate) fn total(parts: &[Part], number: usize) -> Share
-    requires { number < 21 }
-    ensures { result ≡ total_of parts.now number (length parts.now) }
+/// What is done to each copy, and what a part does after it. A part that names no copy costs one look.
+pub(crate) fn add_part(part: &Part, shares: &mut [Share; 21])
+    ensures count { length shares.new ≡ 21 }
+    ensures shares { (n : ℕ) → n < 21 → share_at shares.new n ≡ share_then (share_at shares.old n) (share_at part.now.shares n) }
 {
-    let mut share = Share::none();
-    for part in parts {
-        share = then(share, &part.shares[number]);
+    if part.names_any {
+        add_shares(&part.shares, shares);
     }
-    share
+}
+
+/// What is done to each copy, and what comes after it.
+fn add_shares(later: &[Share; 21], shares: &mut [Share; 21])
+    ensures count { length shares.new ≡ 21 }
+    ensures shares { (n : ℕ) → n < 21 → share_at shares.new n ≡ share_then (share_at shares.old n) (share_at later.now n) }
+{
+    for number in 0..21 {
+        add_share(&later[number], &mut shares[number]);
+    }
 }
 
 /// What is done to a copy, and what comes after it, if that names the copy.
-fn then(share: Share, later: &Share) -> Share
-    ensures { result ≡ share_then share later.now }
+fn add_share(later: &Share, share: &mut Share)
+    ensures { share.new ≡ share_then share.old later.now }
 {
     if later.named {
-        share.join(later)
-    } else {
-        share
+        *share = share.join(later);
     }
 }

@@ -1,7 +1,7 @@
 use Rattle.std.proofs.Common.{◌≡◌, ℕ, ◌<◌, ◌≤◌, List, length, sym, subst, arith}
 use Rattle.lvdc_forces.specs.Parts.{total_of, IsKnown}
 use Rattle.lvdc_forces.specs.Shares.{share_of}
-use Rattle.lvdc_forces.specs.declared.parts.Part.{Part}
+use Rattle.lvdc_forces.specs.declared.part.Part.{Part}
 use Rattle.lvdc_forces.proofs.PartLaws.{totals_right}
 use Rattle.lvdc_forces.proofs.forces.Forces.renew.Goals as goal
 
