@@ -11,20 +11,21 @@ use crate::part::Part;
 use crate::shares::{Share, add_event};
 use lvdc_fault::{Event, Script};
 
-/// The part of this number of a script, from a step on.
-fn part_of(script: &Script, number: usize, step: u64) -> Part
+/// Works out the part of this number of a script, from a step on. It stays a call, so that a part that is kept costs one look.
+#[inline(never)]
+fn work_out(script: &Script, number: usize, step: u64, part: &mut Part)
     requires events { All IsEvent script.now }
     requires number { 256 * number ≤ length script.now }
     requires bound { step < 2 ^ 63 }
-    ensures right { IsRight (events_of script.now number) step result }
-    ensures later { step < result.until }
+    ensures right { IsRight (events_of script.now number) step part.new }
+    ensures later { step < part.new.until }
 {
     let length = script.len();
     let from = 256 * number;
     let left = length - from;
     let to = from + left.min(256);
     let until = until_of(script, from, to, step);
-    Part::of_shares(shares_of(script, from, to, step), until)
+    *part = Part::of_shares(shares_of(script, from, to, step), until);
 }
 
 /// What the events from a position up to another do to each copy in a step.
@@ -98,7 +99,7 @@ pub(crate) fn renew(script: &Script, number: usize, at: u64, step: u64, part: &m
     ensures until { result ≡ part.new.until }
 {
     if is_due(part, at, step) {
-        *part = part_of(script, number, step);
+        work_out(script, number, step, part);
     }
     part.until
 }

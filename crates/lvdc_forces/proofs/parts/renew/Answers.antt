@@ -7,7 +7,7 @@ pub returns-clause-right : goal.returns-clause-right
 returns-clause-right c before =
     let es = events_of c.args.script.now c.args.number in
     elim c.if-is_due.branch [
-      | then-is_due w ↦ subst (IsRight es c.args.step) (sym w.part-is) w.part_of.ensures.right
+      | then-is_due w ↦ subst (IsRight es c.args.step) (sym w.part-is) w.work_out.ensures.right
       | else-is_due w ↦
           subst (IsRight es c.args.step) (sym w.part-is)
           (λ n t h low high. before n t h (omega (arith, low, c.is_due.ensures.at w.if-is_due.false)) high)

@@ -5,7 +5,7 @@ use Rattle.lvdc_forces.specs.Parts.{StaysUntil, events_of}
 use Rattle.lvdc_forces.specs.Shares.{share_at, share_on}
 use Rattle.lvdc_forces.specs.declared.shares.Share.{Share}
 use Rattle.lvdc_forces.proofs.PartLaws.{right_part}
-use Rattle.lvdc_forces.proofs.parts.part_of.Goals as goal
+use Rattle.lvdc_forces.proofs.parts.work_out.Goals as goal
 
 pub returns-clause-right : goal.returns-clause-right
 returns-clause-right c =
