@@ -7,7 +7,7 @@ ghost use Rattle.lvdc_asm.specs.declared.fault.AsmFault.TheVariants.{NoMemory as
 
 use crate::AsmFault;
 use crate::data::DataPlace;
-use lvdc_index::Index;
+use lvdc_text::Index;
 use lvdc_source::Item;
 use std::alloc::Global;
 use std::marker::Model;

@@ -11,7 +11,7 @@ use Rattle.lvdc_plain.specs.Run.{Opening, run, IsOpening}
 use Rattle.lvdc_plain.specs.declared.records.Unplug.{Unplug}
 use Rattle.lvdc_fault.specs.declared.event.Event.{Event}
 use Rattle.lvdc_fault.specs.declared.verdict.Verdict.TheVariants.{Admissible}
-use Rattle.lvdc_laws_early.specs.Early.{BeginsFrom, AllBeginFrom, fault_free}
+use Rattle.lvdc_laws_runs.specs.Early.{BeginsFrom, AllBeginFrom, fault_free}
 use Rattle.lvdc_laws_voted.specs.Ends.{ShowsTimes}
 use Rattle.lvdc_model.specs.Judging.{first_bad, first_bad_below}
 use Rattle.lvdc_model.specs.Runs.{alone, guarded}

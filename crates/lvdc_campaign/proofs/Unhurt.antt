@@ -13,7 +13,7 @@ use Rattle.lvdc_machine.specs.Stands.{EndsAs, state_by}
 use Rattle.lvdc_machine.specs.Steps.{run_of}
 use Rattle.lvdc_machine.specs.declared.mode.Mode.{Mode}
 use Rattle.lvdc_machine.specs.declared.mode.Mode.TheVariants.{Through}
-use Rattle.lvdc_laws_guarded.specs.Guarded.{IsUnhurt, UnhurtBy}
+use Rattle.lvdc_laws_runs.specs.Guarded.{IsUnhurt, UnhurtBy}
 
 -- the end of a stop is no verdict
 no-verdict : (E : Outcome) (stop : Option Stop) (times : ℕ) → stop_end stop times ≡ Some E → ((step : ℕ) (why : Stop) → E ≡ Stopped step why → ⊥) → ⊥

@@ -7,7 +7,7 @@ use Rattle.lvdc_model.specs.Trial.{Trial}
 use Rattle.lvdc_model.specs.Voted.{Voted}
 use Rattle.lvdc_model.specs.declared.outcome.Outcome.{Outcome}
 use Rattle.lvdc_model.specs.declared.outcome.Outcome.TheVariants.{Done, Stopped, Inadmissible, Device}
-use Rattle.lvdc_laws_guarded.specs.Guarded.{GuardedBy}
+use Rattle.lvdc_laws_runs.specs.Guarded.{GuardedBy}
 use Rattle.lvdc_campaign.specs.Ran.{NoneFailed, verdict_in}
 
 -- where no device failed it is that of the first step that isn't admissible

@@ -2,7 +2,7 @@
 
 ghost use Rattle.std.specs.Prelude.{◌≡◌, ◌≤◌, IfSome, IsSomeAnd, slice_get};
 ghost use Rattle.lvdc_fault.specs.Script.{first_of};
-ghost use Rattle.lvdc_laws_early.specs.Early.{AllBeginFrom};
+ghost use Rattle.lvdc_laws_runs.specs.Early.{AllBeginFrom};
 
 use lvdc_fault::{Event, Script};
 use lvdc_machine::Snapshot;

@@ -3,7 +3,7 @@
 ghost use Rattle.std.specs.Prelude.{◌≡◌, ℕ, ◌+◌, ◌*◌, ◌≤◌, [], length, IfOk, All, None};
 ghost use Rattle.lvdc_fault.specs.Events.{IsEvent};
 ghost use Rattle.lvdc_fault.specs.declared.TheConstants.{MOST_EVENTS};
-ghost use Rattle.lvdc_laws_early.specs.Early.{AllBeginFrom};
+ghost use Rattle.lvdc_laws_runs.specs.Early.{AllBeginFrom};
 ghost use Rattle.lvdc_machine.specs.Calls.{IsFresh};
 ghost use Rattle.lvdc_machine.specs.Resumed.{StandsFrom};
 ghost use Rattle.lvdc_machine.specs.Stands.{Stands};

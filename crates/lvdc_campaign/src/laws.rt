@@ -4,7 +4,7 @@ ghost use Rattle.lvdc_port.specs.Device.{Device};
 ghost use Rattle.lvdc_plain.specs.Run.{Opening, run, IsOpening};
 ghost use Rattle.lvdc_plain.specs.Stands.{Stands};
 ghost use Rattle.lvdc_plain.specs.View as plain_view;
-ghost use Rattle.lvdc_laws_guarded.specs.Guarded.{UnhurtBy};
+ghost use Rattle.lvdc_laws_runs.specs.Guarded.{UnhurtBy};
 ghost use Rattle.lvdc_machine.specs.Shows.{Shows};
 ghost use Rattle.lvdc_machine.specs.Stands as machine;
 ghost use Rattle.lvdc_machine.specs.View.{View};
@@ -34,7 +34,7 @@ pub fn through_is_guarded()
 }
 
 /// A law: under a script without events a machine that goes through every fault and stands after whole times shows the plain run, with
-/// its devices, unless a device failed. `unhurt_follows` of `lvdc_laws_guarded` says the same of a machine that judges.
+/// its devices, unless a device failed. `unhurt_follows` of `lvdc_laws_runs` says the same of a machine that judges.
 pub fn unhurt_through()
     ensures { (o : Trial) (times : ℕ) (m : View) (devices : List Device) → IsOpening o.opening → m.mode ≡ Through → m.script ≡ []
         → machine.Stands o (3 * times) m devices → UnhurtBy m.end o times (machine.state_by m.end m.mode o (3 * times)) }

@@ -12,7 +12,7 @@ ghost use Rattle.lvdc_campaign.specs.Ran.{HasRun, HasRunPlainly, HasRunGuarded, 
 
 use crate::program::Program;
 use lvdc_fault::{Script, Verdict};
-use lvdc_laws_guarded::guarded_follows;
+use lvdc_laws_runs::guarded_follows;
 use lvdc_machine::{Machine, Mode, Orders, Outcome};
 use lvdc_plain::Plain;
 use lvdc_port::PortDevice;

@@ -4,7 +4,7 @@
 ghost use Rattle.std.specs.Prelude.{◌≡◌, ℕ, ◌*◌, ◌+◌, ◌/◌, ◌≤◌, ◌↔◌, length, map, IsTrue, IfOk, IfSome, IsSome, All};
 ghost use Rattle.lvdc_fault.specs.Events.{IsEvent};
 ghost use Rattle.lvdc_fault.specs.declared.TheConstants.{MOST_EVENTS, MOST_TIMES};
-ghost use Rattle.lvdc_laws_early.specs.Early.{AllBeginFrom};
+ghost use Rattle.lvdc_laws_runs.specs.Early.{AllBeginFrom};
 ghost use Rattle.lvdc_port.specs.Devices.{AreDistinct};
 ghost use Rattle.lvdc_plain.specs.Lists.{AreFit};
 ghost use Rattle.lvdc_plain.specs.Run.{Opening, run};
@@ -20,7 +20,7 @@ ghost use Rattle.lvdc_campaign.specs.Stations.{IsStation, IsFaultFree, IsUnderWa
 
 use crate::laws::stations_have_plain_devices;
 use lvdc_fault::Script;
-use lvdc_laws_early::machines_may_begin_late;
+use lvdc_laws_runs::machines_may_begin_late;
 use lvdc_machine::{Machine, Orders, Snapshot};
 use lvdc_plain::Unplug;
 use lvdc_port::PortDevice;

@@ -1,3 +1,4 @@
 pub mod Scripts
 pub mod Campaign
 pub mod Faults
+pub mod Study

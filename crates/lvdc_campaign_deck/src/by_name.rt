@@ -4,7 +4,7 @@ ghost use Rattle.std.specs.Prelude.{◌≡◌, ◌<◌, ◌^◌, ◌++◌, ◌�
 ghost use Rattle.lvdc_campaign_deck.specs.Scripts.{is_taken};
 
 use lvdc_fault::Named;
-use lvdc_index::Index;
+use lvdc_text::Index;
 use lvdc_word::NoMemory;
 use std::alloc::Global;
 use std::marker::Model;

@@ -21,14 +21,14 @@ use Rattle.lvdc_command_run.specs.Refusals as refusals
 use Rattle.lvdc_command_campaign.specs.Answers as study
 use Rattle.lvdc_macro.specs.Expansion.{Written, bytes_of}
 use Rattle.lvdc_macro.specs.declared.fault.MacroFault.{MacroFault}
-use Rattle.lvdc_command_macro.specs.Answers as expand
-use Rattle.lvdc_command_macro.specs.declared.reply.Form.{Form}
-use Rattle.lvdc_command_macro.specs.declared.reply.Form.TheVariants as form
-use Rattle.lvdc_command_uplink.specs.Answers as patch
-use Rattle.lvdc_command_uplink.specs.Faults.{refusal_status}
-use Rattle.lvdc_command_uplink.specs.Input.{Request, request_of}
-use Rattle.lvdc_command_uplink.specs.declared.fault.PatchFault.{PatchFault}
-use Rattle.lvdc_command_uplink.specs.declared.fault.PatchFault.TheVariants.{NoProgram, BadSection, BadLine, Image as OfImage}
+use Rattle.lvdc_command_asm.specs.Expanded as expand
+use Rattle.lvdc_command_asm.specs.declared.expand.Form.{Form}
+use Rattle.lvdc_command_asm.specs.declared.expand.Form.TheVariants as form
+use Rattle.lvdc_uplink.specs.Answers as patch
+use Rattle.lvdc_uplink.specs.Faults.{refusal_status}
+use Rattle.lvdc_uplink.specs.Input.{Request, request_of}
+use Rattle.lvdc_uplink.specs.declared.fault.PatchFault.{PatchFault}
+use Rattle.lvdc_uplink.specs.declared.fault.PatchFault.TheVariants.{NoProgram, BadSection, BadLine, Image as OfImage}
 use Rattle.lvdc_reply.proofs.Statuses.{refused-unfailed}
 use Rattle.lvdc_command_run.specs.declared.job.Engine.TheVariants.{Guarded}
 use Rattle.lvdc_command_run.specs.declared.job.Job.{Job}
@@ -38,7 +38,7 @@ use Rattle.lvdc_command_run.specs.Headline.{Headline}
 use Rattle.lvdc_command_run.proofs.Statuses.{refusal_is}
 use Rattle.lvdc_command_run.specs.Answers.{job_answer}
 use Rattle.lvdc_command_run.specs.Runs.{HasRunThat}
-use Rattle.lvdc_command_debug.specs.Answers.{session_answer, HasSessionThat}
+use Rattle.lvdc_debug.specs.Answers.{session_answer, HasSessionThat}
 use Rattle.lvdc_command_save.specs.Answers.{save_answer}
 use Rattle.lvdc_command_save.specs.Statuses.{HasSaveThat}
 use Rattle.lvdc_command_resume.specs.Answers.{resume_answer}

@@ -4,7 +4,7 @@ use Rattle.std.specs.Prelude.{codes}
 use Rattle.std.specs.declared.option.Option.TheVariants.{None, Some}
 use Rattle.lvdc_command_run.specs.declared.job.Engine.TheVariants.{Guarded, Through, Plain}
 use Rattle.lvdc_command_asm.specs.declared.reply.Product.TheVariants.{Image, Listing}
-use Rattle.lvdc_command_macro.specs.declared.reply.Form.TheVariants as form
+use Rattle.lvdc_command_asm.specs.declared.expand.Form.TheVariants as form
 use Rattle.lvdc_cli.specs.declared.command.Command.TheVariants.{Run, Soak, Assemble, Debug, Save, Resume, Campaign, Uplink, Expand}
 use Rattle.lvdc_reply.specs.Answer.{answer_with}
 use Rattle.lvdc_cli.specs.declared.due.Due.TheVariants.{ReadFault, TooLong, NoMemory}

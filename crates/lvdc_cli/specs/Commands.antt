@@ -15,11 +15,11 @@ use Rattle.lvdc_command_run.specs.Runs.{HasRunThat}
 use Rattle.lvdc_command_run.specs.Replies.{FailsInRun, IsUnanswered}
 use Rattle.lvdc_command_asm.specs.Answers.{source_answer}
 use Rattle.lvdc_command_campaign.specs.Answers.{study_answer, AdmissibleAreSame}
-use Rattle.lvdc_command_uplink.specs.Answers.{uplink_answer, IsHeard}
-use Rattle.lvdc_command_uplink.specs.Input.{Request, request_of}
-use Rattle.lvdc_command_macro.specs.Answers.{macro_answer}
-use Rattle.lvdc_command_debug.specs.Answers.{session_answer, HasSessionThat}
-use Rattle.lvdc_command_debug.specs.Replies.{FailsInSession, IsUnanswered as IsSessionUnanswered}
+use Rattle.lvdc_uplink.specs.Answers.{uplink_answer, IsHeard}
+use Rattle.lvdc_uplink.specs.Input.{Request, request_of}
+use Rattle.lvdc_command_asm.specs.Expanded.{macro_answer}
+use Rattle.lvdc_debug.specs.Answers.{session_answer, HasSessionThat}
+use Rattle.lvdc_debug.specs.Replies.{FailsInSession, IsUnanswered as IsSessionUnanswered}
 use Rattle.lvdc_command_save.specs.Answers.{save_answer}
 use Rattle.lvdc_command_save.specs.Replies.{FailsInSave, IsUnanswered as IsUnsaved}
 use Rattle.lvdc_command_save.specs.Statuses.{HasSaveThat}
@@ -28,7 +28,7 @@ use Rattle.lvdc_command_resume.specs.Answers.{resume_answer}
 use Rattle.lvdc_command_resume.specs.Replies.{FailsInResume, IsUnresumed}
 use Rattle.lvdc_command_resume.specs.Statuses.{HasResumeThat}
 use Rattle.lvdc_command_resume.specs.Reordered.{IsAnswerReordered}
-use Rattle.lvdc_laws_halves.specs.Alike.{AreAlike, AreAlikeInAnyOrder}
+use Rattle.lvdc_cli.specs.Alike.{AreAlike, AreAlikeInAnyOrder}
 use Rattle.lvdc_cli.specs.declared.TheConstants.{ROOM, SESSION_ROOM, SAVED_ROOM, RESUMED_ROOM}
 use Rattle.lvdc_cli.specs.declared.command.Command.{Command}
 use Rattle.lvdc_cli.specs.declared.command.Command.TheVariants.{Run, Soak, Assemble, Debug, Save, Resume, Campaign, Uplink, Expand}

@@ -5,3 +5,5 @@ pub mod Replies
 pub mod Outside
 pub mod Top
 pub mod Telling
+pub mod Alike
+pub mod Goes

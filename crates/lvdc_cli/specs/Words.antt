@@ -6,7 +6,7 @@ use Rattle.lvdc_text.specs.Numbers.{number_of, below}
 use Rattle.lvdc_text.specs.Words.{is}
 use Rattle.lvdc_command_run.specs.declared.job.Engine.TheVariants.{Guarded, Through, Plain}
 use Rattle.lvdc_command_asm.specs.declared.reply.Product.TheVariants.{Image, Listing}
-use Rattle.lvdc_command_macro.specs.declared.reply.Form.TheVariants as form
+use Rattle.lvdc_command_asm.specs.declared.expand.Form.TheVariants as form
 use Rattle.lvdc_cli.specs.declared.TheConstants.{LIMIT, SAVED_LIMIT}
 use Rattle.lvdc_cli.specs.declared.command.Command.{Command}
 use Rattle.lvdc_cli.specs.declared.command.Command.TheVariants.{Run, Soak, Assemble, Debug, Save, Resume, Campaign, Uplink, Expand}

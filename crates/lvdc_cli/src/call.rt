@@ -10,10 +10,10 @@ ghost use Rattle.lvdc_cli.specs.Outside.{outside};
 ghost use Rattle.lvdc_cli.specs.Top.{IsTold, IsEnd, IsRefusal, IsWanting, GivesReply, GivesHeadline, GivesAnswer, ReadsAll, UsageHasCause, RunHasCause, ReadFaultHasCause, WriteFaultHasCause, DeviceFaultHasCause, TooLongHasCause};
 
 use crate::due::due_of;
-use lvdc_command_debug::session_statuses;
 use lvdc_command_resume::resume_statuses;
 use lvdc_command_run::{headline_told, statuses_caused};
 use lvdc_command_save::save_statuses;
+use lvdc_debug::session_statuses;
 use lvdc_port::PortDevice;
 use lvdc_text::{Sink, Source, write_all};
 use std::alloc::Global;

@@ -3,8 +3,7 @@ ghost use Rattle.lvdc_text.specs.Words.{texts};
 ghost use Rattle.lvdc_cli.specs.Words.{flagged, product_of, form_of, soak_number, times_of, of_one, of_two, command_of, reads_for, limit_of};
 
 use crate::{LIMIT, SAVED_LIMIT};
-use lvdc_command_asm::Product;
-use lvdc_command_macro::Form;
+use lvdc_command_asm::{Form, Product};
 use lvdc_command_run::Engine;
 use lvdc_text::decimal;
 

@@ -7,17 +7,16 @@ ghost use Rattle.lvdc_cli.specs.Commands.{IsLeftUnanswered, room_of};
 ghost use Rattle.lvdc_cli.specs.Replies.{IsReplyOf, IsAnswerOf, IsHeadlineOf, HoldsOf, ReplyHasCause, KeepsDevices};
 
 use crate::command::Command;
-use lvdc_command_asm::assemble_bytes;
+use crate::resume_saved;
+use lvdc_command_asm::{assemble_bytes, expand_bytes};
 use lvdc_command_campaign::study_bytes;
-use lvdc_command_debug::{debug_bytes, session_statuses};
-use lvdc_command_macro::expand_bytes;
 use lvdc_command_resume::resume_statuses;
 use lvdc_command_run::{Job, headline_told, run_job, statuses_caused};
 use lvdc_command_save::{save_bytes, save_statuses};
-use lvdc_command_uplink::patch_bytes;
-use lvdc_laws_halves::resume_saved;
+use lvdc_debug::{debug_bytes, session_statuses};
 use lvdc_port::PortDevice;
 use lvdc_reply::Reply;
+use lvdc_uplink::patch_bytes;
 use lvdc_word::NoMemory;
 use std::alloc::Global;
 

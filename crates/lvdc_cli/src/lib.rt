@@ -1,19 +1,24 @@
-//! The top call: command lines, what each command is answered, and how that is read and written.
+//! The top call: command lines, what each command is answered, and how that is read and written; and that the two halves of a run are
+//! the whole: what `save` wrote and `resume` read comes to what `run` makes of the deck.
 #![tactic(auto)]
 
 mod call;
 mod command;
 mod due;
+mod halves;
 mod join;
 mod laws;
+mod resumed;
 
 pub use call::lvdc;
 pub use command::{Command, read_command};
+pub use halves::saved_tells_run;
 pub use join::reply;
 pub use laws::source_is_printed;
 use lvdc_debug::LONGEST_SESSION;
 use lvdc_report::LONGEST_REPORT;
-use lvdc_save_print::LONGEST_SAVED;
+use lvdc_save::LONGEST_SAVED;
+pub use resumed::resume_saved;
 
 /// The input has at most so many bytes, but for `resume`.
 pub const LIMIT: usize = 1_048_576;

@@ -2,3 +2,4 @@ mod Rows
 mod Clear
 mod Plain
 mod Telling
+pub mod Alike

@@ -13,7 +13,7 @@ use Rattle.lvdc_command_run.specs.Accounts.{end_by, end_status}
 use Rattle.lvdc_command_run.specs.Answers.{run_answer}
 use Rattle.lvdc_command_run.specs.declared.job.Engine.TheVariants as engines
 use Rattle.lvdc_command_run.specs.declared.job.Job.TheVariants as jobs
-use Rattle.lvdc_laws_texts.specs.Texts.{TellsPlain}
+use Rattle.lvdc_command_form.specs.Texts.{TellsPlain}
 use Rattle.lvdc_command_form.specs.Plainly.{has_question_mark, IsAsPlain}
 use Rattle.lvdc_command_form.proofs.Clear.{Clear, ◌&◌, fixed, report-clear, counts-clear, repairs-clear}
 

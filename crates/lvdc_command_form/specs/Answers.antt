@@ -3,9 +3,9 @@ use Rattle.std.specs.Prelude.{ℕ, false, List, codes, Result, Ok, Err}
 use Rattle.std.specs.declared.option.Option.{Option}
 use Rattle.std.specs.declared.option.Option.TheVariants.{None, Some}
 use Rattle.lvdc_port.specs.Device.{Device}
-use Rattle.lvdc_masks.specs.Form.{first_unmet}
-use Rattle.lvdc_masks.specs.declared.condition.Condition.{Condition}
-use Rattle.lvdc_masks.specs.declared.condition.Condition.TheVariants.{Copies, Pairs, Places, Deaths}
+use Rattle.lvdc_withstands.specs.Form.{first_unmet}
+use Rattle.lvdc_withstands.specs.declared.condition.Condition.{Condition}
+use Rattle.lvdc_withstands.specs.declared.condition.Condition.TheVariants.{Copies, Pairs, Places, Deaths}
 use Rattle.lvdc_deck.specs.Deck.{deck_of}
 use Rattle.lvdc_deck.specs.declared.deck.Deck.{Deck}
 use Rattle.lvdc_deck.specs.declared.fault.DeckFault.{DeckFault}

@@ -7,7 +7,7 @@ use Rattle.lvdc_reply.specs.Answer.{Answer}
 use Rattle.lvdc_command_run.specs.Answers.{job_answer}
 use Rattle.lvdc_command_run.specs.declared.job.Engine.TheVariants as engines
 use Rattle.lvdc_command_run.specs.declared.job.Job.TheVariants as jobs
-use Rattle.lvdc_laws_texts.specs.Texts.{TellsPlain}
+use Rattle.lvdc_command_form.specs.Texts.{TellsPlain}
 
 -- a question mark stands in the text, as in the line of a word that can't be told
 abbrev pub has_question_mark : List ℕ → Bool

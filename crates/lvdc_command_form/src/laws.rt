@@ -1,7 +1,7 @@
 //! What the form of a script says of the answer of `run`, as a law: a function that does nothing.
 
 ghost use Rattle.std.specs.Prelude.{◌≡◌, ℕ, true};
-ghost use Rattle.lvdc_masks.specs.Form.{masks};
+ghost use Rattle.lvdc_withstands.specs.Form.{masks};
 ghost use Rattle.lvdc_plain.specs.Run.{IsOpening};
 ghost use Rattle.lvdc_model.specs.Trial.{Trial};
 ghost use Rattle.lvdc_command_run.specs.Answers.{run_answer};
@@ -14,6 +14,6 @@ pub fn form_is_answered()
     ensures { (o : Trial) (n : ℕ) → IsOpening o.opening → masks o.script o.opening.banks n ≡ true →
         IsAsPlain (run_answer (jobs.Deck engines.Guarded) o n) (run_answer (jobs.Deck engines.Plain) o n) }
 {
-    lvdc_laws_masking::form_masks();
-    lvdc_laws_texts::texts_agree();
+    lvdc_withstands::form_masks();
+    crate::texts_agree();
 }

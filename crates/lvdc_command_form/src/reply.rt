@@ -1,6 +1,6 @@
 ghost use Rattle.std.specs.Prelude.{◌≡◌, ◌<◌, ◌≤◌, ◌-◌, ◌^◌, length, map, true, None, IfOk};
 ghost use Rattle.lvdc_port.specs.Devices.{HoldWords};
-ghost use Rattle.lvdc_masks.specs.Form.{masks};
+ghost use Rattle.lvdc_withstands.specs.Form.{masks};
 ghost use Rattle.lvdc_reply.specs.Answer.{answer_of};
 ghost use Rattle.lvdc_report.specs.declared.report.TheConstants.{LONGEST_REPORT};
 ghost use Rattle.lvdc_command_form.specs.Answers.{form_text, unmet_in, form_answer};
@@ -9,9 +9,9 @@ ghost use Rattle.lvdc_command_form.specs.Plainly.{RunsAsPlain};
 use crate::laws::form_is_answered;
 use lvdc_command_run::{opens_with_words, refuse};
 use lvdc_deck::{Deck, read_deck};
-use lvdc_masks::{Condition, first_unmet};
 use lvdc_port::PortDevice;
 use lvdc_reply::Reply;
+use lvdc_withstands::{Condition, first_unmet};
 use lvdc_word::{NoMemory, Seq};
 use std::alloc::Global;
 

@@ -16,7 +16,7 @@ use Rattle.lvdc_model.specs.Voted.{Voted}
 use Rattle.lvdc_model.specs.declared.outcome.Outcome.{Outcome}
 use Rattle.lvdc_model.specs.declared.outcome.Outcome.TheVariants.{Done, Stopped, Inadmissible, Device}
 use Rattle.lvdc_laws_voted.specs.Ends.{Comes, ShowsTimes, IsBegun, stop_end}
-use Rattle.lvdc_laws_guarded.specs.Guarded.{IsExchanged, GuardedBy}
+use Rattle.lvdc_laws_runs.specs.Guarded.{IsExchanged, GuardedBy}
 use Rattle.lvdc_machine.specs.Stands.{Stands, EndsAs, HasFailed, state_by}
 use Rattle.lvdc_machine.specs.Steps.{NamesPort}
 use Rattle.lvdc_machine.specs.View.{View}

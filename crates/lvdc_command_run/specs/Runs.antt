@@ -9,7 +9,7 @@ use Rattle.lvdc_model.specs.declared.outcome.Outcome.TheVariants.{Done, Stopped,
 use Rattle.lvdc_model.specs.Judging.{first_bad, first_bad_below}
 use Rattle.lvdc_model.specs.Runs.{through}
 use Rattle.lvdc_model.specs.Trial.{Trial, plain_at}
-use Rattle.lvdc_laws_guarded.specs.Guarded.{IsExchanged}
+use Rattle.lvdc_laws_runs.specs.Guarded.{IsExchanged}
 use Rattle.lvdc_machine.specs.Stands.{HasFailed}
 use Rattle.lvdc_machine.specs.declared.mode.Mode.TheVariants as modes
 use Rattle.lvdc_deck.specs.Deck.{deck_of}

@@ -21,7 +21,7 @@ ghost use Rattle.lvdc_command_run.specs.declared.job.Engine.TheVariants as engin
 
 use crate::ready::{Ready, make_ready};
 use lvdc_deck::Deck;
-use lvdc_laws_guarded::{failed_exchange, guarded_follows};
+use lvdc_laws_runs::{failed_exchange, guarded_follows};
 use lvdc_machine::{Machine, Mode, Outcome};
 use lvdc_plain::{Plain, PlainEnd};
 use lvdc_port::{PortDevice, supply_all};

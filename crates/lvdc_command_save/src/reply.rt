@@ -3,7 +3,7 @@ ghost use Rattle.lvdc_port.specs.Devices.{AreDistinct};
 ghost use Rattle.lvdc_deck.specs.declared.fault.DeckFault.TheVariants.{NoMemory as WantsMemory};
 ghost use Rattle.lvdc_reply.specs.Answer.{answer_with};
 ghost use Rattle.lvdc_command_run.specs.Trials.{IsRunnable};
-ghost use Rattle.lvdc_save_print.specs.declared.TheConstants.{LONGEST_SAVED};
+ghost use Rattle.lvdc_save.specs.declared.TheConstants.{LONGEST_SAVED};
 ghost use Rattle.lvdc_command_save.specs.Answers.{deck_for};
 ghost use Rattle.lvdc_command_save.specs.Halves.{IsSavedRun, IsSaveOf};
 ghost use Rattle.lvdc_command_save.specs.Replies.{IsStop, IsAnswered, IsSaveReply, IsUnwritten, IsUnanswered};
@@ -14,7 +14,7 @@ use lvdc_command_run::{Ready, refuse, report_end};
 use lvdc_deck::{Deck, DeckFault, read_deck};
 use lvdc_port::PortDevice;
 use lvdc_reply::Reply;
-use lvdc_save_print::LONGEST_SAVED;
+use lvdc_save::LONGEST_SAVED;
 use lvdc_word::NoMemory;
 use std::alloc::Global;
 

@@ -9,7 +9,7 @@ ghost use Rattle.lvdc_command_save.specs.Replies.{IsUnwritten};
 
 use lvdc_command_run::{Ready, make_ready};
 use lvdc_deck::Deck;
-use lvdc_laws_guarded::{failed_exchange, guarded_follows};
+use lvdc_laws_runs::{failed_exchange, guarded_follows};
 use lvdc_machine::Mode;
 use lvdc_port::PortDevice;
 use lvdc_word::NoMemory;

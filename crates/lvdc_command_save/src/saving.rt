@@ -17,8 +17,7 @@ use lvdc_machine::{Machine, Snapshot};
 use lvdc_orders::Orders;
 use lvdc_port::PortDevice;
 use lvdc_reply::Reply;
-use lvdc_save::Saved;
-use lvdc_save_print::print_saved;
+use lvdc_save::{Saved, print_saved};
 use lvdc_word::{NoMemory, Seq};
 use std::alloc::Global;
 

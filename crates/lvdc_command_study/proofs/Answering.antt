@@ -13,8 +13,8 @@ use Rattle.lvdc_campaign_deck.specs.Faults.{name_of, line_of}
 use Rattle.lvdc_campaign_deck.specs.declared.fault.CampaignFault.{CampaignFault}
 use Rattle.lvdc_campaign_deck.specs.declared.fault.CampaignFault.TheVariants.{Deck, NoMemory as WantsMemory}
 use Rattle.lvdc_command_campaign.specs.Answers.{fault_status}
-use Rattle.lvdc_study_deck.specs.Study.{study_of}
-use Rattle.lvdc_study_deck.specs.declared.deck.StudyDeck.{StudyDeck}
+use Rattle.lvdc_campaign_deck.specs.Study.{study_of}
+use Rattle.lvdc_campaign_deck.specs.declared.study.StudyDeck.{StudyDeck}
 use Rattle.lvdc_study.specs.Failures.{FailsInRuns}
 use Rattle.lvdc_study.specs.Study.{rows_of, KeepsLaws}
 use Rattle.lvdc_study.specs.declared.fault.Unstudied.TheVariants.{Device as DeviceFailed}

@@ -15,7 +15,7 @@ use Rattle.lvdc_campaign_deck.specs.Campaign.{from_campaign}
 use Rattle.lvdc_campaign_deck.specs.Scripts.{scripts_from}
 use Rattle.lvdc_reply.specs.Answer.{Answer, answer_with}
 use Rattle.lvdc_report.specs.Voted.{counts_below}
-use Rattle.lvdc_study_deck.specs.Study.{other_line}
+use Rattle.lvdc_campaign_deck.specs.Study.{other_line}
 use Rattle.lvdc_study.specs.Outcomes.{least_below}
 use Rattle.lvdc_fault.specs.declared.verdict.Verdict.TheVariants.{Admissible, Logic, Memory}
 use Rattle.lvdc_report.specs.Report.{lines_of}

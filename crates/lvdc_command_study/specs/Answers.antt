@@ -8,8 +8,8 @@ use Rattle.lvdc_command_run.specs.Trials.{trial_of}
 use Rattle.lvdc_campaign_deck.specs.Faults.{name_of, line_of}
 use Rattle.lvdc_campaign_deck.specs.declared.fault.CampaignFault.{CampaignFault}
 use Rattle.lvdc_command_campaign.specs.Answers.{fault_status}
-use Rattle.lvdc_study_deck.specs.Study.{study_of}
-use Rattle.lvdc_study_deck.specs.declared.deck.StudyDeck.{StudyDeck}
+use Rattle.lvdc_campaign_deck.specs.Study.{study_of}
+use Rattle.lvdc_campaign_deck.specs.declared.study.StudyDeck.{StudyDeck}
 use Rattle.lvdc_study.specs.Study.{rows_of, KeepsLaws}
 use Rattle.lvdc_study.specs.declared.row.Row.{Row}
 use Rattle.lvdc_command_study.specs.Texts.{study_text}

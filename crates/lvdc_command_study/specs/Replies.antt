@@ -3,8 +3,8 @@ use Rattle.std.specs.Prelude.{◌≡◌, ℕ, List, Ok}
 use Rattle.lvdc_port.specs.Device.{Device}
 use Rattle.lvdc_reply.specs.Answer.{Answer}
 use Rattle.lvdc_command_run.specs.Trials.{trial_of}
-use Rattle.lvdc_study_deck.specs.Study.{study_of}
-use Rattle.lvdc_study_deck.specs.declared.deck.StudyDeck.{StudyDeck}
+use Rattle.lvdc_campaign_deck.specs.Study.{study_of}
+use Rattle.lvdc_campaign_deck.specs.declared.study.StudyDeck.{StudyDeck}
 use Rattle.lvdc_study.specs.Failures.{ExchangesInRuns}
 use Rattle.lvdc_command_study.specs.Answers.{study_answer, failed_answer}
 

@@ -5,8 +5,8 @@ use Rattle.lvdc_port.specs.Device.{Device}
 use Rattle.lvdc_reply.specs.declared.reply.Reply.{Reply}
 use Rattle.lvdc_campaign_deck.specs.Scripts.{CanRun}
 use Rattle.lvdc_campaign_deck.specs.declared.TheConstants.{MOST_EVENTS}
-use Rattle.lvdc_study_deck.specs.declared.TheConstants.{MOST_SCRIPTS}
-use Rattle.lvdc_study_deck.specs.declared.deck.StudyDeck.{StudyDeck}
+use Rattle.lvdc_campaign_deck.specs.declared.TheConstants.{MOST_STUDY_SCRIPTS}
+use Rattle.lvdc_campaign_deck.specs.declared.study.StudyDeck.{StudyDeck}
 use Rattle.lvdc_fault.specs.declared.TheConstants.{MOST_TIMES}
 use Rattle.lvdc_command_study.specs.Answers.{rows_in, failed_text}
 use Rattle.lvdc_command_study.specs.Replies.{ExchangesIn}
@@ -17,7 +17,7 @@ pub record IsRunnable (study : StudyDeck) : Type 0 where
   pub count : study.deck.count ≤ MOST_TIMES
   pub rising : are_rising study.deck.image.words ≡ true
   pub there : AllThere study.deck.banks study.deck.image.words
-  pub few : length study.scripts ≤ MOST_SCRIPTS
+  pub few : length study.scripts ≤ MOST_STUDY_SCRIPTS
   pub run : All (CanRun MOST_EVENTS) study.scripts
 
 -- a study is told by this reply: its rows, or the failure of a device with which a run of it comes to an exchange

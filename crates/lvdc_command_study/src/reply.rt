@@ -6,7 +6,7 @@ ghost use Rattle.lvdc_port.specs.Device.{Device};
 ghost use Rattle.lvdc_reply.specs.Answer.{answer_of};
 ghost use Rattle.lvdc_report.specs.declared.report.TheConstants.{LONGEST_REPORT};
 ghost use Rattle.lvdc_command_run.specs.Trials.{trial_of};
-ghost use Rattle.lvdc_study_deck.specs.declared.TheConstants.{MOST_SCRIPTS};
+ghost use Rattle.lvdc_campaign_deck.specs.declared.TheConstants.{MOST_STUDY_SCRIPTS};
 ghost use Rattle.lvdc_fault.specs.declared.TheConstants.{MOST_TIMES};
 ghost use Rattle.lvdc_study.specs.Failures.{FailsInRuns};
 ghost use Rattle.lvdc_study.specs.Study.{opening_over, IsProgram};
@@ -23,7 +23,7 @@ use lvdc_deck::Deck;
 use lvdc_port::PortDevice;
 use lvdc_reply::Reply;
 use lvdc_study::{Bench, Program, Row, Unstudied, rows_keep_laws, study_scripts};
-use lvdc_study_deck::{StudyDeck, read_study};
+use lvdc_campaign_deck::{StudyDeck, read_study};
 use lvdc_text::put_octal;
 use lvdc_word::{NoMemory, Seq};
 use std::alloc::Global;
@@ -63,7 +63,7 @@ fn make_rows<B: Bench>(alloc: Global, study: StudyDeck, bench: &B) -> Result<Vec
 /// Tells rows.
 fn tell_rows(alloc: Global, rows: &[Row]) -> Result<Reply, NoMemory>
     requires names { All (λ row. length row.name ≤ 8) rows.now }
-    requires few { length rows.now ≤ MOST_SCRIPTS }
+    requires few { length rows.now ≤ MOST_STUDY_SCRIPTS }
     ensures status { IfOk result (λ reply. reply.status ≡ 0) }
     ensures text { IfOk result (λ reply. reply.text ≡ study_text rows.now) }
     ensures short { IfOk result (λ reply. length reply.text ≤ LONGEST_REPORT) }

@@ -6,10 +6,10 @@ use Rattle.lvdc_port.specs.Devices.{NeverFail}
 use Rattle.lvdc_reply.specs.Answer.{Answer, answer_with}
 use Rattle.lvdc_reply.proofs.Statuses.{never-failed}
 use Rattle.lvdc_reply.specs.declared.reply.Reply.{Reply as Told}
-use Rattle.lvdc_inquiries.proofs.Studies.{studied}
-use Rattle.lvdc_inquiries.specs.Replies.{inquiry_answer, IsReplyTo, HoldsFor}
-use Rattle.lvdc_inquiries.specs.declared.inquiry.Inquiry.{Inquiry}
-use Rattle.lvdc_inquiries.specs.declared.inquiry.Inquiry.TheVariants.{Trace, Form, Study}
+use Rattle.lvdc_console.proofs.Studies.{studied}
+use Rattle.lvdc_console.specs.Replies.{inquiry_answer, IsReplyTo, HoldsFor}
+use Rattle.lvdc_console.specs.declared.words.Inquiry.{Inquiry}
+use Rattle.lvdc_console.specs.declared.words.Inquiry.TheVariants.{Trace, Form, Study}
 use Rattle.lvdc_console.specs.Inquired.{IsInquired}
 
 reply_over : {B : Type 0} (device_of : B → Device) (faults : B → ℕ) (inquiry : Inquiry) (bytes : List ℕ) (old new : List B) (told : Answer)

@@ -3,3 +3,5 @@ mod Rows
 mod Inquiring
 mod Held
 mod Benched
+pub mod Forms
+pub mod Studies

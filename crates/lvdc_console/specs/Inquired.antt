@@ -2,8 +2,8 @@
 use Rattle.std.specs.Prelude.{◌≡◌, ℕ, List}
 use Rattle.lvdc_port.specs.Device.{Device}
 use Rattle.lvdc_reply.specs.Answer.{answer_with}
-use Rattle.lvdc_inquiries.specs.Replies.{inquiry_answer, HoldsFor}
-use Rattle.lvdc_inquiries.specs.declared.inquiry.Inquiry.{Inquiry}
+use Rattle.lvdc_console.specs.Replies.{inquiry_answer, HoldsFor}
+use Rattle.lvdc_console.specs.declared.words.Inquiry.{Inquiry}
 
 -- An inquiry's reply over these bytes and devices, none of which ever fails, by its status and text: with some devices that are left it
 -- is the answer of the definition, and the inquiry's law holds.

@@ -3,3 +3,5 @@ pub mod Commands
 pub mod Inquiries
 pub mod Rack
 pub mod Inquired
+pub mod Words
+pub mod Replies

@@ -1,12 +1,12 @@
 ghost use Rattle.std.specs.Prelude.{◌≢◌, ◌≤◌, length, IfOk};
-ghost use Rattle.lvdc_inquiries.specs.Words.{most_bytes, IsInquiry};
+ghost use Rattle.lvdc_console.specs.Words.{most_bytes, IsInquiry};
 ghost use Rattle.lvdc_console.specs.Inquired.{IsInquired};
 ghost use Rattle.lvdc_console.specs.Rack.{rack};
 
 use crate::bench::Rack;
 use crate::devices::{four_tapes, other_devices, plug_in_four, sixteen_devices};
 use crate::rack::is_whole;
-use lvdc_inquiries::{Inquiry, inquire};
+use crate::{Inquiry, inquire};
 use lvdc_reply::Reply;
 use lvdc_report::LONGEST_REPORT;
 use lvdc_word::NoMemory;

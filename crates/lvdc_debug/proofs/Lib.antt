@@ -7,3 +7,8 @@ pub mod Entries
 pub mod Spent
 pub mod Spread
 mod SessionRows
+pub mod Making
+pub mod Endings
+pub mod Sessions
+pub mod Replies
+pub mod Statuses

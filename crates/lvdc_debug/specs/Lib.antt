@@ -3,3 +3,5 @@ pub mod Breaks
 pub mod Session
 pub mod Standing
 pub mod Room
+pub mod Answers
+pub mod Replies

@@ -2,8 +2,7 @@
 #![tactic(auto)]
 
 use lvdc_console::run;
-use lvdc_streams::{Retried, keep_memory};
-use lvdc_text::{StdSink, StdSource};
+use lvdc_text::{Retried, StdSink, StdSource, keep_memory};
 use std::process::ExitCode;
 use std::{env, io};
 

@@ -9,3 +9,9 @@ mod SaveRows
 mod SessionRows
 mod SourceRows
 mod UplinkRows
+mod InstructionRows
+mod MaskRows
+mod ModuleRows
+mod OrderRows
+mod ReplyRows
+mod ScriptRows

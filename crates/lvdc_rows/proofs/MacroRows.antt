@@ -2,8 +2,8 @@
 use Rattle.std.proofs.Common.{◌≡◌, [], refl}
 use Rattle.std.specs.Prelude.{codes}
 use Rattle.lvdc_asm.specs.Locations.{nothing}
-use Rattle.lvdc_command_macro.specs.Answers.{macro_answer}
-use Rattle.lvdc_command_macro.specs.declared.reply.Form.TheVariants.{Source, Image}
+use Rattle.lvdc_command_asm.specs.Expanded.{macro_answer}
+use Rattle.lvdc_command_asm.specs.declared.expand.Form.TheVariants.{Source, Image}
 use Rattle.lvdc_image.specs.Image.{image_text}
 use Rattle.lvdc_macro.specs.Expansion.{pieces, called, expanded_from, bytes_of}
 use Rattle.lvdc_macro.specs.Macros.{body_of}

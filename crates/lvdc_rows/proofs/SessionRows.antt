@@ -1,7 +1,7 @@
 -- Worked sessions over whole decks: status and text.
 use Rattle.std.proofs.Common.{◌≡◌, [], refl}
 use Rattle.std.specs.Prelude.{codes}
-use Rattle.lvdc_command_debug.specs.Answers.{session_answer}
+use Rattle.lvdc_debug.specs.Answers.{session_answer}
 use Rattle.lvdc_debug.specs.Commands.{syllable_in, count_in}
 use Rattle.lvdc_debug.specs.Session.{entries}
 use Rattle.lvdc_deck.specs.Deck.{commands_from, told_from, deck_from}

@@ -1,8 +1,8 @@
 -- Worked loads.
 use Rattle.std.proofs.Common.{◌≡◌, [], refl}
 use Rattle.std.specs.Prelude.{codes}
-use Rattle.lvdc_command_uplink.specs.Answers.{uplink_answer}
-use Rattle.lvdc_command_uplink.specs.Input.{from_heading}
+use Rattle.lvdc_uplink.specs.Answers.{uplink_answer}
+use Rattle.lvdc_uplink.specs.Input.{from_heading}
 use Rattle.lvdc_image.specs.Image.{image_text}
 use Rattle.lvdc_image.specs.Reading.{entry_in, words_from as words_told, banks_named, banks_in, image_of}
 use Rattle.lvdc_script_lines.specs.Fields.{pair_in, place_in}

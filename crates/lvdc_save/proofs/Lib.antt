@@ -9,3 +9,7 @@ mod EntryLines
 mod EntriesBack
 mod LinesBack
 mod Rows
+mod Texts
+mod Printing
+mod Sizes
+mod AllPrinted

@@ -4,3 +4,4 @@ pub mod Saved
 pub mod Reading
 pub mod Printed
 pub mod Faults
+pub mod Bounded

@@ -4,10 +4,10 @@ use Rattle.std.proofs.lemmas.List.{append-nil}
 use Rattle.lvdc_text.specs.Causes.{Rose}
 use Rattle.lvdc_text.specs.Streams.{SourceState}
 use Rattle.lvdc_console.specs.Commands.{Command, command_of, reads_for, limit_of, input_of}
-use Rattle.lvdc_frames.specs.Frames.{frame_line_of, cut_line, longest_line, frame_at}
-use Rattle.lvdc_frames.specs.Reading.{IsOpen}
-use Rattle.lvdc_frames.proofs.Uses.{uses_more}
-use Rattle.lvdc_frames.proofs.Following.{frame_open, frame_misread, frame_short, frame_read}
+use Rattle.lvdc_service.specs.Frames.{frame_line_of, cut_line, longest_line, frame_at}
+use Rattle.lvdc_service.specs.Reading.{IsOpen}
+use Rattle.lvdc_service.proofs.Uses.{uses_more}
+use Rattle.lvdc_service.proofs.Following.{frame_open, frame_misread, frame_short, frame_read}
 use Rattle.lvdc_service.specs.declared.frame.Next.{Next}
 use Rattle.lvdc_service.specs.declared.frame.Next.TheVariants.{Request as Asked, Ended, BadFrame, ReadFault}
 use Rattle.lvdc_console.specs.Rack.{rack}

@@ -3,3 +3,11 @@ mod Serving
 mod Inputs
 mod Determined
 mod Rows
+pub mod Uses
+pub mod CutLines
+pub mod Following
+mod Splitting
+mod Windows
+mod Heads
+mod FrameRows
+mod Apart

@@ -5,11 +5,11 @@ use Rattle.std.specs.Io.KnownBytes.{Appends}
 use Rattle.std.proofs.lemmas.List.{append-nil, take_at}
 use Rattle.lvdc_text.specs.Causes.{Rose}
 use Rattle.lvdc_text.specs.Streams.{SourceState, SinkState}
-use Rattle.lvdc_frames.specs.Frames.{Request, Frames, with_request, with_requests, no_request, frame_at, frames_within, frames_of, most_frames}
-use Rattle.lvdc_frames.specs.Reading.{Uses, to_come}
+use Rattle.lvdc_service.specs.Frames.{Request, Frames, with_request, with_requests, no_request, frame_at, frames_within, frames_of, most_frames}
+use Rattle.lvdc_service.specs.Reading.{Uses, to_come}
 use Rattle.lvdc_text.proofs.Transfers.{appends_none}
-use Rattle.lvdc_frames.proofs.Uses.{uses_none, uses_more}
-use Rattle.lvdc_frames.proofs.Following.{frames_nothing, frames_no_more, frames_first, frames_none}
+use Rattle.lvdc_service.proofs.Uses.{uses_none, uses_more}
+use Rattle.lvdc_service.proofs.Following.{frames_nothing, frames_no_more, frames_first, frames_none}
 use Rattle.lvdc_service.specs.Served.{Reply, IsReplyTo, AreReplies, all_bytes, bad_frame_reply, read_fault_reply}
 use Rattle.lvdc_service.specs.Service.{AreBytesOf, IsDue, ended, bad_frame, read_fault, under_way, at_the_end, IsServed, told as all_told, cut, IsServiceEnd}
 use Rattle.lvdc_service.specs.Turns.{stream, due_reply, IsFinished, whole, part, GoesOn, IsLast, reply_cut, ended as last_ended, bad_frame as last_bad_frame, read_fault as last_read_fault}

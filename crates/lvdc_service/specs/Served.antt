@@ -9,7 +9,7 @@ use Rattle.lvdc_console.specs.Rack.{rack}
 use Rattle.lvdc_console.specs.Over.{IsReplied}
 use Rattle.lvdc_console.specs.Inquired.{IsInquired}
 use Rattle.lvdc_console.specs.Inquiries.{inquiry_answer, inquiry_of, most_bytes, Inquiry}
-use Rattle.lvdc_frames.specs.Frames.{Request, Frames, frames_of}
+use Rattle.lvdc_service.specs.Frames.{Request, Frames, frames_of}
 
 -- ---- a reply
 

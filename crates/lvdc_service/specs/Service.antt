@@ -5,7 +5,7 @@ use Rattle.std.specs.declared.option.Option.TheVariants.{None, Some}
 use Rattle.std.specs.Io.KnownBytes.{Appends}
 use Rattle.lvdc_text.specs.Causes.{Rose}
 use Rattle.lvdc_text.specs.Streams.{SourceState, SinkState}
-use Rattle.lvdc_frames.specs.Frames.{Frames, frames_of}
+use Rattle.lvdc_service.specs.Frames.{Frames, frames_of}
 use Rattle.lvdc_service.specs.Served.{Reply, AreReplies, bad_frame_reply, read_fault_reply, all_bytes}
 
 -- the source's bytes are these, where it tells them

@@ -6,8 +6,8 @@ use Rattle.std.specs.Io.KnownBytes.{Appends}
 use Rattle.lvdc_text.specs.Causes.{Rose}
 use Rattle.lvdc_console.specs.Commands.{too_long_text}
 use Rattle.lvdc_text.specs.Streams.{SourceState, SinkState}
-use Rattle.lvdc_frames.specs.Frames.{Request, frame_at}
-use Rattle.lvdc_frames.specs.Reading.{Uses, to_come, IsShort}
+use Rattle.lvdc_service.specs.Frames.{Request, frame_at}
+use Rattle.lvdc_service.specs.Reading.{Uses, to_come, IsShort}
 use Rattle.lvdc_service.specs.declared.due.Due.{Due}
 use Rattle.lvdc_service.specs.declared.due.Due.TheVariants.{Usage, TooLong, Replied, NoMemory}
 use Rattle.lvdc_service.specs.declared.frame.Next.{Next}

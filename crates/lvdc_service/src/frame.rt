@@ -3,16 +3,16 @@ ghost use Rattle.std.specs.List.{list_all};
 ghost use Rattle.lvdc_text.specs.Words.{texts};
 ghost use Rattle.lvdc_console.specs.Commands.{command_of, reads_for, limit_of, input_of};
 ghost use Rattle.lvdc_console.specs.Inquiries.{inquiry_of, most_bytes, IsInquiry};
-ghost use Rattle.lvdc_frames.specs.Frames.{is_word};
-ghost use Rattle.lvdc_frames.specs.Parts.{part_of, LiesIn};
+ghost use Rattle.lvdc_service.specs.Frames.{is_word};
+ghost use Rattle.lvdc_service.specs.Parts.{part_of, LiesIn};
 ghost use Rattle.lvdc_service.specs.Served.{IsReplyTo};
 ghost use Rattle.lvdc_service.specs.Turns.{due_reply, stream, IsNextInput, IsNext};
 
 use crate::due::Due;
+use crate::{Header, InputEnd, Line, Reader, header_of, words_of};
 use lvdc_console::{
     Command, Inquiry, inquire_over_rack, read_command, read_inquiry, reply_over_rack,
 };
-use lvdc_frames::{Header, InputEnd, Line, Reader, header_of, words_of};
 use lvdc_text::Source;
 use std::alloc::Global;
 

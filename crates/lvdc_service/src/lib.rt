@@ -1,11 +1,20 @@
-//! The service: frames from a source, one reply to each, in their order, until the source ends or a call fails.
+//! The service: frames from a source, one reply to each, in their order, until the source ends or a call fails. A frame is a line and
+//! the bytes of its input; a reader takes pieces from a source and uses them frame by frame.
 #![tactic(auto)]
 
+mod apart;
 mod due;
 mod frame;
+mod header;
 mod laws;
+mod parts;
+mod reader;
 mod service;
 mod write;
 
+pub use apart::frames_are_apart;
+pub use header::{Header, header_of, words_of};
 pub use laws::replies_are_due;
+pub use parts::{Part, bytes_of};
+pub use reader::{InputEnd, Line, Reader};
 pub use service::{refuse, serve};

@@ -5,10 +5,10 @@ ghost use Rattle.lvdc_service.specs.Service.{IsServiceEnd};
 ghost use Rattle.lvdc_service.specs.Served.{reply_with, usage_text};
 ghost use Rattle.lvdc_service.specs.Turns.{stream, IsFinished, IsTurn};
 
+use crate::Reader;
 use crate::due::USAGE;
 use crate::frame::{Next, next_frame};
 use crate::write::{bad_frame, write_reply};
-use lvdc_frames::Reader;
 use lvdc_text::{Sink, Source, write_all};
 use std::alloc::Global;
 

@@ -20,7 +20,7 @@ use Rattle.lvdc_model.specs.Judging.{first_bad_below}
 use Rattle.lvdc_model.specs.Runs.{guarded, through}
 use Rattle.lvdc_model.specs.Trial.{Trial, plain_in}
 use Rattle.lvdc_model.specs.Voted.{Voted, voted_start}
-use Rattle.lvdc_laws_early.specs.Early.{AllBeginFrom}
+use Rattle.lvdc_laws_runs.specs.Early.{AllBeginFrom}
 use Rattle.lvdc_laws_voted.specs.Ends.{IsBegun, Comes, Good, Bad}
 use Rattle.lvdc_laws_voted.specs.Relation.{Goes, Halts}
 use Rattle.lvdc_machine.specs.Resumed.{FailedFrom}

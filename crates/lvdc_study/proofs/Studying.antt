@@ -4,10 +4,10 @@ use Rattle.std.proofs.lemmas.List.Elements.{All-map}
 use Rattle.lvdc_plain.specs.Run.{Opening, IsOpening}
 use Rattle.lvdc_fault.specs.declared.named.Named.{Named}
 use Rattle.lvdc_fault.specs.declared.verdict.Verdict.TheVariants.{Admissible}
-use Rattle.lvdc_masks.specs.Form.{masks}
+use Rattle.lvdc_withstands.specs.Form.{masks}
 use Rattle.lvdc_model.specs.Judging.{first_bad}
 use Rattle.lvdc_model.specs.Trial.{Trial}
-use Rattle.lvdc_laws_repair.specs.Withstood.{Masked}
+use Rattle.lvdc_withstands.specs.Withstood.{Masked}
 use Rattle.lvdc_campaign.specs.Campaign.{trial_under}
 use Rattle.lvdc_study.specs.Failures.{FailsUnder, FailsPlainly, plainly, under, FailsInRuns}
 use Rattle.lvdc_study.specs.Study.{row_of, rows_of, IsSame, KeepsLaws}

@@ -9,7 +9,7 @@ use Rattle.lvdc_plain.specs.Run.{Opening, run}
 use Rattle.lvdc_fault.specs.declared.named.Named.{Named}
 use Rattle.lvdc_fault.specs.declared.verdict.Verdict.{Verdict}
 use Rattle.lvdc_fault.specs.declared.verdict.Verdict.TheVariants.{Admissible}
-use Rattle.lvdc_masks.specs.Form.{masks}
+use Rattle.lvdc_withstands.specs.Form.{masks}
 use Rattle.lvdc_model.specs.declared.repair.Repair.{Repair}
 use Rattle.lvdc_model.specs.Judging.{first_bad}
 use Rattle.lvdc_model.specs.Runs.{through}

@@ -3,7 +3,7 @@
 ghost use Rattle.std.specs.Prelude.{◌≡◌, ◌≤◌, ◌/◌, length, map, All, OnOk, IfOk, IfErr};
 ghost use Rattle.lvdc_fault.specs.Events.{IsEvent};
 ghost use Rattle.lvdc_fault.specs.declared.TheConstants.{MOST_EVENTS};
-ghost use Rattle.lvdc_laws_early.specs.Early.{AllBeginFrom};
+ghost use Rattle.lvdc_laws_runs.specs.Early.{AllBeginFrom};
 ghost use Rattle.lvdc_port.specs.Devices.{AreDistinct};
 ghost use Rattle.lvdc_plain.specs.Lists.{Since};
 ghost use Rattle.lvdc_plain.specs.Run.{run};

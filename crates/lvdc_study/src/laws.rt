@@ -3,7 +3,7 @@ ghost use Rattle.lvdc_plain.specs.Run.{Opening, IsOpening};
 ghost use Rattle.lvdc_fault.specs.declared.event.Event.{Event};
 ghost use Rattle.lvdc_fault.specs.declared.named.Named.{Named};
 ghost use Rattle.lvdc_fault.specs.declared.verdict.Verdict.TheVariants.{Admissible};
-ghost use Rattle.lvdc_laws_early.specs.Early.{AllBeginFrom};
+ghost use Rattle.lvdc_laws_runs.specs.Early.{AllBeginFrom};
 ghost use Rattle.lvdc_machine.specs.View.{View};
 ghost use Rattle.lvdc_machine.specs.declared.mode.Mode.TheVariants.{Guarded};
 ghost use Rattle.lvdc_model.specs.Judging.{first_bad};
@@ -36,7 +36,7 @@ pub fn rows_keep_laws()
     ensures { (opening : Opening) (times : ℕ) (scripts : List Named) → IsOpening opening → All KeepsLaws (rows_of opening times scripts) }
 {
     admissible_comes_to_the_same();
-    lvdc_laws_masking::form_masks();
+    lvdc_withstands::form_masks();
 }
 
 /// A law: where all steps are admissible a machine that judges has counted and repaired what the run through every fault has.
@@ -53,7 +53,7 @@ pub(crate) fn fails_early()
     ensures { (opening : Opening) (script : List Event) (times count : ℕ) → IsOpening opening → AllBeginFrom (3 * times) script → times ≤ count
         → (e : Unstudied) → FailsPlainly opening times e → FailsUnder (trial_under opening script) count e }
 {
-    lvdc_laws_early::steps_begin_admissible();
+    lvdc_laws_runs::steps_begin_admissible();
     lvdc_laws_voted::guarded_run();
     lvdc_laws_voted::step_begun();
     lvdc_plain::stopped_run_stays();

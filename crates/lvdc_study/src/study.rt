@@ -2,7 +2,7 @@
 
 ghost use Rattle.std.specs.Prelude.{◌≡◌, map, true, All, IfOk, IfErr};
 ghost use Rattle.lvdc_fault.specs.declared.verdict.Verdict.TheVariants as verdicts;
-ghost use Rattle.lvdc_masks.specs.Form.{masks};
+ghost use Rattle.lvdc_withstands.specs.Form.{masks};
 ghost use Rattle.lvdc_port.specs.Devices.{AreDistinct};
 ghost use Rattle.std.specs.declared.option.Option.TheVariants.{None};
 ghost use Rattle.lvdc_campaign.specs.Campaign.{trial_under, IsScript};
@@ -18,9 +18,8 @@ use crate::runs::go_through;
 use crate::{Difference, Program, Row, Unstudied};
 use lvdc_campaign::{is_admissible, through_is_shown, verdict_of};
 use lvdc_fault::{Named, Script, Verdict};
-use lvdc_laws_masking::form_masks;
+use lvdc_withstands::{first_unmet, form_masks};
 use lvdc_machine::{Machine, Snapshot};
-use lvdc_masks::first_unmet;
 use lvdc_model::Repair;
 use lvdc_plain::Plain;
 use lvdc_port::PortDevice;

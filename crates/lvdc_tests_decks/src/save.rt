@@ -1,6 +1,5 @@
 use crate::rows::same;
-use lvdc_save::{CopyState, Entry, SaveFault};
-use lvdc_save_print::put_entry;
+use lvdc_save::{CopyState, Entry, SaveFault, put_entry};
 use lvdc_word::{Seq, Word};
 use std::test::Fail;
 

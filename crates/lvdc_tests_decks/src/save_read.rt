@@ -1,6 +1,6 @@
 use crate::rows::{column, comes, shown};
 use lvdc_port::{Latch, PortDevice, Recorder, Tape, Ticker};
-use lvdc_save_print::print_saved;
+use lvdc_save::print_saved;
 use lvdc_save_read::read_saved;
 use std::alloc::Global;
 use std::test::Fail;

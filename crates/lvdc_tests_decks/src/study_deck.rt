@@ -1,7 +1,6 @@
 use crate::rows::{bytes, same};
-use lvdc_campaign_deck::CampaignFault;
+use lvdc_campaign_deck::{CampaignFault, StudyDeck, read_study};
 use lvdc_port::PortDevice;
-use lvdc_study_deck::{StudyDeck, read_study};
 use std::alloc::Global;
 use std::test::Fail;
 

@@ -1,6 +1,6 @@
 use crate::rows::{column, comes, script_of, shown};
 use lvdc_map::Banks;
-use lvdc_masks::first_unmet;
+use lvdc_withstands::first_unmet;
 use std::test::Fail;
 
 /// The first condition that a script doesn't meet over three times, and its lines: one copy and one bit meet all, two copies

@@ -1,6 +1,5 @@
 //! What a study is answered.
-use lvdc_console::inquire_over_rack;
-use lvdc_inquiries::Inquiry;
+use lvdc_console::{Inquiry, inquire_over_rack};
 use lvdc_reply::Reply;
 use std::alloc::Global;
 use std::process::Abort;

@@ -8,3 +8,5 @@ pub mod Joining
 mod Found
 pub mod ReadBack
 mod Rows
+pub mod Founds
+mod Cut

@@ -7,3 +7,4 @@ pub mod Lines
 pub mod Words
 pub mod Joined
 pub mod Headings
+pub mod Lookups

@@ -4,3 +4,5 @@ pub mod Making
 pub mod Faithful
 pub mod Lengths
 pub mod Telling
+pub mod Answering
+pub mod Untelling

@@ -3,3 +3,5 @@ pub mod Votes
 pub mod Traces
 pub mod Going
 pub mod Plainly
+pub mod Answers
+pub mod Replies

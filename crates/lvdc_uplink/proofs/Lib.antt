@@ -12,3 +12,7 @@ pub mod Storing
 pub mod Hearing
 pub mod Holding
 pub mod AsHeard
+pub mod Steps
+pub mod Lengths
+pub mod Listening
+mod ReplyRows

@@ -4,3 +4,6 @@ pub mod Messages
 pub mod Link
 pub mod History
 pub mod Heard
+pub mod Input
+pub mod Faults
+pub mod Answers

@@ -1,8 +1,8 @@
 use Rattle.std.proofs.Common.{ap}
 use Rattle.lvdc_command_asm.specs.Answers as source
-use Rattle.lvdc_command_uplink.specs.Answers as patch
-use Rattle.lvdc_command_macro.specs.Answers as expand
-use Rattle.lvdc_command_uplink.specs.Input.{request_of}
+use Rattle.lvdc_uplink.specs.Answers as patch
+use Rattle.lvdc_command_asm.specs.Expanded as expand
+use Rattle.lvdc_uplink.specs.Input.{request_of}
 use Rattle.lvdc_cli.specs.Commands.{command_answer}
 use Rattle.lvdc_cli.proofs.Commands.{replied, study_replied, whatever, source_settled, patch_settled, expand_settled}
 use Rattle.lvdc_reply.proofs.Statuses.{if_ok_both}

@@ -1,5 +1,5 @@
 use Rattle.std.proofs.Common.{◌≡◌, ℕ, List, [], ◌∷◌, ◌++◌, Some, sym, subst}
-use Rattle.lvdc_frames.specs.Frames.{cut_line, longest_line}
+use Rattle.lvdc_service.specs.Frames.{cut_line, longest_line}
 use Rattle.lvdc_service.specs.Turns.{stream, Used}
 use Rattle.lvdc_service.proofs.Inputs.{frame_of_input, misread, opened}
 use Rattle.lvdc_service.proofs.frame.next_frame.Goals as goal

@@ -1,6 +1,6 @@
 use Rattle.std.proofs.Common.{ℕ, ◌*◌, ◌/◌, ◌≡◌, map, arith, refl, sym, ap, subst}
 use Rattle.lvdc_port.specs.Supplies.{ports_of}
-use Rattle.lvdc_laws_early.specs.Early.{AllBeginFrom}
+use Rattle.lvdc_laws_runs.specs.Early.{AllBeginFrom}
 use Rattle.lvdc_machine.specs.declared.mode.Pace.TheVariants.{ByStep}
 use Rattle.lvdc_machine.proofs.Refused.{since-same}
 use Rattle.lvdc_campaign.proofs.Stationed.{has_run-late}

@@ -1,4 +1,0 @@
-pub mod Steps
-pub mod Lengths
-pub mod Listening
-mod Rows

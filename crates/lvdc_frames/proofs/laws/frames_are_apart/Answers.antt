@@ -1,5 +1,0 @@
-use Rattle.lvdc_frames.proofs.Apart.{apart}
-use Rattle.lvdc_frames.proofs.laws.frames_are_apart.Goals as goal
-
-pub returns : goal.returns
-returns c = apart

@@ -1,6 +1,0 @@
-pub mod Idle
-pub mod Steps
-pub mod Runs
-pub mod Judged
-pub mod Machines
-mod Rows

@@ -1,5 +1,0 @@
-use Rattle.lvdc_laws_early.proofs.Runs.{guarded-same, alone-same, through-same}
-use Rattle.lvdc_laws_early.proofs.runs_begin_fault_free.Goals as goal
-
-pub returns : goal.returns
-returns c = record { guarded = guarded-same; alone = alone-same; through = through-same }

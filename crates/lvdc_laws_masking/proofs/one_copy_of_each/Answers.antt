@@ -1,5 +1,0 @@
-use Rattle.lvdc_laws_masking.proofs.Corollaries.{copies-mask}
-use Rattle.lvdc_laws_masking.proofs.one_copy_of_each.Goals as goal
-
-pub returns : goal.returns
-returns c o count copy ok h = c.form_withstands.ensures o count ok (copies-mask copy o.opening.banks count o.script h)

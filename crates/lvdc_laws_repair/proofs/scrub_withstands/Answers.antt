@@ -1,5 +1,0 @@
-use Rattle.lvdc_laws_repair.proofs.Spaced.{scrubs-repair}
-use Rattle.lvdc_laws_repair.proofs.scrub_withstands.Goals as goal
-
-pub returns : goal.returns
-returns c o count every ok h = c.repair_withstands.ensures o count ok (scrubs-repair o count every h)

@@ -1,0 +1,9 @@
+mod Following
+mod Exchanged
+mod Plainly
+pub mod Idle
+pub mod Steps
+pub mod Runs
+pub mod Judged
+pub mod Machines
+mod Rows

@@ -1,0 +1,30 @@
+-- Worked rows: from which step the events of a script begin.
+use Rattle.std.proofs.Common.{◌≤◌, [], ◌∷◌, arith}
+use Rattle.std.proofs.lemmas.List.Elements.{All-nil, All-cons, All-head, All-tail}
+use Rattle.lvdc_fault.specs.declared.event.Event.{Event}
+use Rattle.lvdc_fault.specs.declared.event.Event.TheVariants.{Flip, Damage}
+use Rattle.lvdc_laws_runs.specs.Early.{BeginsFrom, AllBeginFrom}
+
+-- a flip in the steps 9 to 12
+abbrev flip : Event
+flip = Flip 1 2 9 12 0 1
+
+-- damage in step 7
+abbrev damage : Event
+damage = Damage 0 (record { pair = 0; sector = 1; loc = 2 }) 7 3
+
+-- both begin at step 7 or later
+row-seven : AllBeginFrom 7 (flip ∷ damage ∷ [])
+row-seven = All-cons (BeginsFrom 7) flip (damage ∷ []) (omega arith) (All-cons (BeginsFrom 7) damage [] (omega arith) (All-nil (BeginsFrom 7)))
+
+-- damage in step 7 doesn't begin at step 8 or later
+row-eight : AllBeginFrom 8 (flip ∷ damage ∷ []) → ⊥
+row-eight h =
+    let late : 8 ≤ 7 = All-head (BeginsFrom 8) damage [] (All-tail (BeginsFrom 8) flip (damage ∷ []) h) in
+    omega (arith, late)
+
+-- nor does a flip that begins at step 9 and lasts until step 12 begin at step 10 or later
+row-ten : AllBeginFrom 10 (flip ∷ []) → ⊥
+row-ten h =
+    let late : 10 ≤ 9 = All-head (BeginsFrom 10) flip [] h in
+    omega (arith, late)

@@ -1,0 +1,9 @@
+//! Laws over runs of the machine. A guarded machine is the plain run, while faults stay admissible; and a script does nothing before
+//! its first event. Each is the contract of a function that does nothing when it runs, and that a proof cites by calling it.
+#![tactic(auto)]
+
+mod early;
+mod guarded;
+
+pub use early::{machines_may_begin_late, runs_begin_fault_free, steps_begin_admissible};
+pub use guarded::{failed_exchange, guarded_follows, guarded_keeps, guarded_words, unhurt_follows};

@@ -1,6 +1,0 @@
-mod InstructionRows
-mod MaskRows
-mod ModuleRows
-mod OrderRows
-mod ReplyRows
-mod ScriptRows

@@ -1,2 +1,0 @@
-//! Worked values of the parts beyond those in their own crates: rows that the checker computes. No crate stands on this one.
-#![tactic(auto)]

@@ -1,0 +1,183 @@
+//! The lines of a saved text, one by one.
+
+ghost use Rattle.std.specs.Prelude.{◌≡◌, ◌<◌, ◌≤◌, ◌^◌, ◌++◌, ◌+◌, map, length, OnOk, All};
+ghost use Rattle.lvdc_image.specs.Image.{IsPlaced};
+ghost use Rattle.lvdc_vote.specs.Copies.{IsFullOrder};
+ghost use Rattle.lvdc_fault.specs.Events.{TIMES};
+ghost use Rattle.lvdc_save.specs.declared.entry.Entry.TheVariants as says;
+ghost use Rattle.lvdc_save.specs.Lines.{copy_line, select_line, cell_line, word_line, state_line, unplug_line, order_line, entry_line};
+ghost use Rattle.lvdc_save.specs.Printed.{IsSupply, IsUnplug};
+
+use crate::Entry;
+use crate::events::put_fault;
+use crate::parts::{put_cell, put_number, put_spot, put_twins, put_word, put_words};
+use lvdc_image::put_simplex;
+use lvdc_map::{Banks, Placed};
+use lvdc_orders::Order;
+use lvdc_plain::Unplug;
+use lvdc_port::Supply;
+use lvdc_report::{put_exchange_line, put_repair_line};
+use lvdc_text::put_octal;
+use lvdc_twin::Held;
+use lvdc_word::{NoMemory, Word};
+
+/// Adds the STEPS line.
+pub(crate) fn put_steps(out: &mut Vec<u8>, steps: u64) -> Result<(), NoMemory>
+    ensures { OnOk result (out.new.items ≡ out.old.items ++ entry_line (says.Steps steps)) }
+{
+    out.extend_from_slice(b"STEPS")?;
+    put_number(out, steps)?;
+    out.extend_from_slice(b"\n")?;
+    Ok(())
+}
+
+/// Adds the COUNT line.
+pub(crate) fn put_count(out: &mut Vec<u8>, count: u64) -> Result<(), NoMemory>
+    ensures { OnOk result (out.new.items ≡ out.old.items ++ entry_line (says.Count count)) }
+{
+    out.extend_from_slice(b"COUNT")?;
+    put_number(out, count)?;
+    out.extend_from_slice(b"\n")?;
+    Ok(())
+}
+
+/// Adds the SIMPLEX line.
+pub(crate) fn put_simplex_line(out: &mut Vec<u8>, banks: Banks) -> Result<(), NoMemory>
+    ensures { OnOk result (out.new.items ≡ out.old.items ++ entry_line (says.Simplex banks)) }
+{
+    put_simplex(out, banks)?;
+    out.extend_from_slice(b"\n")?;
+    Ok(())
+}
+
+/// Adds the COPY line of the copy of a module.
+pub(crate) fn put_copy(
+    out: &mut Vec<u8>,
+    number: u8,
+    copy: u8,
+    count: u64,
+    latches: &[Word],
+) -> Result<(), NoMemory>
+    ensures line { OnOk result (out.new.items ≡ out.old.items
+        ++ copy_line (record { number = number; copy = copy; count = count; latches = latches.now })) }
+    ensures latches { OnOk result (All (λ latch. latch < 2 ^ 26) latches.now) }
+{
+    out.extend_from_slice(b"COPY")?;
+    put_number(out, u64::from(number))?;
+    put_number(out, u64::from(copy))?;
+    put_number(out, count)?;
+    put_words(out, latches)?;
+    out.extend_from_slice(b"\n")?;
+    Ok(())
+}
+
+/// Adds the SELECT line.
+pub(crate) fn put_select(out: &mut Vec<u8>, twins: &[u8]) -> Result<(), NoMemory>
+    ensures { OnOk result (out.new.items ≡ out.old.items ++ select_line twins.now) }
+{
+    out.extend_from_slice(b"SELECT")?;
+    put_twins(out, twins)?;
+    out.extend_from_slice(b"\n")?;
+    Ok(())
+}
+
+/// Adds a CELL line.
+pub(crate) fn put_held(out: &mut Vec<u8>, held: &Held) -> Result<(), NoMemory>
+    ensures line { OnOk result (out.new.items ≡ out.old.items ++ cell_line held.now) }
+    ensures cell { OnOk result (held.now.cell < 2 ^ 28) }
+{
+    out.extend_from_slice(b"CELL")?;
+    put_number(out, u64::from(held.twin))?;
+    put_spot(out, held.at)?;
+    put_cell(out, held.cell)?;
+    out.extend_from_slice(b"\n")?;
+    Ok(())
+}
+
+/// Adds a WORD line.
+pub(crate) fn put_placed(out: &mut Vec<u8>, placed: &Placed) -> Result<(), NoMemory>
+    ensures line { OnOk result (out.new.items ≡ out.old.items ++ word_line placed.now) }
+    ensures placed { OnOk result (IsPlaced placed.now) }
+{
+    out.extend_from_slice(b"WORD")?;
+    put_spot(out, placed.at)?;
+    put_word(out, placed.word)?;
+    out.extend_from_slice(b"\n")?;
+    Ok(())
+}
+
+/// Adds a STATE line.
+pub(crate) fn put_state(out: &mut Vec<u8>, state: &Supply) -> Result<(), NoMemory>
+    ensures line { OnOk result (out.new.items ≡ out.old.items ++ state_line state.now) }
+    ensures printed { OnOk result (IsSupply state.now) }
+{
+    out.extend_from_slice(b"STATE ")?;
+    put_octal(out, u64::from(state.port), 3)?;
+    put_word(out, state.word)?;
+    out.extend_from_slice(b"\n")?;
+    Ok(())
+}
+
+/// Adds an UNPLUG line.
+pub(crate) fn put_unplug(out: &mut Vec<u8>, unplug: &Unplug) -> Result<(), NoMemory>
+    ensures line { OnOk result (out.new.items ≡ out.old.items ++ unplug_line unplug.now) }
+    ensures printed { OnOk result (unplug.now.time ≤ TIMES → IsUnplug unplug.now) }
+{
+    out.extend_from_slice(b"UNPLUG ")?;
+    put_octal(out, u64::from(unplug.port), 3)?;
+    put_number(out, unplug.time)?;
+    out.extend_from_slice(b"\n")?;
+    Ok(())
+}
+
+/// Adds the letters of copies, A the first.
+fn put_letters(out: &mut Vec<u8>, copies: &[u8]) -> Result<(), NoMemory>
+    requires { All (λ copy. copy < 21) copies.now }
+    ensures { OnOk result (out.new.items ≡ out.old.items ++ map (λ copy. 65 + copy) copies.now) }
+{
+    for copy in copies {
+        out.push(b'A' + *copy)?;
+    }
+    Ok(())
+}
+
+/// Adds the line of an order.
+pub(crate) fn put_order(out: &mut Vec<u8>, order: &Order) -> Result<(), NoMemory>
+    ensures line { OnOk result (out.new.items ≡ out.old.items ++ order_line order.now) }
+    ensures short { OnOk result (length out.new.items ≡ length out.old.items + 22) }
+    ensures full { OnOk result (IsFullOrder 21 order.now) }
+{
+    put_letters(out, order.copies())?;
+    out.extend_from_slice(b"\n")?;
+    Ok(())
+}
+
+/// Adds the line of an entry. After a want of memory `out` may have grown by a part of the line.
+pub fn put_entry(out: &mut Vec<u8>, entry: &Entry) -> Result<(), NoMemory>
+    ensures { OnOk result (out.new.items ≡ out.old.items ++ entry_line entry.now) }
+{
+    match entry {
+        Entry::Title => out.extend_from_slice(b"LVDC SAVE 1\n")?,
+        Entry::Steps(steps) => put_steps(out, *steps)?,
+        Entry::Count(count) => put_count(out, *count)?,
+        Entry::Simplex(banks) => put_simplex_line(out, *banks)?,
+        Entry::Copy(copy) => put_copy(
+            out,
+            copy.number,
+            copy.copy,
+            copy.count,
+            copy.latches.items(),
+        )?,
+        Entry::Select(twins) => put_select(out, twins)?,
+        Entry::Cell(held) => put_held(out, held)?,
+        Entry::Word(placed) => put_placed(out, placed)?,
+        Entry::Exchange(exchange) => put_exchange_line(out, exchange)?,
+        Entry::Repair(repair) => put_repair_line(out, repair)?,
+        Entry::State(state) => put_state(out, state)?,
+        Entry::Unplug(unplug) => put_unplug(out, unplug)?,
+        Entry::Fault(event) => put_fault(out, event)?,
+        Entry::Order(order) => put_order(out, order)?,
+        Entry::End => out.extend_from_slice(b"END\n")?,
+    }
+    Ok(())
+}

@@ -1,4 +1,0 @@
-mod Texts
-mod Printing
-mod Sizes
-mod AllPrinted

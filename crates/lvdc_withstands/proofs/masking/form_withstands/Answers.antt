@@ -1,0 +1,5 @@
+use Rattle.lvdc_withstands.proofs.Repairs.{form-repairs}
+use Rattle.lvdc_withstands.proofs.masking.form_withstands.Goals as goal
+
+pub returns : goal.returns
+returns c o count ok h = c.repair_withstands.ensures o count ok (form-repairs o count h)

@@ -1,0 +1,9 @@
+pub mod Form
+pub mod Copies
+pub mod Places
+pub mod Touches
+pub mod Repairs
+pub mod Scrubs
+pub mod Findings
+pub mod Withstood
+pub mod Kinds

@@ -1,0 +1,62 @@
+//! Which places the lines damage or make stick.
+
+ghost use Rattle.std.specs.Prelude.{◌≡◌, ℕ, false, length, slice_index_or, IfOk, filter_map};
+ghost use Rattle.lvdc_map.specs.Address.{IsAddress};
+ghost use Rattle.lvdc_withstands.specs.Form.{place_of, none_twice};
+ghost use Rattle.lvdc_withstands.specs.Places.{Marks};
+
+use lvdc_fault::Event;
+use lvdc_map::Address;
+use lvdc_word::NoMemory;
+use std::alloc::Global;
+
+/// Is no place damaged or made stick by two lines, in whichever twins?
+pub(crate) fn has_none_twice(alloc: Global, lines: &[Event]) -> Result<bool, NoMemory>
+    ensures { IfOk result (λ answer. answer ≡ none_twice (filter_map place_of lines.now)) }
+{
+    let mut named = no_marks(alloc)?;
+    for line in lines {
+        if !is_first_to_name(line, &mut named) {
+            return Ok(false);
+        }
+    }
+    Ok(true)
+}
+
+/// A mark for each address, none of which is set.
+fn no_marks(alloc: Global) -> Result<Vec<bool>, NoMemory>
+    ensures size { IfOk result (λ marks. length marks.items ≡ 32768) }
+    ensures none { IfOk result (λ marks. (k : ℕ) → slice_index_or marks.items k false ≡ false) }
+{
+    Ok(Vec::from_elem(alloc, false, Address::COUNT)?)
+}
+
+/// Marks the place that a line names, if it names one. False where it is marked already.
+fn is_first_to_name(line: &Event, named: &mut Vec<bool>) -> bool
+    requires { length named.old.items ≡ 32768 }
+    ensures { Marks (place_of line.now) named.old.items named.new.items result }
+{
+    let Some(place) = place_of(line) else {
+        return true;
+    };
+    is_address(place);
+    let number = place.number();
+    let is_first = !named[number];
+    named[number] = true;
+    is_first
+}
+
+/// The numbers of an address are in their ranges, by its type.
+fn is_address(at: Address)
+    ensures { IsAddress at }
+{}
+
+/// The place where it damages a cell or makes bits stick.
+fn place_of(line: &Event) -> Option<Address>
+    ensures { result ≡ place_of line.now }
+{
+    match *line {
+        Event::Damage { at, .. } | Event::Stick { at, .. } => Some(at),
+        _ => None,
+    }
+}
