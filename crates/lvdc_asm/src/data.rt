@@ -5,7 +5,7 @@ use lvdc_source::Body;
 use std::marker::Model;
 
 /// The pair and the sector that a source assumes as data place.
-#[derive(Clone, Copy, Debug, PartialEq, Eq)]
+#[derive(Clone, Copy, PartialEq, Eq)]
 pub(crate) struct DataPlace {
     pub(crate) pair: u8,
     pub(crate) sector: u8,

@@ -5,7 +5,7 @@ use lvdc_orders::Orders;
 use lvdc_word::Seq;
 
 /// What the deck of a campaign asks for.
-#[derive(Debug, Drop)]
+#[derive(Drop)]
 pub struct CampaignDeck {
     /// The image of the program; a source is assembled.
     pub image: Image,

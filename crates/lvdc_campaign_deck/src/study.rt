@@ -3,7 +3,7 @@ use lvdc_fault::Named;
 use lvdc_word::Seq;
 
 /// What the deck of a study asks for.
-#[derive(Debug, Drop)]
+#[derive(Drop)]
 pub struct StudyDeck {
     /// The deck before CAMPAIGN, with its TAPE and UNPLUG lines; no line of it is FAULTS or DEBUG.
     pub deck: Deck,

@@ -22,7 +22,7 @@ const USAGE: &[u8] =
     b"usage: lvdc run [--plain | --through]\n       lvdc asm [--image]\n       lvdc debug\n       lvdc soak NUMBER\n       lvdc save NUMBER\n       lvdc resume\n       lvdc campaign\n       lvdc uplink\n       lvdc macro [--image]\n";
 
 /// What there is to tell. All but a reply takes no memory.
-#[derive(Debug, Drop)]
+#[derive(Drop)]
 pub(crate) enum Due {
     /// The words are no command.
     Usage,

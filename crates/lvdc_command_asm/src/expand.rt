@@ -11,8 +11,9 @@ use lvdc_text::lines;
 use lvdc_word::{NoMemory, Seq};
 use std::alloc::Global;
 
+#[derive(Debug)]
 /// What is asked for of a source with macros.
-#[derive(Clone, Copy, Debug, PartialEq, Eq)]
+#[derive(Clone, Copy, PartialEq, Eq)]
 pub enum Form {
     /// Its expansion, which is a source.
     Source,

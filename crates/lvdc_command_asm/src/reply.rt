@@ -16,8 +16,9 @@ use lvdc_text::{Line, lines};
 use lvdc_word::{NoMemory, Seq};
 use std::alloc::Global;
 
+#[derive(Debug)]
 /// What is asked for of a source.
-#[derive(Clone, Copy, Debug, PartialEq, Eq)]
+#[derive(Clone, Copy, PartialEq, Eq)]
 pub enum Product {
     /// The text of its image.
     Image,

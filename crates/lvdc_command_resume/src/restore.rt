@@ -17,7 +17,7 @@ use lvdc_save::Saved;
 use lvdc_word::{NoMemory, Word};
 
 /// Why the devices haven't all their states.
-#[derive(Clone, Copy, Debug, PartialEq, Eq)]
+#[derive(Clone, Copy, PartialEq, Eq)]
 pub enum Unrestored {
     /// There was no memory.
     NoMemory,

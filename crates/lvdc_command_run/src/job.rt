@@ -1,5 +1,6 @@
+#[derive(Debug)]
 /// Which machine runs a deck.
-#[derive(Clone, Copy, Debug, PartialEq, Eq)]
+#[derive(Clone, Copy, PartialEq, Eq)]
 pub enum Engine {
     /// The voted machine, up to the first inadmissible step.
     Guarded,
@@ -10,7 +11,7 @@ pub enum Engine {
 }
 
 /// What is to be run.
-#[derive(Clone, Copy, Debug, PartialEq, Eq)]
+#[derive(Clone, Copy, PartialEq, Eq)]
 pub enum Job {
     /// The deck that bytes mean.
     Deck(Engine),

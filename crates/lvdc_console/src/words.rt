@@ -7,7 +7,7 @@ use lvdc_text::plain_decimal;
 use lvdc_trace::Window;
 
 /// What is asked beside the commands of `lvdc`.
-#[derive(Clone, Copy, Debug, PartialEq, Eq)]
+#[derive(Clone, Copy, PartialEq, Eq)]
 pub enum Inquiry {
     /// `trace` and `trace --through` with two numbers: reads a deck and tells these steps of its run.
     Trace { mode: Mode, window: Window },

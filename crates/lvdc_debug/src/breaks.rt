@@ -12,7 +12,7 @@ use thiserror::Error;
 pub struct BreaksFull;
 
 /// The breakpoints of a session, at most sixteen. Contracts see the list of them, the first one set first.
-#[derive(Debug, Drop)]
+#[derive(Drop)]
 pub struct Breaks {
     spots: ArrayVec<Spot2, 16>,
 }

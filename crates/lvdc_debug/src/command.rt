@@ -1,7 +1,8 @@
 use lvdc_map::Address;
 
+#[derive(Debug)]
 /// The place of an instruction: an address and a syllable.
-#[derive(Clone, Copy, Debug, PartialEq, Eq)]
+#[derive(Clone, Copy, PartialEq, Eq)]
 pub struct Spot2 {
     pub at: Address,
     /// 0 or 1.
@@ -17,8 +18,9 @@ impl Default for Spot2 {
     }
 }
 
+#[derive(Debug)]
 /// What a line of a session asks for (this project's profile).
-#[derive(Clone, Copy, Debug, PartialEq, Eq)]
+#[derive(Clone, Copy, PartialEq, Eq)]
 pub enum Command {
     /// So many instruction times, 1 to 1,000,000.
     Step(u64),

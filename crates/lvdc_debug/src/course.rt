@@ -14,7 +14,7 @@ use lvdc_machine::{Machine, Orders};
 use lvdc_port::PortDevice;
 
 /// Where a session is.
-#[derive(Debug, Drop)]
+#[derive(Drop)]
 pub(crate) struct Course {
     /// For how many instruction times it has asked. After an end fewer may have been made.
     pub(crate) asked: u64,

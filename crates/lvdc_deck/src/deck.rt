@@ -8,7 +8,7 @@ use lvdc_text::Line;
 use lvdc_word::Seq;
 
 /// What a deck asks for.
-#[derive(Debug, Drop)]
+#[derive(Drop)]
 pub struct Deck {
     /// The image of the program; a source is assembled.
     pub image: Image,

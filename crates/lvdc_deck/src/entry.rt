@@ -2,7 +2,7 @@ use lvdc_map::Hop;
 use lvdc_word::Seq;
 
 /// What START names as the place where the run starts.
-#[derive(Debug, Drop)]
+#[derive(Drop)]
 pub(crate) enum EntryPoint {
     Constant(Hop),
     /// The line of code of this name. START stands on the line of this number.

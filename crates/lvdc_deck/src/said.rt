@@ -29,7 +29,7 @@ use std::alloc::Global;
 use std::marker::Model;
 
 /// What the sections have said so far, after a program of this kind.
-#[derive(Debug, Drop)]
+#[derive(Drop)]
 pub(crate) struct Said {
     kind: ProgramKind,
     section: Section,

@@ -2,7 +2,7 @@ ghost use Rattle.std.specs.Prelude.{◌≡◌};
 ghost use Rattle.lvdc_deck.specs.Sections.{rank, is_debug};
 
 /// The sections of a deck, in the order in which they stand.
-#[derive(Clone, Copy, Debug, PartialEq, Eq)]
+#[derive(Clone, Copy, PartialEq, Eq)]
 pub(crate) enum Section {
     Program,
     Start,
@@ -15,14 +15,14 @@ pub(crate) enum Section {
 }
 
 /// What the text of a deck's program is.
-#[derive(Clone, Copy, Debug, PartialEq, Eq)]
+#[derive(Clone, Copy, PartialEq, Eq)]
 pub(crate) enum ProgramKind {
     Image,
     Source,
 }
 
 /// What a line says that may be a deck's first.
-#[derive(Clone, Copy, Debug, PartialEq, Eq)]
+#[derive(Clone, Copy, PartialEq, Eq)]
 pub(crate) enum Opening {
     /// Above 120 bytes.
     Long,

@@ -2,7 +2,7 @@ use crate::Script;
 use lvdc_word::Seq;
 
 /// A script with a name, one of many that a program is run under.
-#[derive(Debug, Drop)]
+#[derive(Drop)]
 pub struct Named {
     pub name: Seq<u8>,
     pub script: Script,

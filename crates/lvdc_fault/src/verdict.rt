@@ -1,7 +1,8 @@
 use lvdc_map::Address;
 
+#[derive(Debug)]
 /// What is said of a step (this project's profile).
-#[derive(Clone, Copy, Debug, PartialEq, Eq)]
+#[derive(Clone, Copy, PartialEq, Eq)]
 pub enum Verdict {
     /// The vote and the twins withstand it.
     Admissible,

@@ -8,7 +8,7 @@ use lvdc_vote::Harm;
 
 /// What is in force on one copy: whether it reads the copies of its own number in place of the votes, and what is wrong with it as
 /// it latches.
-#[derive(Clone, Copy, Debug)]
+#[derive(Clone, Copy)]
 pub struct Faults {
     /// Whether it reads the copies of its own number.
     pub deaf: bool,
@@ -30,7 +30,7 @@ impl Faults {
 
 /// What is in force on all copies, in as much room for a thousand events as for one: whether an event names any, whether one makes any
 /// deaf, which copies are named, and what is in force on each. Copy `n` is copy `n % 3` of module `n / 3`, both counted from 0.
-#[derive(Clone, Copy, Debug)]
+#[derive(Clone, Copy)]
 pub struct InForce {
     /// Whether an event names any copy.
     pub any: bool,

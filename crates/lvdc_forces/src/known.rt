@@ -15,7 +15,7 @@ use crate::parts::add_part;
 use crate::shares::Share;
 
 /// What is in force on each copy, which copies are wrong, and the lowest module with two of them.
-#[derive(Clone, Copy, Debug)]
+#[derive(Clone, Copy)]
 pub struct Known {
     pub(crate) force: InForce,
     pub(crate) wrong: Option<u8>,

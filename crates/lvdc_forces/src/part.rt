@@ -7,7 +7,7 @@ use crate::shares::Share;
 
 /// What the events of a part do to each of the 21 copies, up to the first step at which one of them begins or has ended, and whether
 /// they name any copy till then. Copy `n` is copy `n % 3` of module `n / 3`, both counted from 0.
-#[derive(Clone, Copy, Debug)]
+#[derive(Clone, Copy)]
 pub struct Part {
     pub(crate) until: u64,
     pub(crate) names_any: bool,

@@ -13,7 +13,7 @@ use lvdc_vote::{Harm, Hurt, Patch, flipped, forced};
 use lvdc_word::Word;
 
 /// What events do to one copy in a step: whether one names it, whether one makes it deaf, and what they come to as it latches.
-#[derive(Clone, Copy, Debug)]
+#[derive(Clone, Copy)]
 pub struct Share {
     pub(crate) named: bool,
     pub(crate) deaf: bool,

@@ -6,7 +6,7 @@ use std::marker::Model;
 
 /// The words that a memory is filled with, their addresses strictly rising; every other address holds 0. Version 2 also
 /// has a start constant, and names the simplex pairs (the text is this project's profile).
-#[derive(Debug, Drop)]
+#[derive(Drop)]
 pub struct Image {
     words: Vec<Placed>,
     start: Option<Hop>,

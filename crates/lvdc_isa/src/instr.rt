@@ -1,7 +1,8 @@
 use crate::Op;
 
+#[derive(Debug)]
 /// An instruction: an operation and the nine bits of its address, 000 to 777 octal.
-#[derive(Clone, Copy, Debug, PartialEq, Eq)]
+#[derive(Clone, Copy, PartialEq, Eq)]
 pub struct Instr {
     pub op: Op,
     pub address: u16,

@@ -1,9 +1,10 @@
 ghost use Rattle.std.specs.Prelude.{◌≡◌, ◌<◌};
 ghost use Rattle.lvdc_isa.specs.Instr.{operation_code, takes_operand};
 
+#[derive(Debug)]
 /// What an instruction does. The eighteen mnemonics and their codes are this project's profile:
 /// none names `WrongShift`, which is a shift whose pattern means nothing.
-#[derive(Clone, Copy, Debug, PartialEq, Eq)]
+#[derive(Clone, Copy, PartialEq, Eq)]
 pub enum Op {
     /// Goes on at the place, and with the data place, that the operand word names.
     Hop,

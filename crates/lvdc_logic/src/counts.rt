@@ -2,7 +2,7 @@ ghost use Rattle.std.specs.Prelude.{◌≡◌, ◌-◌, ◌≤◌, [], ◌∷◌
 ghost use Rattle.lvdc_logic.specs.Counts.{counts_in};
 
 /// Of each copy of each module, in how many steps it differed from the vote.
-#[derive(Clone, Copy, Debug)]
+#[derive(Clone, Copy)]
 pub struct Counts {
     pub timer: [u64; 3],
     pub locator: [u64; 3],

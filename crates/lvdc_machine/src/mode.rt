@@ -2,7 +2,7 @@ ghost use Rattle.std.specs.Prelude.{◌≡◌, ◌≤◌};
 ghost use Rattle.lvdc_machine.specs.Room.{pace_of, exchanges_left, repairs_left};
 
 /// How a machine goes through a fault script (this project's profile).
-#[derive(Clone, Copy, Debug, PartialEq, Eq)]
+#[derive(Clone, Copy, PartialEq, Eq)]
 pub enum Mode {
     /// Each step is judged, and the first one that isn't admissible ends the run.
     Guarded,
@@ -11,7 +11,7 @@ pub enum Mode {
 }
 
 /// For how many exchanges a machine has room.
-#[derive(Clone, Copy, Debug, PartialEq, Eq)]
+#[derive(Clone, Copy, PartialEq, Eq)]
 pub enum Pace {
     /// One port exchange and two repairs in each instruction time.
     ByTime,

@@ -1,7 +1,8 @@
 use lvdc_word::Word;
 
+#[derive(Debug)]
 /// What can be told of the word at an address.
-#[derive(Clone, Copy, Debug, PartialEq, Eq)]
+#[derive(Clone, Copy, PartialEq, Eq)]
 pub enum Shown {
     /// The intended word, which can be recovered.
     Known(Word),

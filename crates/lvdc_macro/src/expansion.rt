@@ -15,7 +15,7 @@ pub const LONGEST_EXPANSION: usize = 1_048_576;
 pub const MOST_CALLS: u16 = 999;
 
 /// A source that was written out.
-#[derive(Debug, Drop)]
+#[derive(Drop)]
 pub struct Expansion {
     /// Its lines, each ended by LF.
     pub bytes: Seq<u8>,

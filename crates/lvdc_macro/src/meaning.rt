@@ -10,7 +10,7 @@ use lvdc_word::NoMemory;
 use std::alloc::Global;
 
 /// What a line is to the expansion.
-#[derive(Clone, Copy, Debug)]
+#[derive(Clone, Copy)]
 pub(crate) enum Meaning<'t, 'a> {
     /// It is written as it is.
     Text,

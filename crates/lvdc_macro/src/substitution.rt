@@ -12,7 +12,7 @@ use lvdc_word::NoMemory;
 use std::alloc::Global;
 
 /// A call: its number, counted from 1, and its arguments.
-#[derive(Clone, Debug, Drop)]
+#[derive(Clone, Drop)]
 pub(crate) struct Call<'a> {
     pub(crate) number: u16,
     pub(crate) arguments: ArrayVec<&'a [u8], MOST_ARGUMENTS>,

@@ -3,8 +3,9 @@ ghost use Rattle.lvdc_map.specs.Address.{Spot, is_same};
 
 use std::marker::Model;
 
+#[derive(Debug)]
 /// A place of one word in memory. Addresses are ordered by bank, sector and location.
-#[derive(Clone, Copy, Debug, PartialEq, Eq, PartialOrd, Ord)]
+#[derive(Clone, Copy, PartialEq, Eq, PartialOrd, Ord)]
 pub struct Address {
     /// The bank: 0 to 3 is that pair, in a simplex pair its even module; 4 to 7 is the odd module of simplex pair 0 to 3.
     pub pair: u8,

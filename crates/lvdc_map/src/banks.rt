@@ -5,9 +5,10 @@ ghost use Rattle.lvdc_map.specs.Banks.{is_simplex, bank_of, is_there, holds, Has
 use crate::Address;
 use std::marker::Model;
 
+#[derive(Debug)]
 /// Which of the four pairs of memory modules are simplex. The two modules of a duplex pair hold the same words, those of
 /// a simplex pair words of their own (this project's profile of the published memory).
-#[derive(Clone, Copy, Debug, PartialEq, Eq)]
+#[derive(Clone, Copy, PartialEq, Eq)]
 pub struct Banks {
     simplex: u8,
 }

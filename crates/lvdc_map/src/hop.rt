@@ -5,9 +5,10 @@ use crate::{Address, Banks, is_a9, low_bits};
 use lvdc_word::{Syllable, Word};
 use std::marker::Model;
 
+#[derive(Debug)]
 /// The fields of a HOP constant: where the next instruction is fetched, and where its operands stand. The layout is this
 /// project's profile.
-#[derive(Clone, Copy, Debug, PartialEq, Eq)]
+#[derive(Clone, Copy, PartialEq, Eq)]
 pub struct Hop {
     /// The instruction module, 0 to 7.
     pub imod: u8,

@@ -4,7 +4,7 @@ ghost use Rattle.lvdc_map.specs.Place.{a9, low_bits, operand_kind, place_of, IsT
 use crate::{Address, Banks, Hop, Place};
 
 /// What an operand address names, whatever the data place is.
-#[derive(Clone, Copy, Debug, PartialEq, Eq)]
+#[derive(Clone, Copy, PartialEq, Eq)]
 pub enum OperandKind {
     /// A word of memory.
     Memory,

@@ -1,7 +1,8 @@
 use crate::Address;
 
+#[derive(Debug)]
 /// What an operand address of an instruction names.
-#[derive(Clone, Copy, Debug, PartialEq, Eq)]
+#[derive(Clone, Copy, PartialEq, Eq)]
 pub enum Place {
     /// A word of memory.
     Memory(Address),

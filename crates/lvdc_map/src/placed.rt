@@ -4,7 +4,7 @@ use crate::Address;
 use lvdc_word::Word;
 
 /// A word of an image, and where it stands.
-#[derive(Clone, Copy, Debug, PartialEq, Eq)]
+#[derive(Clone, Copy, PartialEq, Eq)]
 pub struct Placed {
     pub at: Address,
     pub word: Word,

@@ -24,7 +24,7 @@ const PART: usize = 256;
 
 /// What the events of a part stick and kill from a step up to another: the bits stuck at the place that its first event names, and
 /// whether the twin is dead that its first event names. All numbers of its events lie between two.
-#[derive(Clone, Copy, Debug)]
+#[derive(Clone, Copy)]
 pub struct Part {
     pub(crate) low: usize,
     pub(crate) high: usize,

@@ -1,7 +1,7 @@
 use lvdc_map::Address;
 
 /// A cell that a read found bad and rewrote. Of a dead twin it is noted too, though nothing is stored.
-#[derive(Clone, Copy, Debug, PartialEq, Eq)]
+#[derive(Clone, Copy, PartialEq, Eq)]
 pub struct Repair {
     /// The step of the read, from 0.
     pub step: u64,

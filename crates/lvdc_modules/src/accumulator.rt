@@ -17,7 +17,7 @@ use lvdc_vote::{LogicModule, Vote, majority};
 use lvdc_word::Word;
 
 /// The latches of the accumulator.
-#[derive(Clone, Copy, Debug, PartialEq, Eq)]
+#[derive(Clone, Copy, PartialEq, Eq)]
 pub struct AccumulatorState {
     /// A, the accumulator.
     pub a: Word,

@@ -11,7 +11,7 @@ use lvdc_vote::{LogicModule, Vote, majority};
 use lvdc_word::Word;
 
 /// The latch of the decoder.
-#[derive(Clone, Copy, Debug, PartialEq, Eq)]
+#[derive(Clone, Copy, PartialEq, Eq)]
 pub struct DecoderState {
     /// INSTR, the syllable of the instruction.
     pub instr: Word,

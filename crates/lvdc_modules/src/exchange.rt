@@ -12,7 +12,7 @@ use lvdc_vote::{LogicModule, Vote, majority};
 use lvdc_word::Word;
 
 /// The latches of the exchanger.
-#[derive(Clone, Copy, Debug, PartialEq, Eq)]
+#[derive(Clone, Copy, PartialEq, Eq)]
 pub struct ExchangeState {
     /// STOP: 0 none, 1 a wrong shift, 2 EXM; of it the low two bits count.
     pub stop: Word,

@@ -12,7 +12,7 @@ use lvdc_vote::{LogicModule, Vote, majority};
 use lvdc_word::Word;
 
 /// The latches of the locator.
-#[derive(Clone, Copy, Debug, PartialEq, Eq)]
+#[derive(Clone, Copy, PartialEq, Eq)]
 pub struct LocatorState {
     /// PLACE, the instruction fields of a HOP constant: where the next instruction is fetched.
     pub place: Word,

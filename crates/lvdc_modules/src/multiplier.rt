@@ -11,8 +11,9 @@ use lvdc_mul::Unit;
 use lvdc_vote::{LogicModule, Vote, majority};
 use lvdc_word::Word;
 
+#[derive(Debug)]
 /// The latches of the multiplier.
-#[derive(Clone, Copy, Debug, PartialEq, Eq)]
+#[derive(Clone, Copy, PartialEq, Eq)]
 pub struct MultiplierState {
     /// PQ, the product-quotient register.
     pub pq: Word,

@@ -9,7 +9,7 @@ use lvdc_map::Hop;
 use lvdc_word::Syllable;
 
 /// A third of an instruction time.
-#[derive(Clone, Copy, Debug, PartialEq, Eq)]
+#[derive(Clone, Copy, PartialEq, Eq)]
 pub enum Phase {
     A,
     B,
@@ -17,7 +17,7 @@ pub enum Phase {
 }
 
 /// What the machine does in a phase: A fetches, B takes the operand, C executes; while a hold is left it waits.
-#[derive(Clone, Copy, Debug, PartialEq, Eq)]
+#[derive(Clone, Copy, PartialEq, Eq)]
 pub enum Doing {
     Fetching,
     Taking,

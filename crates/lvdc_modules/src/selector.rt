@@ -12,7 +12,7 @@ use lvdc_vote::{LogicModule, Vote, majority};
 use lvdc_word::Word;
 
 /// The latch of the selector.
-#[derive(Clone, Copy, Debug, PartialEq, Eq)]
+#[derive(Clone, Copy, PartialEq, Eq)]
 pub struct SelectorState {
     /// DATA, the data fields of a HOP constant: where operands stand.
     pub hold_place: Word,

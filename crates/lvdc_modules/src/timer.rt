@@ -10,7 +10,7 @@ use lvdc_vote::{LogicModule, Vote, majority};
 use lvdc_word::Word;
 
 /// The latches of the timer.
-#[derive(Clone, Copy, Debug, PartialEq, Eq)]
+#[derive(Clone, Copy, PartialEq, Eq)]
 pub struct TimerState {
     /// PHASE, which counts the phases of an instruction time.
     pub phase: Word,

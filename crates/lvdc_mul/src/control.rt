@@ -3,8 +3,9 @@ ghost use Rattle.lvdc_mul.specs.Control.{kind_of, kind_code, control_of, control
 
 use lvdc_word::Word;
 
+#[derive(Debug)]
 /// What the unit works on. The codes, 0 to 3 in this order, are this project's profile.
-#[derive(Clone, Copy, Debug, PartialEq, Eq)]
+#[derive(Clone, Copy, PartialEq, Eq)]
 pub enum Kind {
     /// Nothing.
     Idle,
@@ -44,7 +45,7 @@ impl Kind {
 }
 
 /// The fields of the latch CONTROL.
-#[derive(Clone, Copy, Debug, PartialEq, Eq)]
+#[derive(Clone, Copy, PartialEq, Eq)]
 pub(crate) struct Control {
     /// What the unit works on.
     pub(crate) kind: Kind,

@@ -11,7 +11,7 @@ use std::marker::Model;
 pub const COPIES: usize = 21;
 
 /// An order in which the 21 copies latch. Number 3(m-1)+(c-1) is copy c of module m (this project's profile).
-#[derive(Debug, Drop)]
+#[derive(Drop)]
 pub struct Order {
     copies: ArrayVec<u8, 21>,
 }

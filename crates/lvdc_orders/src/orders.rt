@@ -10,7 +10,7 @@ pub const MOST_ORDERS: usize = 16;
 
 /// One to sixteen orders, which take turns step by step. Contracts see the list of those that were added; while there are
 /// none, the plain one is in force.
-#[derive(Debug, Drop)]
+#[derive(Drop)]
 pub struct Orders {
     plain: Order,
     added: ArrayVec<Order, 16>,

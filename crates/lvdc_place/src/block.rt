@@ -10,8 +10,9 @@ use std::alloc::Global;
 /// How many locations a sector has.
 pub(crate) const SECTOR: u16 = 256;
 
+#[derive(Debug)]
 /// What a block is made of.
-#[derive(Clone, Copy, Debug)]
+#[derive(Clone, Copy)]
 pub(crate) enum Kind {
     /// Instructions, in one syllable of one sector. Such a block floats in the whole memory.
     Code,
@@ -19,16 +20,18 @@ pub(crate) enum Kind {
     Words(Slot),
 }
 
+#[derive(Debug)]
 /// What a directive begins.
-#[derive(Clone, Copy, Debug)]
+#[derive(Clone, Copy)]
 pub(crate) struct Site {
     pub(crate) kind: Kind,
     /// The place at which the block is fixed; none where it floats.
     pub(crate) at: Option<Slot>,
 }
 
+#[derive(Debug)]
 /// A block of a program.
-#[derive(Clone, Copy, Debug)]
+#[derive(Clone, Copy)]
 pub(crate) struct Block {
     /// The line of its directive.
     pub(crate) line: u32,

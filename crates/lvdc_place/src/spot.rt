@@ -12,7 +12,7 @@ use lvdc_word::NoMemory;
 use std::alloc::Global;
 
 /// Where a line of a program stands.
-#[derive(Clone, Copy, Debug, PartialEq, Eq)]
+#[derive(Clone, Copy, PartialEq, Eq)]
 pub struct Spot {
     /// The word, or the first word of room; a pair below 4.
     pub at: Address,

@@ -2,7 +2,7 @@ use lvdc_map::{Address, Hop};
 use lvdc_word::Word;
 
 /// The registers that a report shows, and the instruction times made.
-#[derive(Clone, Copy, Debug, PartialEq, Eq)]
+#[derive(Clone, Copy, PartialEq, Eq)]
 pub struct Visible {
     pub place: Hop,
     pub a: Word,
@@ -12,7 +12,7 @@ pub struct Visible {
 }
 
 /// A line of the port log: the instruction time from 0, the port, and the word that was read or written.
-#[derive(Clone, Copy, Debug, PartialEq, Eq)]
+#[derive(Clone, Copy, PartialEq, Eq)]
 pub struct Exchange {
     pub time: u64,
     pub port: u8,
@@ -20,15 +20,17 @@ pub struct Exchange {
     pub word: Word,
 }
 
+#[derive(Debug)]
 /// The device of this port is taken away before this instruction time.
-#[derive(Clone, Copy, Debug, PartialEq, Eq)]
+#[derive(Clone, Copy, PartialEq, Eq)]
 pub struct Unplug {
     pub port: u8,
     pub time: u64,
 }
 
+#[derive(Debug)]
 /// Why a machine stopped. The plain machine never answers `Memory`.
-#[derive(Clone, Copy, Debug, PartialEq, Eq)]
+#[derive(Clone, Copy, PartialEq, Eq)]
 pub enum Stop {
     /// A shift whose pattern means nothing.
     Shift,
@@ -39,7 +41,7 @@ pub enum Stop {
 }
 
 /// A result that is on its way: the instruction times left, 1 to 8, and whether the accumulator takes it too.
-#[derive(Clone, Copy, Debug, PartialEq, Eq)]
+#[derive(Clone, Copy, PartialEq, Eq)]
 pub struct Pending {
     pub left: u8,
     pub result: Word,
@@ -47,7 +49,7 @@ pub struct Pending {
 }
 
 /// How a call of the plain machine ended. The number of a step is 3t + 2, for the instruction time t.
-#[derive(Clone, Copy, Debug, PartialEq, Eq)]
+#[derive(Clone, Copy, PartialEq, Eq)]
 pub enum PlainEnd {
     /// All times asked for were made.
     Done,

@@ -6,7 +6,7 @@ use crate::device::{Failed, Kind, PortDevice};
 use lvdc_word::{NoMemory, Word};
 
 /// One word, which a read answers and a write replaces.
-#[derive(Debug, Drop)]
+#[derive(Drop)]
 pub struct Latch {
     port: u8,
     word: Word,

@@ -6,7 +6,7 @@ use crate::device::{Failed, Kind, PortDevice};
 use lvdc_word::{NoMemory, Word};
 
 /// The time, which a read answers as it was passed in.
-#[derive(Debug, Drop)]
+#[derive(Drop)]
 pub struct Ticker {
     port: u8,
 }

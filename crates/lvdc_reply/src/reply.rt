@@ -6,7 +6,7 @@ use lvdc_word::{NoMemory, Seq};
 use std::alloc::Global;
 
 /// What a command answers.
-#[derive(Debug, Drop)]
+#[derive(Drop)]
 pub struct Reply {
     /// The exit status.
     pub status: u8,

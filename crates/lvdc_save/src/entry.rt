@@ -8,7 +8,7 @@ use lvdc_twin::Held;
 use lvdc_word::{Seq, Word};
 
 /// A copy of a module: in how many steps it differed from the vote, and its latches.
-#[derive(Debug, Drop)]
+#[derive(Drop)]
 pub struct CopyState {
     /// The module, 1 to 7.
     pub number: u8,
@@ -19,7 +19,7 @@ pub struct CopyState {
 }
 
 /// What a line of a saved text says.
-#[derive(Debug, Drop)]
+#[derive(Drop)]
 pub enum Entry {
     Title,
     Steps(u64),

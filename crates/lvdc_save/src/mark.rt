@@ -1,5 +1,5 @@
 /// Where the first STATE line of a port stands.
-#[derive(Clone, Copy, Debug, PartialEq, Eq)]
+#[derive(Clone, Copy, PartialEq, Eq)]
 pub struct Mark {
     pub port: u8,
     pub line: u32,

@@ -6,7 +6,7 @@ use lvdc_snapshot::Snapshot;
 use lvdc_word::Seq;
 
 /// A run that was stopped between two instruction times: its state, and what it needs to go on.
-#[derive(Debug, Drop)]
+#[derive(Drop)]
 pub struct Saved {
     pub snapshot: Snapshot,
     /// The instruction times that the deck asks for.

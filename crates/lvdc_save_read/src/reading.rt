@@ -28,7 +28,7 @@ use std::alloc::Global;
 use std::marker::Model;
 
 /// What the lines so far have said.
-#[derive(Debug, Drop)]
+#[derive(Drop)]
 pub(crate) struct Reading {
     section: Section,
     least: u64,

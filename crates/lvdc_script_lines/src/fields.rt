@@ -14,14 +14,14 @@ use lvdc_word::Cell;
 const STEPS: u64 = 3 * MOST_TIMES;
 
 /// The copy of a module.
-#[derive(Clone, Copy, Debug, PartialEq, Eq)]
+#[derive(Clone, Copy, PartialEq, Eq)]
 pub(crate) struct ModuleCopy {
     pub(crate) number: u8,
     pub(crate) copy: u8,
 }
 
 /// The steps at which an event acts.
-#[derive(Clone, Copy, Debug, PartialEq, Eq)]
+#[derive(Clone, Copy, PartialEq, Eq)]
 pub(crate) struct Span {
     pub(crate) first: u64,
     pub(crate) last: u64,

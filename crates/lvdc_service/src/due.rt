@@ -8,7 +8,7 @@ pub(crate) const USAGE: &[u8] =
     b"usage: lvdc-worker\nrequests: the commands of lvdc\n          trace [--through] FIRST COUNT\n          form\n          study\n";
 
 /// What a request is answered. All but a reply takes no memory.
-#[derive(Debug, Drop)]
+#[derive(Drop)]
 pub(crate) enum Due {
     /// The words are none that are known.
     Usage,

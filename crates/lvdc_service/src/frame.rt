@@ -17,7 +17,7 @@ use lvdc_text::Source;
 use std::alloc::Global;
 
 /// What comes of the bytes where a frame would begin.
-#[derive(Debug, Drop)]
+#[derive(Drop)]
 pub(crate) enum Next {
     /// A frame, and what its request is answered.
     Request(Due),

@@ -14,7 +14,7 @@ use std::alloc::Global;
 const LONGEST_INPUT: u64 = 134_217_728;
 
 /// What the line of a frame says. It takes no memory.
-#[derive(Debug, Drop)]
+#[derive(Drop)]
 pub struct Header {
     /// How many bytes of input follow the line.
     pub count: usize,

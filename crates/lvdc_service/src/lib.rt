@@ -2,9 +2,9 @@
 //! the bytes of its input; a reader takes pieces from a source and uses them frame by frame.
 #![tactic(auto)]
 
-mod apart;
 mod due;
 mod frame;
+mod framing;
 mod header;
 mod laws;
 mod parts;
@@ -12,7 +12,7 @@ mod reader;
 mod service;
 mod write;
 
-pub use apart::frames_are_apart;
+pub use framing::frames_are_apart;
 pub use header::{Header, header_of, words_of};
 pub use laws::replies_are_due;
 pub use parts::{Part, bytes_of};

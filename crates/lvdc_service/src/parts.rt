@@ -6,7 +6,7 @@ ghost use Rattle.lvdc_service.specs.Parts.{part_of, LiesIn};
 use arrayvec::ArrayVec;
 
 /// A part of a line: the place of its first byte, and the place after its last.
-#[derive(Clone, Copy, Debug, Default, PartialEq, Eq)]
+#[derive(Clone, Copy, Default, PartialEq, Eq)]
 pub struct Part {
     /// The place of its first byte.
     pub start: usize,

@@ -12,8 +12,9 @@ use thiserror::Error;
 /// How many bytes are taken from a source at once.
 const ROOM: usize = 4096;
 
+#[derive(Debug)]
 /// What stands where a line would begin.
-#[derive(Debug, Drop)]
+#[derive(Drop)]
 pub enum Line {
     /// A line that LF ends, without the LF.
     Ended(ArrayVec<u8, 255>),

@@ -18,7 +18,7 @@ use lvdc_word::{NoMemory, Seq, Word};
 use std::alloc::Global;
 
 /// What a voted machine has between two instruction times, but for its script and its devices.
-#[derive(Debug, Drop)]
+#[derive(Drop)]
 pub struct Snapshot {
     /// The steps made, a multiple of 3.
     pub steps: u64,

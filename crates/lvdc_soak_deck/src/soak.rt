@@ -32,7 +32,7 @@ const APART: u64 = 146;
 const TIMES: u64 = 200_000;
 
 /// What draws the words of a soak run: a linear congruential generator modulo 2^31 (this project's profile).
-#[derive(Debug, Drop)]
+#[derive(Drop)]
 struct Generator {
     state: u32,
 }

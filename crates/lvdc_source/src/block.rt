@@ -3,8 +3,9 @@ ghost use Rattle.lvdc_source.specs.Items.{block_after};
 
 use crate::Body;
 
+#[derive(Debug)]
 /// The kind of block that a line stands in.
-#[derive(Clone, Copy, Debug, PartialEq, Eq)]
+#[derive(Clone, Copy, PartialEq, Eq)]
 pub enum Block {
     /// No block is open yet.
     Nowhere,

@@ -3,7 +3,7 @@ use lvdc_map::Address;
 use lvdc_word::Seq;
 
 /// A word as a source writes it.
-#[derive(Debug, Drop)]
+#[derive(Drop)]
 pub enum Constant {
     /// An octal number of one to nine digits.
     Oct(u64),
@@ -14,7 +14,7 @@ pub enum Constant {
 }
 
 /// What an operation is written with.
-#[derive(Debug, Drop)]
+#[derive(Drop)]
 pub enum Operand {
     /// An octal number of one to nine digits: an address as it is, a port, or a pattern of a shift.
     Number(u64),
@@ -32,7 +32,7 @@ pub enum Operand {
 }
 
 /// What a line of a source says after its label.
-#[derive(Debug, Drop)]
+#[derive(Drop)]
 pub enum Body {
     /// `CODE`: a block of code begins, which stands where there is room.
     Code,
@@ -73,7 +73,7 @@ pub enum Body {
 }
 
 /// What a line of a source means. Comments and `END` mean none.
-#[derive(Debug, Drop)]
+#[derive(Drop)]
 pub struct Item {
     /// The number of its line, counted from 1.
     pub line: u32,

@@ -1,7 +1,7 @@
 use crate::Item;
 
 /// What a line means.
-#[derive(Debug, Drop)]
+#[derive(Drop)]
 pub(crate) enum Meaning {
     /// It is a comment.
     Nothing,

@@ -5,7 +5,7 @@ use crate::Block;
 use lvdc_isa::{Op, mnemonic};
 
 /// What a line names in the place of its operation: an operation of the machine, or a directive.
-#[derive(Clone, Copy, Debug, PartialEq, Eq)]
+#[derive(Clone, Copy, PartialEq, Eq)]
 pub(crate) enum Operation {
     Machine(Op),
     Oct,

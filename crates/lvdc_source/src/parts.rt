@@ -6,7 +6,7 @@ ghost use Rattle.lvdc_text.specs.declared.comment.TheConstants.{LONGEST_LINE};
 use lvdc_text::{LONGEST_LINE, Line, few_tokens, is_blank, part};
 
 /// The parts of a line; one that is missing is empty.
-#[derive(Clone, Copy, Debug)]
+#[derive(Clone, Copy)]
 pub struct Parts<'a> {
     /// The label, where the line begins with one.
     pub label: &'a [u8],

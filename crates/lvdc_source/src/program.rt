@@ -5,7 +5,7 @@ use crate::Item;
 use std::marker::Model;
 
 /// The items of a source, in the order of their lines.
-#[derive(Debug, Drop)]
+#[derive(Drop)]
 pub struct Program {
     items: Vec<Item>,
 }

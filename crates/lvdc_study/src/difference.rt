@@ -1,7 +1,7 @@
 use lvdc_map::Address;
 
 /// What differs first between a run through every fault and the plain run.
-#[derive(Clone, Copy, Debug, PartialEq, Eq)]
+#[derive(Clone, Copy, PartialEq, Eq)]
 pub enum Difference {
     /// One was done and the other stopped, or both stopped, in other steps or for other causes.
     End,

@@ -3,7 +3,7 @@ use lvdc_fault::Verdict;
 use lvdc_word::Seq;
 
 /// What a script made of a program.
-#[derive(Debug, Drop)]
+#[derive(Drop)]
 pub struct Row {
     /// The name of the script.
     pub name: Seq<u8>,

@@ -6,8 +6,9 @@ use arrayvec::ArrayVec;
 use lvdc_word::NoMemory;
 use std::alloc::Global;
 
+#[derive(Debug)]
 /// A line of a text, or a token of one: where it stands in the bytes, counted from 0, and its number, counted from 1.
-#[derive(Clone, Copy, Debug, Default, PartialEq, Eq)]
+#[derive(Clone, Copy, Default, PartialEq, Eq)]
 pub struct Line {
     /// Which line of the text, or which token of the line, it is.
     pub number: u32,

@@ -13,7 +13,7 @@ use std::alloc::Global;
 const MOST: usize = 64;
 
 /// The calls so far, and those that are to fail by their numbers, from 1.
-#[derive(Debug, Drop)]
+#[derive(Drop)]
 struct Calls {
     fails: Vec<u64>,
     made: u64,
@@ -52,7 +52,7 @@ impl Calls {
 }
 
 /// Bytes in memory, to be read at most 64 at a time, where the calls named at the start fail.
-#[derive(Debug, Drop)]
+#[derive(Drop)]
 pub struct FaultySource {
     bytes: Vec<u8>,
     at: usize,
@@ -101,7 +101,7 @@ impl Source for FaultySource {
 }
 
 /// A sink that keeps what it takes, at most 64 bytes at a time, where the calls named at the start fail.
-#[derive(Debug, Drop)]
+#[derive(Drop)]
 pub struct FaultySink {
     bytes: Vec<u8>,
     room: usize,

@@ -5,7 +5,7 @@ use lvdc_word::NoMemory;
 use std::alloc::Global;
 
 /// Bytes in memory, to be read. No read of them fails.
-#[derive(Debug, Drop)]
+#[derive(Drop)]
 pub struct MemorySource {
     bytes: Vec<u8>,
     at: usize,
@@ -46,7 +46,7 @@ impl Source for MemorySource {
 }
 
 /// A sink that keeps what it takes, in room that was made before: it takes no memory while it writes, and no write fails.
-#[derive(Debug, Drop)]
+#[derive(Drop)]
 pub struct MemorySink {
     bytes: Vec<u8>,
     room: usize,

@@ -16,7 +16,7 @@ use lvdc_text::put_decimal;
 use lvdc_word::{NoMemory, Word};
 
 /// The votes of the latches of each module, by index; no module has more than five.
-#[derive(Clone, Copy, Debug)]
+#[derive(Clone, Copy)]
 pub(crate) struct Votes {
     timer: [Word; 5],
     locator: [Word; 5],

@@ -1,5 +1,5 @@
 /// The steps that a trace tells: so many, from the first on. Steps are counted from 0, three in an instruction time.
-#[derive(Clone, Copy, Debug, PartialEq, Eq)]
+#[derive(Clone, Copy, PartialEq, Eq)]
 pub struct Window {
     pub first: u64,
     pub count: u64,

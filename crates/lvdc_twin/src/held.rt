@@ -12,7 +12,7 @@ use lvdc_word::{Cell, NoMemory, Word};
 use std::alloc::Global;
 
 /// A cell that a twin stores.
-#[derive(Clone, Copy, Debug, PartialEq, Eq)]
+#[derive(Clone, Copy, PartialEq, Eq)]
 pub struct Held {
     /// The twin, 0 or 1.
     pub twin: u8,

@@ -1,7 +1,8 @@
 use lvdc_word::Word;
 
+#[derive(Debug)]
 /// What a read found.
-#[derive(Clone, Copy, Debug, PartialEq, Eq)]
+#[derive(Clone, Copy, PartialEq, Eq)]
 pub struct ReadOut {
     /// The word of the twin used.
     pub word: Word,

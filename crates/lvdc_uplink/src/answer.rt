@@ -1,7 +1,8 @@
 use lvdc_word::Word;
 
+#[derive(Debug)]
 /// What a message of an uplink is answered: the first four acknowledge it, the others refuse it.
-#[derive(Clone, Copy, Debug, PartialEq, Eq)]
+#[derive(Clone, Copy, PartialEq, Eq)]
 pub enum Answer {
     /// The load of this id is open.
     Opened(u32),

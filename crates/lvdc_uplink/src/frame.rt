@@ -15,7 +15,7 @@ pub(crate) const MOST_WORDS: usize = 8;
 const LOCATIONS: usize = 256;
 
 /// Words for a place and those after it.
-#[derive(Debug, Drop)]
+#[derive(Drop)]
 pub(crate) struct Frame {
     at: Address,
     words: [Word; MOST_WORDS],

@@ -5,14 +5,14 @@ use crate::PatchFault;
 use lvdc_text::{is_alone, is_comment, is_long};
 
 /// The headings of the two parts.
-#[derive(Clone, Copy, Debug, PartialEq, Eq)]
+#[derive(Clone, Copy, PartialEq, Eq)]
 pub(crate) enum Heading {
     Image,
     Uplink,
 }
 
 /// What a line is where a heading is due.
-#[derive(Clone, Copy, Debug, PartialEq, Eq)]
+#[derive(Clone, Copy, PartialEq, Eq)]
 pub(crate) enum LineKind {
     /// Above 120 bytes.
     Long,

@@ -15,7 +15,7 @@ use std::marker::Model;
 const MOST_FRAMES: usize = 64;
 
 /// A load: its id, and each of its frames where that one is staged.
-#[derive(Debug, Drop)]
+#[derive(Drop)]
 pub(crate) struct Load {
     id: u32,
     frames: Vec<Option<Frame>>,

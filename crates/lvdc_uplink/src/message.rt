@@ -2,7 +2,7 @@ use crate::frame::Frame;
 use lvdc_word::Word;
 
 /// What a line of an uplink asks for (this project's profile).
-#[derive(Debug, Drop)]
+#[derive(Drop)]
 pub(crate) enum Message {
     /// A load of so many frames.
     Open {

@@ -16,7 +16,6 @@ use std::alloc::Global;
 use std::marker::Model;
 
 /// An image that messages patch, with the load that is open and what was committed last (this project's profile).
-#[derive(Debug)]
 pub struct Uplink {
     alloc: Global,
     image: Image,

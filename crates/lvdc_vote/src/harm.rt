@@ -11,7 +11,7 @@ use lvdc_word::Word;
 
 /// What becomes of the word of one latch: the bits under the mask are those of the value, and the others are turned over where
 /// the value has a one.
-#[derive(Clone, Copy, Debug, PartialEq, Eq)]
+#[derive(Clone, Copy, PartialEq, Eq)]
 pub struct Patch {
     pub mask: Word,
     pub value: Word,
@@ -58,7 +58,7 @@ impl Patch {
 
 /// What is wrong with one copy of a module as it latches, in as much room for a thousand hurts as for one: whether it lags, and
 /// what becomes of each latch. No module has more than five.
-#[derive(Clone, Copy, Debug, PartialEq, Eq)]
+#[derive(Clone, Copy, PartialEq, Eq)]
 pub struct Harm {
     pub(crate) lags: bool,
     pub(crate) patches: [Patch; 5],

@@ -5,7 +5,7 @@ use crate::{LogicModule, Vote};
 use lvdc_word::Word;
 
 /// What is wrong with one copy of a module as it latches.
-#[derive(Clone, Copy, Debug, PartialEq, Eq)]
+#[derive(Clone, Copy, PartialEq, Eq)]
 pub enum Hurt {
     /// The copy keeps its old latches.
     Lag,

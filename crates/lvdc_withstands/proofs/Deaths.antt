@@ -9,7 +9,7 @@ use Rattle.lvdc_fault.specs.Damage.{kills, is_dead}
 use Rattle.lvdc_fault.specs.declared.event.Event.{Event}
 use Rattle.lvdc_fault.specs.declared.event.Event.TheVariants.{Flip, Force, Lag, Deaf, Damage, Stick, Dead}
 use Rattle.lvdc_withstands.specs.Form.{lines_in, is_duplex_pair, is_duplex, names_twin, kills_in, is_one_sound}
-use Rattle.lvdc_withstands.proofs.Lines.{none-pass}
+use Rattle.lvdc_withstands.proofs.Lined.{none-pass}
 
 -- ---- some line and all lines
 

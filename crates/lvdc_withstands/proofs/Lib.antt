@@ -6,7 +6,7 @@ pub mod Naming
 pub mod Gathered
 pub mod Told
 pub mod Seen
-pub mod Lines
+pub mod Lined
 pub mod Deaths
 pub mod Cells
 pub mod Runs

@@ -22,7 +22,7 @@ use Rattle.lvdc_withstands.specs.Form.{lines_in, is_duplex, is_seen, names_twin,
 use Rattle.lvdc_withstands.specs.Touches.{stores_it, touches, touches_from, touches_between}
 use Rattle.lvdc_withstands.specs.Repairs.{are_apart, each_two}
 use Rattle.lvdc_withstands.proofs.Seen.{damage-seen}
-use Rattle.lvdc_withstands.proofs.Lines.{any-two, some-pass, hits, sticks, hits-names, sticks-names, two-hits, not-stuck-and-hit, not-both-stuck, Damages, Spared, Struck, damage-of, Bits, Free, Held, bits-of}
+use Rattle.lvdc_withstands.proofs.Lined.{any-two, some-pass, hits, sticks, hits-names, sticks-names, two-hits, not-stuck-and-hit, not-both-stuck, Damages, Spared, Struck, damage-of, Bits, Free, Held, bits-of}
 use Rattle.lvdc_withstands.proofs.Deaths.{dead-dies, dead-named, simplex-unnamed, both-live}
 use Rattle.lvdc_withstands.proofs.Cells.{word_after, Stored, stored, beside-shown, survives-first, survives-second}
 

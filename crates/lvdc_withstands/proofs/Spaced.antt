@@ -12,7 +12,7 @@ use Rattle.lvdc_model.specs.Trial.{Trial}
 use Rattle.lvdc_withstands.specs.Touches.{touches_from, touches_between}
 use Rattle.lvdc_withstands.specs.Repairs.{is_limited, are_apart, each_two, repairs}
 use Rattle.lvdc_withstands.specs.Scrubs.{damages_it, are_steps_apart, Scrubs}
-use Rattle.lvdc_withstands.proofs.Lines.{same-self}
+use Rattle.lvdc_withstands.proofs.Lined.{same-self}
 use Rattle.lvdc_withstands.proofs.Recovered.{touches-more}
 
 -- the lines of the run begin in it

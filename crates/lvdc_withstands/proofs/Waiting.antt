@@ -20,7 +20,7 @@ use Rattle.lvdc_withstands.specs.Form.{lines_in, kills_in}
 use Rattle.lvdc_withstands.specs.Touches.{stores_it, touches, touches_from, touches_between}
 use Rattle.lvdc_withstands.specs.Findings.{is_damage_alone, meets}
 use Rattle.lvdc_withstands.proofs.Seen.{damage-seen}
-use Rattle.lvdc_withstands.proofs.Lines.{none-pass, hits, sticks, Damages, Spared, Struck, damage-of, Bits, Free, Held, bits-of}
+use Rattle.lvdc_withstands.proofs.Lined.{none-pass, hits, sticks, Damages, Spared, Struck, damage-of, Bits, Free, Held, bits-of}
 use Rattle.lvdc_withstands.proofs.Deaths.{dead-dies}
 use Rattle.lvdc_withstands.proofs.Cells.{word_after, Stored, stored}
 use Rattle.lvdc_withstands.proofs.Recovered.{touches-none, never-between, RepairsAt, Hit, not-simplex, named, Pending, not-two, damaged-sound, before-sound}

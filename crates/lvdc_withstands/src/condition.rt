@@ -1,5 +1,6 @@
+#[derive(Debug)]
 /// A condition of the form, in the order in which they are told. Whatever program runs, a script that meets all four masks.
-#[derive(Clone, Copy, Debug, PartialEq, Eq)]
+#[derive(Clone, Copy, PartialEq, Eq)]
 pub enum Condition {
     /// At each step each module has at most one wrong copy.
     Copies,

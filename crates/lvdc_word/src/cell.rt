@@ -5,9 +5,10 @@ ghost use Rattle.lvdc_word.specs.Cell.{is_good_half, is_good, half_of, code_of, 
 use crate::{Syllable, Word};
 use std::marker::Model;
 
+#[derive(Debug)]
 /// A number below 2^28: what memory stores of a word. Bits 26 to 14 are syllable 1 and bit 27 is its parity, bits 12 to 0
 /// are syllable 0 and bit 13 is its parity (this project's profile).
-#[derive(Clone, Copy, Debug, PartialEq, Eq, PartialOrd, Ord, Hash)]
+#[derive(Clone, Copy, PartialEq, Eq, PartialOrd, Ord, Hash)]
 pub struct Cell {
     bits: u32,
 }

@@ -5,8 +5,9 @@ ghost use Rattle.lvdc_word.specs.Word.{signed, word_of, sum, difference, shifted
 use crate::Syllable;
 use std::marker::Model;
 
+#[derive(Debug)]
 /// A number below 2^26: a data word in two's complement (IBM's published word length).
-#[derive(Clone, Copy, Debug, PartialEq, Eq, PartialOrd, Ord, Hash)]
+#[derive(Clone, Copy, PartialEq, Eq, PartialOrd, Ord, Hash)]
 pub struct Word {
     bits: u32,
 }
