@@ -15,10 +15,16 @@ use std::marker::Model;
 
 /// The intended words: the last word that was written at each address, else the image's, else 0. Each is kept as its good
 /// cell, since that is what the twins are compared with. It knows nothing of faults.
-#[derive(Drop)]
 pub struct Ledger {
     banks: Banks,
     words: Codes,
+}
+
+/// Its parts go in one call, which whoever lets it go doesn't look into.
+impl Drop for Ledger {
+    fn drop(self) {
+        let Ledger { banks: _, words: _ } = self;
+    }
 }
 
 impl Model for Ledger {

@@ -17,12 +17,23 @@ use lvdc_word::NoMemory;
 use std::alloc::Global;
 
 /// What is in force on the copies, by the parts of a script. It is made for one script, and asked by step.
-#[derive(Drop)]
 pub struct Forces {
     pub(crate) at: u64,
     pub(crate) until: u64,
     pub(crate) parts: Vec<Part>,
     pub(crate) known: Known,
+}
+
+/// Its parts go in one call, which whoever lets it go doesn't look into.
+impl Drop for Forces {
+    fn drop(self) {
+        let Forces {
+            at: _,
+            until: _,
+            parts: _,
+            known: _,
+        } = self;
+    }
 }
 
 impl Forces {

@@ -6,11 +6,21 @@ use std::marker::Model;
 
 /// The words that a memory is filled with, their addresses strictly rising; every other address holds 0. Version 2 also
 /// has a start constant, and names the simplex pairs (the text is this project's profile).
-#[derive(Drop)]
 pub struct Image {
     words: Vec<Placed>,
     start: Option<Hop>,
     banks: Banks,
+}
+
+/// Its parts go in one call, which whoever lets it go doesn't look into.
+impl Drop for Image {
+    fn drop(self) {
+        let Image {
+            words: _,
+            start: _,
+            banks: _,
+        } = self;
+    }
 }
 
 impl Model for Image {

@@ -25,12 +25,23 @@ use std::marker::Model;
 
 /// Three copies of each of the seven modules, and of each copy in how many steps it differed from the vote. Contracts see
 /// the lists of both. The bus is that of the votes; where no copy stands apart, it is all that is kept of the copies.
-#[derive(Drop)]
 pub struct Logic {
     pub(crate) bus: Bus,
     pub(crate) apart: bool,
     pub(crate) triples: Triples,
     pub(crate) counts: Counts,
+}
+
+/// Its parts go in one call, which whoever lets it go doesn't look into.
+impl Drop for Logic {
+    fn drop(self) {
+        let Logic {
+            bus: _,
+            apart: _,
+            triples: _,
+            counts: _,
+        } = self;
+    }
 }
 
 impl Model for Logic {

@@ -19,7 +19,6 @@ use lvdc_vote::{Harm, LogicModule, Triple, Vote, harm_suffices};
 use lvdc_word::Word;
 
 /// Three copies of each module, and what each has latched.
-#[derive(Drop)]
 pub struct Triples {
     pub timer: Triple<Timer>,
     pub locator: Triple<Locator>,
@@ -28,6 +27,21 @@ pub struct Triples {
     pub accumulator: Triple<Accumulator>,
     pub multiplier: Triple<Multiplier>,
     pub exchange: Triple<Exchanger>,
+}
+
+/// Its parts go in one call, which whoever lets it go doesn't look into.
+impl Drop for Triples {
+    fn drop(self) {
+        let Triples {
+            timer: _,
+            locator: _,
+            decoder: _,
+            selector: _,
+            accumulator: _,
+            multiplier: _,
+            exchange: _,
+        } = self;
+    }
 }
 
 impl Triples {

@@ -22,12 +22,23 @@ use std::alloc::Global;
 use std::marker::Model;
 
 /// The events of a script that are on memory: what they stick and kill is put in force step by step. They are made for one script.
-#[derive(Drop)]
 pub struct MemoryEvents {
     events: Vec<Event>,
     parts: Vec<Part>,
     last: Option<u64>,
     until: u64,
+}
+
+/// Its parts go in one call, which whoever lets it go doesn't look into.
+impl Drop for MemoryEvents {
+    fn drop(self) {
+        let MemoryEvents {
+            events: _,
+            parts: _,
+            last: _,
+            until: _,
+        } = self;
+    }
 }
 
 impl Model for MemoryEvents {

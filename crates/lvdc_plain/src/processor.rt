@@ -17,7 +17,6 @@ use lvdc_port::PortRequest;
 use lvdc_word::{Word, product, quotient};
 
 /// The registers, the result on its way, the times left to hold, and the memory.
-#[derive(Drop)]
 pub struct Processor {
     pub banks: Banks,
     pub place: Hop,
@@ -27,6 +26,22 @@ pub struct Processor {
     pub pending: Option<Pending>,
     pub hold: u8,
     pub words: Words,
+}
+
+/// Its parts go in one call, which whoever lets it go doesn't look into.
+impl Drop for Processor {
+    fn drop(self) {
+        let Processor {
+            banks: _,
+            place: _,
+            a: _,
+            pq: _,
+            saver: _,
+            pending: _,
+            hold: _,
+            words: _,
+        } = self;
+    }
 }
 
 impl Processor {

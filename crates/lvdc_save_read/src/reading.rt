@@ -28,7 +28,6 @@ use std::alloc::Global;
 use std::marker::Model;
 
 /// What the lines so far have said.
-#[derive(Drop)]
 pub(crate) struct Reading {
     section: Section,
     least: u64,
@@ -47,6 +46,31 @@ pub(crate) struct Reading {
     unplugs: Vec<Unplug>,
     script: Script,
     orders: Orders,
+}
+
+/// Its parts go in one call, which whoever lets it go doesn't look into.
+impl Drop for Reading {
+    fn drop(self) {
+        let Reading {
+            section: _,
+            least: _,
+            steps: _,
+            count: _,
+            banks: _,
+            latches: _,
+            differed: _,
+            selected: _,
+            cells: _,
+            words: _,
+            log: _,
+            repairs: _,
+            states: _,
+            marks: _,
+            unplugs: _,
+            script: _,
+            orders: _,
+        } = self;
+    }
 }
 
 impl Model for Reading {
@@ -471,23 +495,42 @@ impl Reading {
         if self.section.rank() != Section::End.rank() {
             return Err(SaveFault::BadSave(next));
         }
+        let Reading {
+            section: _,
+            least: _,
+            steps,
+            count,
+            banks,
+            latches,
+            differed,
+            selected,
+            cells,
+            words,
+            log,
+            repairs,
+            states,
+            marks: _,
+            unplugs,
+            script,
+            orders,
+        } = self;
         Ok(Saved {
             snapshot: Snapshot {
-                steps: self.steps,
-                latches: Seq::from_vec(self.latches),
-                differed: Seq::from_vec(self.differed),
-                selected: Seq::from_vec(self.selected),
-                cells: Seq::from_vec(self.cells),
-                words: Seq::from_vec(self.words),
-                log: Seq::from_vec(self.log),
-                repairs: Seq::from_vec(self.repairs),
-                banks: self.banks,
+                steps,
+                latches: Seq::from_vec(latches),
+                differed: Seq::from_vec(differed),
+                selected: Seq::from_vec(selected),
+                cells: Seq::from_vec(cells),
+                words: Seq::from_vec(words),
+                log: Seq::from_vec(log),
+                repairs: Seq::from_vec(repairs),
+                banks,
             },
-            count: self.count,
-            states: Seq::from_vec(self.states),
-            unplugs: Seq::from_vec(self.unplugs),
-            script: self.script,
-            orders: self.orders,
+            count,
+            states: Seq::from_vec(states),
+            unplugs: Seq::from_vec(unplugs),
+            script,
+            orders,
         })
     }
 }

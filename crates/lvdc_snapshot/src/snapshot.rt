@@ -18,7 +18,6 @@ use lvdc_word::{NoMemory, Seq, Word};
 use std::alloc::Global;
 
 /// What a voted machine has between two instruction times, but for its script and its devices.
-#[derive(Drop)]
 pub struct Snapshot {
     /// The steps made, a multiple of 3.
     pub steps: u64,
@@ -37,6 +36,23 @@ pub struct Snapshot {
     /// The repairs, the oldest first.
     pub repairs: Seq<Repair>,
     pub banks: Banks,
+}
+
+/// Its parts go in one call, which whoever lets it go doesn't look into.
+impl Drop for Snapshot {
+    fn drop(self) {
+        let Snapshot {
+            steps: _,
+            latches: _,
+            differed: _,
+            selected: _,
+            cells: _,
+            words: _,
+            log: _,
+            repairs: _,
+            banks: _,
+        } = self;
+    }
 }
 
 impl Snapshot {
@@ -126,8 +142,19 @@ impl Snapshot {
         ensures repairs { IfOk result (λ noted. noted.1.items ≡ self.repairs) }
         ensures repairs_room { IfOk result (λ noted. vec_len noted.1 + more ≤ vec_capacity noted.1) }
     {
-        let log = with_room(self.log, more)?;
-        let repairs = with_room(self.repairs, more)?;
+        let Snapshot {
+            steps: _,
+            latches: _,
+            differed: _,
+            selected: _,
+            cells: _,
+            words: _,
+            log,
+            repairs,
+            banks: _,
+        } = self;
+        let log = with_room(log, more)?;
+        let repairs = with_room(repairs, more)?;
         Ok((log, repairs))
     }
 }

@@ -3,7 +3,6 @@ use lvdc_map::Address;
 use lvdc_word::Seq;
 
 /// A word as a source writes it.
-#[derive(Drop)]
 pub enum Constant {
     /// An octal number of one to nine digits.
     Oct(u64),
@@ -13,8 +12,18 @@ pub enum Constant {
     HopOf(Seq<u8>),
 }
 
+/// Its parts go in one call, which whoever lets it go doesn't look into.
+impl Drop for Constant {
+    fn drop(self) {
+        match self {
+            Constant::Oct(_) => {}
+            Constant::Dec(_) => {}
+            Constant::HopOf(_) => {}
+        }
+    }
+}
+
 /// What an operation is written with.
-#[derive(Drop)]
 pub enum Operand {
     /// An octal number of one to nine digits: an address as it is, a port, or a pattern of a shift.
     Number(u64),
@@ -31,8 +40,19 @@ pub enum Operand {
     Literal(Constant),
 }
 
+/// Its parts go in one call, which whoever lets it go doesn't look into.
+impl Drop for Operand {
+    fn drop(self) {
+        match self {
+            Operand::Number(_) => {}
+            Operand::Pair(_, _) => {}
+            Operand::Name { name: _, offset: _ } => {}
+            Operand::Literal(_) => {}
+        }
+    }
+}
+
 /// What a line of a source says after its label.
-#[derive(Drop)]
 pub enum Body {
     /// `CODE`: a block of code begins, which stands where there is room.
     Code,
@@ -72,8 +92,26 @@ pub enum Body {
     },
 }
 
+/// Its parts go in one call, which whoever lets it go doesn't look into.
+impl Drop for Body {
+    fn drop(self) {
+        match self {
+            Body::Code => {}
+            Body::Org { at: _, syl: _ } => {}
+            Body::Words {
+                pair: _,
+                sector: _,
+                loc: _,
+            } => {}
+            Body::Sector { pair: _, sector: _ } => {}
+            Body::Room(_) => {}
+            Body::Constant(_) => {}
+            Body::Instruction { op: _, operand: _ } => {}
+        }
+    }
+}
+
 /// What a line of a source means. Comments and `END` mean none.
-#[derive(Drop)]
 pub struct Item {
     /// The number of its line, counted from 1.
     pub line: u32,
@@ -81,4 +119,15 @@ pub struct Item {
     pub label: Seq<u8>,
     /// What it says after the label.
     pub body: Body,
+}
+
+/// Its parts go in one call, which whoever lets it go doesn't look into.
+impl Drop for Item {
+    fn drop(self) {
+        let Item {
+            line: _,
+            label: _,
+            body: _,
+        } = self;
+    }
 }

@@ -16,7 +16,6 @@ pub(crate) const PLACES: usize = 16384;
 
 /// The memory modules of four pairs, each with its twin. Every cell has parity (the published duplex memory; its rules of
 /// repair are this project's profile).
-#[derive(Drop)]
 pub struct Twins {
     pub(crate) banks: Banks,
     pub(crate) cells: Vec<Cell>,
@@ -25,6 +24,20 @@ pub struct Twins {
     pub(crate) selected: [u8; 4],
     /// Where it is true, nothing is stuck at any place and no twin is dead: each twin shows what it stores. False says nothing.
     pub(crate) bare: bool,
+}
+
+/// Its parts go in one call, which whoever lets it go doesn't look into.
+impl Drop for Twins {
+    fn drop(self) {
+        let Twins {
+            banks: _,
+            cells: _,
+            stuck: _,
+            dead: _,
+            selected: _,
+            bare: _,
+        } = self;
+    }
 }
 
 impl Model for Twins {
