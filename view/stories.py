@@ -117,10 +117,11 @@ def damage_of(deck: Deck, told: Trace) -> Damage | None:
 
 
 def chapter(deck: Deck, faults: list[Fault], step: int) -> Texts:
-    """The deck with these faults, its trace up to some steps after one of them, and that through every fault."""
+    """The deck with these faults, its report, its trace up to some steps after one of them, and that through every fault."""
     hurt = deck.with_faults(*faults)
     count = str(step + STEPS_AFTER)
-    return {"deck": str(hurt), "step": step, "trace": ask(["trace", "0", count], hurt), "through": ask(["trace", "--through", "0", count], hurt)}
+    return {"deck": str(hurt), "step": step, "report": ask(["run"], hurt), "trace": ask(["trace", "0", count], hurt),
+            "through": ask(["trace", "--through", "0", count], hurt)}
 
 
 def story_of(deck: Deck, told: Trace) -> Texts | None:

@@ -21,23 +21,17 @@ const EndView = (() => {
 
     const sentence = (kind, words) => html('p', { class: 'sentence', 'data-kind': kind }, words);
 
-    /** A judged run that wasn't ended by its faults has a healthy machine's results. */
-    function isProved(report) {
-        const { end, title } = report;
-        return title === 'RUN' && (end?.kind === 'done' || (end?.kind === 'stopped' && end.by !== 'MEMORY'));
-    }
-
-    /** What the end is worth; `always` is whether the script masks by form. */
-    function worth(report, always) {
-        if (!isProved(report)) return [];
-        const words = Words.of('en');
-        return [html('p', { class: 'sentence proved' }, words('end.proved')), ...(always ? [plain(words('end.always'))] : [])];
+    /** What a run's end is worth, by its report; `always` is whether the script masks by form. */
+    function worth(report, always, words) {
+        const [claim, ...others] = Claims.sentences(report, always, words);
+        if (claim === undefined) return [];
+        return [html('p', { class: 'sentence', 'data-claim': Claims.of(report) }, claim), ...others.map((it) => plain(it))];
     }
 
     /** The end of a run. */
     function run(report, always = false) {
         const words = [Telling.end(report.end, Report.times(report)), Telling.title(report.title)].filter((it) => it !== '').join(' ');
-        const made = section('end', 'How it ended', '', sentence(report.end?.kind ?? 'none', words), ...worth(report, always));
+        const made = section('end', 'How it ended', '', sentence(report.end?.kind ?? 'none', words), ...worth(report, always, Words.of('en')));
         if (report.title !== 'PLAIN') made.append(html('p', { class: 'plain', id: 'outvoted' }, Telling.outvoted(report)));
         if (report.end) made.append(html('p', {}, code(report.end.line)));
         made.append(...unread(report.unread, 'the report'));
@@ -67,5 +61,5 @@ const EndView = (() => {
         return section('text', 'A text', 'This is no text that this page draws. It stands here as it is.', lines(Lines.numbered(text)));
     }
 
-    return { run, isProved, refused, soak, doubted, asItIs, unread };
+    return { run, worth, refused, soak, doubted, asItIs, unread };
 })();

@@ -120,9 +120,7 @@ const ExhibitView = (() => {
             const { run, report, isForm } = this.found;
             if (run.trace.more) return [plain(this.words('end.goes'))];
             if (this.isInadmissible(moment)) return this.inadmissibleParts(moment);
-            if (!EndView.isProved(report)) return [];
-            const always = isForm && this.found.deck.faults.length > 0 ? [plain(this.words('end.always'))] : [];
-            return [html('p', { class: 'sentence proved' }, this.words('end.proved')), ...always];
+            return EndView.worth(report, isForm && this.found.deck.faults.length > 0, this.words);
         }
 
         inadmissibleParts(moment) {

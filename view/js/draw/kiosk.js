@@ -14,7 +14,8 @@ const Kiosk = (() => {
         const deck = Deck.read(chapter.deck);
         const momentsOf = (text) => Moments.of(Trace.read(text), deck, listing);
         const through = Trace.read(chapter.through);
-        return { deck, step: chapter.step, moments: momentsOf(chapter.trace), through: momentsOf(chapter.through), throughTrace: through };
+        const report = Report.read(chapter.report);
+        return { deck, report, step: chapter.step, moments: momentsOf(chapter.trace), through: momentsOf(chapter.through), throughTrace: through };
     }
 
     /** The moments around a step. */
@@ -159,8 +160,9 @@ const Kiosk = (() => {
     }
 
     function tellOne(kiosk, words) {
-        const [fault] = kiosk.story.one.deck.faults;
-        return [paragraph(words('kiosk.2.text', { copy: fault.copy, module: words(`module.${fault.module}`) }))];
+        const { deck: { faults: [fault] }, report } = kiosk.story.one;
+        const told = words('kiosk.2.text', { copy: fault.copy, module: words(`module.${fault.module}`) });
+        return [told, ...Claims.sentences(report, false, words)].map(paragraph);
     }
 
     function tellTwo(kiosk, words) {

@@ -3,18 +3,12 @@
 /** What a run came to, from two texts: its report, and whether its script masks by form. Nothing is judged here. */
 const LabOutcome = (() => {
     const FORM = /^FORM (?:YES|NO ([1-4]))\s*$/;
-    const BY_END = { done: 'withstood', stopped: 'withstood', logic: 'logic', memory: 'memory', device: 'device' };
+    const BY_END = { logic: 'logic', memory: 'memory', device: 'device' };
 
     /** The condition of the form that isn't met, 0 where all are, or none where the text isn't of the form. */
     function unmetOf(text) {
         const match = FORM.exec(text);
         return match ? Number(match[1] ?? 0) : null;
-    }
-
-    /** Of a run that was withstood: for good by its form, this time, or so far, since a word is lost that nobody has read. */
-    function degree(report, unmet) {
-        if (report.memory.some((it) => it.lost)) return 'so-far';
-        return unmet === 0 ? 'always' : 'this-time';
     }
 
     /** The report that an answer is, read once. */
@@ -23,14 +17,21 @@ const LabOutcome = (() => {
         return answer.report;
     }
 
+    /** The kind of a run of which something is claimed: nothing was broken; a word is lost that nobody has read; withstood for good by its
+     * form, or this time. */
+    function claimedKind(report, unmet, hurts) {
+        if (hurts === 0) return 'healthy';
+        if (Claims.of(report) === 'lost') return 'so-far';
+        return unmet === 0 ? 'always' : 'this-time';
+    }
+
     /** The kind of an outcome, with the texts' objects that say more. */
     function of(run, form, hurts) {
         if (run.text.startsWith('REFUSED ')) return { kind: 'refused', refusal: Report.refusal(run.text) };
         const report = reportOf(run);
         const unmet = unmetOf(form.text);
-        const kind = BY_END[report.end?.kind] ?? 'unknown';
-        if (kind !== 'withstood') return { kind, report, unmet };
-        return { kind: hurts === 0 ? 'healthy' : degree(report, unmet), report, unmet };
+        if (Claims.of(report) !== 'none' && unmet !== null) return { kind: claimedKind(report, unmet, hurts), report, unmet };
+        return { kind: BY_END[report.end?.kind] ?? 'unknown', report, unmet, why: 'lab.unread' };
     }
 
     /** Where two runs part, by their reports: how each ended, the first port line that differs or -1, the registers and the words that differ. */
