@@ -1,7 +1,7 @@
 """What the lab's page may ask: a few requests of lvdc-worker, each over the deck that comes with it. Nothing is kept between them."""
 import re
 
-from lab_gate import Refusal
+from gate import Refusal
 from lvdc.pools import Pool
 from lvdc.workers import Reply, TimeLimit, WorkerFailed
 

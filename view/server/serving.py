@@ -15,9 +15,9 @@ from collections.abc import Callable
 from http.server import BaseHTTPRequestHandler
 from typing import Any
 
-from lab_files import File
-from lab_gate import HEADERS, Gate, Headers, Refusal, length_of_input
-from lab_questions import asked, words_of
+from files import File
+from gate import HEADERS, Gate, Headers, Refusal, length_of_input
+from questions import asked, words_of
 from lvdc.pools import Pool
 
 ADDRESS = "127.0.0.1"

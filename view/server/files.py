@@ -5,8 +5,9 @@ import pathlib
 from collections.abc import Iterable
 from dataclasses import dataclass
 
-HERE = pathlib.Path(__file__).resolve().parent
-EXAMPLES = HERE.parent / "examples"
+VIEW = pathlib.Path(__file__).resolve().parent.parent
+PAGES = VIEW / "page"
+EXAMPLES = VIEW.parent / "examples"
 TYPES = {".html": "text/html", ".css": "text/css", ".js": "text/javascript", ".json": "application/json", ".svg": "image/svg+xml"}
 PAGE, PROGRAMS = "lab.html", "programs.json"
 
@@ -26,8 +27,8 @@ def file_of(path: str, content: bytes) -> File:
 
 def page_files() -> dict[str, File]:
     """The page, its style and its scripts, each by its path."""
-    found = [HERE / PAGE, *HERE.glob("*.css"), *HERE.glob("js/**/*.js")]
-    files = {it.relative_to(HERE).as_posix(): file_of(it.name, it.read_bytes()) for it in found}
+    found = [PAGES / PAGE, *PAGES.glob("*.css"), *PAGES.glob("js/**/*.js")]
+    files = {it.relative_to(PAGES).as_posix(): file_of(it.name, it.read_bytes()) for it in found}
     files[""] = files[PAGE]
     return files
 

@@ -9,7 +9,7 @@ from typing import TypeAlias
 from browser import Browser
 from tally import expect
 
-HERE = pathlib.Path(__file__).resolve().parent
+HERE = pathlib.Path(__file__).resolve().parent.parent / "page"
 PAGE = HERE / "index.html"
 DRAWN_DECKS = 300
 

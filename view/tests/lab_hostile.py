@@ -10,14 +10,14 @@ from collections.abc import Iterator
 from lab_running import TYPE, Lab, Tally, body_of, head_of, read_all, status_of
 from lvdc.workers import Worker
 
-DECK = (pathlib.Path(__file__).resolve().parent.parent / "examples" / "one-wrong-copy.deck").read_bytes()
+DECK = (pathlib.Path(__file__).resolve().parents[2] / "examples" / "one-wrong-copy.deck").read_bytes()
 QUESTIONS = ["run", "run/--through", "form", "save/2", "trace/0/9", "trace/--through/3/6000"]
 NO_QUESTIONS = ["", "soak/1", "debug", "save", "save/-1", "resume", "study", "campaign", "uplink", "macro", "asm/--image", "trace/0/6001",
                 "trace/0/0",
                 "trace/00/1", "trace/0/1/2", "trace/0", "trace/-1/1", "trace/30000000/1", "run/", "/run", "run/--image", "run%20",
                 "run%0aREQUEST", "run\u00e9", "form/../run", "trace/--through/--through/0/1"]
-NO_FILES = ["x", "lab", "lab_server.py", "js/lab_server.py", "../lab_server.py", "js/../lab_server.py", "../../etc/passwd", "%2e%2e/lab_server.py",
-            "..%2flab_server.py", "..\\lab_server.py", "/etc/passwd", "//etc/passwd", "js/", "js", "lab.html/", "LAB.HTML", "lab.html%00", "test-lab",
+NO_FILES = ["x", "lab", "serving.py", "js/serving.py", "../serving.py", "js/../serving.py", "../../etc/passwd", "%2e%2e/serving.py",
+            "..%2fserving.py", "..\\serving.py", "/etc/passwd", "//etc/passwd", "js/", "js", "lab.html/", "LAB.HTML", "lab.html%00", "test-lab",
             "../examples/run", "js/%70arts.js"]
 LENGTHS = {"262145": 413, "9999999999": 413, "99999999999": 411, "-1": 411, "+5": 411, "0x10": 411, "05": 411, "5 5": 411, "5,5": 411, "": 411,
            "\u0661": 411}

@@ -15,7 +15,7 @@ from browser import Browser
 from claims import try_claims
 from tally import expect
 
-HERE = pathlib.Path(__file__).resolve().parent
+HERE = pathlib.Path(__file__).resolve().parent.parent
 EXAMPLES = HERE.parent / "examples"
 TOOL = HERE / "exhibit"
 WITH_ANSWERS = [HERE / "kiosk.deck", EXAMPLES / "two-wrong-copies.deck"]

@@ -10,7 +10,7 @@ import tempfile
 import time
 import types
 
-HERE = pathlib.Path(__file__).resolve().parent
+HERE = pathlib.Path(__file__).resolve().parent.parent
 PATIENCE = 20.0
 TYPE = "application/x-lvdc-deck"
 
