@@ -7,7 +7,7 @@ use Rattle.lvdc_text.specs.Numbers.{word_in}
 use Rattle.lvdc_image.specs.Reading.{words_from as words_told, image_of}
 use Rattle.lvdc_fault.specs.declared.event.Event.TheVariants.{Lag, Dead}
 use Rattle.lvdc_fault.specs.declared.named.Named.{Named}
-use Rattle.lvdc_script_lines.specs.Fields.{module_copy_in, span_in, step_in, twin_in, pair_in}
+use Rattle.lvdc_lines.specs.Fields.{module_copy_in, span_in, step_in, twin_in, pair_in}
 use Rattle.lvdc_source.specs.Names.{is_name}
 use Rattle.lvdc_deck.specs.Deck.{commands_from, told_from, deck_from}
 use Rattle.lvdc_deck.specs.declared.deck.Deck.{Deck}

@@ -9,7 +9,7 @@ use Rattle.lvdc_port.specs.Device.{Device}
 use Rattle.lvdc_port.specs.declared.device.Kind.TheVariants.{Tape}
 use Rattle.lvdc_image.specs.Reading.{words_from as words_told, image_of}
 use Rattle.lvdc_fault.specs.declared.event.Event.TheVariants.{Lag}
-use Rattle.lvdc_script_lines.specs.Fields.{module_copy_in, span_in, step_in}
+use Rattle.lvdc_lines.specs.Fields.{module_copy_in, span_in, step_in}
 use Rattle.lvdc_source.specs.Names.{is_name}
 use Rattle.lvdc_text.specs.Numbers.{word_in}
 use Rattle.lvdc_fault.specs.declared.named.Named.{Named}

@@ -9,7 +9,7 @@ use Rattle.lvdc_text.specs.declared.cutting.Line.{Line}
 use Rattle.lvdc_fault.specs.declared.event.Event.{Event}
 use Rattle.lvdc_fault.specs.declared.named.Named.{Named}
 use Rattle.lvdc_fault.specs.Events.{IsEvent}
-use Rattle.lvdc_script_lines.specs.Lines.{fault_in}
+use Rattle.lvdc_lines.specs.Lines.{fault_in}
 use Rattle.lvdc_source.specs.Names.{is_name}
 use Rattle.lvdc_campaign_deck.specs.declared.TheConstants.{MOST_EVENTS}
 use Rattle.lvdc_campaign_deck.specs.declared.fault.CampaignFault.{CampaignFault}

@@ -2,7 +2,7 @@
 
 ghost use Rattle.std.specs.Prelude.{◌≡◌, ◌≢◌, ◌<◌, ◌≤◌, ◌-◌, ◌^◌, length, map, IfOk, IfErr, OnOk, All, Ok, Err, None, false, IsTrue};
 ghost use Rattle.lvdc_text.specs.Lines.{IsWithin, part_of};
-ghost use Rattle.lvdc_script_lines.specs.Lines.{fault_in};
+ghost use Rattle.lvdc_lines.specs.Lines.{fault_in};
 ghost use Rattle.lvdc_source.specs.Names.{is_name};
 ghost use Rattle.lvdc_campaign_deck.specs.declared.TheConstants.{MOST_EVENTS};
 ghost use Rattle.lvdc_campaign_deck.specs.declared.fault.CampaignFault.TheVariants.{NoMemory as WantsMemory};
@@ -11,7 +11,7 @@ ghost use Rattle.lvdc_campaign_deck.specs.Scripts.{nothing_said, all_scripts, ha
 use crate::by_name::ByName;
 use crate::{CampaignFault, MOST_EVENTS};
 use lvdc_fault::{Named, Script};
-use lvdc_script_lines::event_of;
+use lvdc_lines::event_of;
 use lvdc_source::is_name;
 use lvdc_text::{Line, is_comment, is_long, part, tokens};
 use lvdc_word::{NoMemory, Seq};

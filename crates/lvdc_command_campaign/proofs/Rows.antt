@@ -4,7 +4,7 @@ use Rattle.std.specs.Prelude.{codes}
 use Rattle.std.specs.Fmt.{digits}
 use Rattle.lvdc_text.specs.Numbers.{octal_text}
 use Rattle.lvdc_fault.specs.declared.verdict.Verdict.TheVariants.{Admissible, Logic, Memory}
-use Rattle.lvdc_report.specs.Report.{lines_of}
+use Rattle.lvdc_lines.specs.Noted.{lines_of}
 use Rattle.lvdc_campaign.specs.declared.row.Row.{Row}
 use Rattle.lvdc_campaign_deck.specs.declared.fault.CampaignFault.TheVariants.{BadSection, BadLine, CountTooLarge, TooManyScripts, TooManyEvents}
 use Rattle.lvdc_command_campaign.specs.Answers.{fault_status}

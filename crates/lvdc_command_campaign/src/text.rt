@@ -1,7 +1,7 @@
 //! The text of a campaign.
 
 ghost use Rattle.std.specs.Prelude.{◌≡◌, ◌+◌, ◌*◌, ◌≤◌, ◌++◌, length, All, OnOk, IfOk};
-ghost use Rattle.lvdc_report.specs.Report.{lines_of};
+ghost use Rattle.lvdc_lines.specs.Noted.{lines_of};
 ghost use Rattle.lvdc_command_campaign.specs.Texts.{verdict_text, outcome_text, row_line, admits, count_in, total_line, campaign_text};
 
 use lvdc_campaign::Row;

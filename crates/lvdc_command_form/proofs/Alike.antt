@@ -17,8 +17,9 @@ use Rattle.lvdc_model.specs.Voted.{Voted}
 use Rattle.lvdc_laws_voted.specs.Laws.{PortLaw}
 use Rattle.lvdc_laws_voted.proofs.PlainRuns.{banks-stay}
 use Rattle.lvdc_withstands.specs.Withstood.{Masked}
-use Rattle.lvdc_report.specs.Report.{title_line, end_text, registers_text, visible_in, outcome_of, log_text, memory_text, all_known}
-use Rattle.lvdc_report.specs.Voted.{wrong_text, repairs_text}
+use Rattle.lvdc_lines.specs.Noted.{log_text, repairs_text}
+use Rattle.lvdc_report.specs.Report.{title_line, end_text, registers_text, visible_in, outcome_of, memory_text, all_known}
+use Rattle.lvdc_report.specs.Voted.{wrong_text}
 use Rattle.lvdc_report.specs.declared.title.Title.TheVariants as title
 use Rattle.lvdc_command_run.specs.Accounts.{Account, end_by, whole_account, begun_account, account_by, account, end_status}
 use Rattle.lvdc_command_run.specs.Answers.{account_answer, plain_answer, run_answer, failed_answer}

@@ -19,8 +19,9 @@ use Rattle.lvdc_plain.specs.declared.records.Stop.TheVariants as stops
 use Rattle.lvdc_plain.specs.declared.records.Visible.{Visible}
 use Rattle.lvdc_model.specs.declared.repair.Repair.{Repair}
 use Rattle.lvdc_model.specs.Voted.{count_of}
-use Rattle.lvdc_report.specs.Report.{stop_text, end_text, outcome_of, lines_of, lines_below, place_line, bit_digit, word_line, registers_text, direction, exchange_line, log_text, memory_line, line_at, memory_text, all_known}
-use Rattle.lvdc_report.specs.Voted.{wrong_line, wrong_lines, wrong_text, switch_text, repair_line, repairs_text}
+use Rattle.lvdc_lines.specs.Noted.{lines_of, lines_below, direction, exchange_line, log_text, switch_text, repair_line, repairs_text}
+use Rattle.lvdc_report.specs.Report.{stop_text, end_text, outcome_of, place_line, bit_digit, word_line, registers_text, memory_line, line_at, memory_text, all_known}
+use Rattle.lvdc_report.specs.Voted.{wrong_line, wrong_lines, wrong_text}
 use Rattle.lvdc_command_form.specs.Plainly.{has_question_mark}
 
 -- ---- texts

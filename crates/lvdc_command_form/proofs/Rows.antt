@@ -5,7 +5,7 @@ use Rattle.std.specs.Fmt.{digits}
 use Rattle.lvdc_text.specs.Joined.{text_of}
 use Rattle.lvdc_text.specs.Lines.{lines_from, words_from}
 use Rattle.lvdc_image.specs.Reading.{banks_named, banks_in, image_of, words_from as words_told}
-use Rattle.lvdc_script_lines.specs.Fields.{step_in, twin_in, pair_in, cell_in, module_copy_in, span_in, place_in}
+use Rattle.lvdc_lines.specs.Fields.{step_in, twin_in, pair_in, cell_in, module_copy_in, span_in, place_in}
 use Rattle.lvdc_deck.specs.Deck.{told_from, deck_from}
 use Rattle.lvdc_reply.specs.Answer.{Answer, answer_with}
 use Rattle.lvdc_command_form.specs.Answers.{form_answer}

@@ -2,7 +2,8 @@
 use Rattle.std.specs.Prelude.{◌≡◌, ℕ, List, ◌++◌}
 use Rattle.lvdc_model.specs.Voted.{Voted}
 use Rattle.lvdc_report.specs.Report.{title_line}
-use Rattle.lvdc_report.specs.Voted.{wrong_text, repairs_text}
+use Rattle.lvdc_lines.specs.Noted.{repairs_text}
+use Rattle.lvdc_report.specs.Voted.{wrong_text}
 use Rattle.lvdc_report.specs.declared.title.Title.TheVariants.{Run, Plain}
 use Rattle.lvdc_reply.specs.Answer.{Answer}
 

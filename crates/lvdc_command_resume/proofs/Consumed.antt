@@ -10,10 +10,9 @@ use Rattle.lvdc_text.specs.declared.cutting.Line.{Line}
 use Rattle.lvdc_text.specs.Lines.{NumberedLine, is_line_feed, lines_of, part_of, numbered, word_texts_of}
 use Rattle.lvdc_text.proofs.Texts.{texts-lines_of}
 use Rattle.lvdc_port.specs.Device.{Device}
-use Rattle.lvdc_report.specs.Report as report
-use Rattle.lvdc_report.specs.Report.{exchange_line}
-use Rattle.lvdc_report.specs.Voted.{repair_line, noted_size}
-use Rattle.lvdc_report.proofs.Sizes.{length-both, none-noted}
+use Rattle.lvdc_lines.specs.Noted as noted
+use Rattle.lvdc_lines.specs.Noted.{exchange_line, repair_line, noted_size}
+use Rattle.lvdc_lines.proofs.LineSizes.{length-both, none-noted}
 use Rattle.lvdc_save.specs.Entries.{entry_in, spelled}
 use Rattle.lvdc_save.specs.Lines.{entry_line}
 use Rattle.lvdc_save.specs.Reading.{Progress, nothing_said, adds, moved_on, fits, lacking, by_lack, by_entry, after_line, and_then, told_from, whole_of, saved_in, saved_of, rank}
@@ -71,8 +70,8 @@ size-lines bytes =
 -- ---- how long the lines of a log and of repairs are
 
 pub size-more : {A : Type 0} (line : A → List ℕ) (items : List A) (item : A)
-    → length (report.lines_of line (items ++ item ∷ [])) ≡ length (report.lines_of line items) + length (line item)
-unfolding report.lines_of
+    → length (noted.lines_of line (items ++ item ∷ [])) ≡ length (noted.lines_of line items) + length (line item)
+unfolding noted.lines_of
 size-more line items item = omega (arith, length-both line items (item ∷ []), length-append (line item) [])
 
 size-adds : (number : ℕ) (r : Progress) (e : Entry)

@@ -23,8 +23,9 @@ use Rattle.lvdc_model.specs.declared.outcome.Outcome.TheVariants.{Inadmissible}
 use Rattle.lvdc_laws_voted.specs.Ends.{ShowsTimes, IsBegun, EndsAt, Comes, Good, Bad, stop_end}
 use Rattle.lvdc_laws_voted.specs.Relation.{Goes, Halts}
 use Rattle.lvdc_machine.specs.View.{answer_of_end}
-use Rattle.lvdc_report.specs.Report.{lines_below, line_at, told_line, memory_text, visible_in, outcome_of, title_line, end_text, registers_text, times_line, word_line, log_text}
-use Rattle.lvdc_report.specs.Voted.{voted_text, visible_of, wrong_text, repairs_text, soak_text, number_line, all_counts}
+use Rattle.lvdc_lines.specs.Noted.{lines_below, log_text, repairs_text}
+use Rattle.lvdc_report.specs.Report.{line_at, told_line, memory_text, visible_in, outcome_of, title_line, end_text, registers_text, times_line, word_line}
+use Rattle.lvdc_report.specs.Voted.{voted_text, visible_of, wrong_text, soak_text, number_line, all_counts}
 use Rattle.lvdc_report.specs.declared.title.Title.TheVariants as title
 use Rattle.lvdc_command_run.specs.Accounts.{Account, end_by, whole_account, begun_account, account_by, account}
 use Rattle.lvdc_command_run.specs.Answers.{account_text, soak_account_text}

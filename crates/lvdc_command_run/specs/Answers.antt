@@ -16,7 +16,8 @@ use Rattle.lvdc_soak_deck.specs.Soak.{soak_of}
 use Rattle.lvdc_deck.specs.declared.deck.Deck.{Deck}
 use Rattle.lvdc_deck.specs.declared.fault.DeckFault.{DeckFault}
 use Rattle.lvdc_report.specs.Report.{report_text, outcome_of, end_text, times_line, word_line}
-use Rattle.lvdc_report.specs.Voted.{voted_text, wrong_text, repairs_text, number_line, all_counts}
+use Rattle.lvdc_lines.specs.Noted.{repairs_text}
+use Rattle.lvdc_report.specs.Voted.{voted_text, wrong_text, number_line, all_counts}
 use Rattle.lvdc_report.specs.declared.title.Title.TheVariants as title
 use Rattle.lvdc_reply.specs.Answer.{Answer, answer_with}
 use Rattle.lvdc_command_run.specs.declared.job.Engine.{Engine}

@@ -5,8 +5,9 @@
 use Rattle.std.specs.Prelude.{◌≡◌, ℕ, List, ◌++◌}
 use Rattle.lvdc_model.specs.Trial.{Trial}
 use Rattle.lvdc_model.specs.declared.repair.Repair.{Repair}
-use Rattle.lvdc_report.specs.Report.{title_line, end_text, registers_text, visible_in, log_text, memory_text}
-use Rattle.lvdc_report.specs.Voted.{wrong_text, repairs_text}
+use Rattle.lvdc_lines.specs.Noted.{log_text, repairs_text}
+use Rattle.lvdc_report.specs.Report.{title_line, end_text, registers_text, visible_in, memory_text}
+use Rattle.lvdc_report.specs.Voted.{wrong_text}
 use Rattle.lvdc_report.specs.declared.title.Title.TheVariants.{Run}
 use Rattle.lvdc_reply.specs.Answer.{Answer}
 use Rattle.lvdc_command_run.specs.Accounts.{Account, account, end_status}

@@ -8,7 +8,7 @@ use Rattle.lvdc_text.specs.Joined.{text_of}
 use Rattle.lvdc_text.specs.Lines.{lines_from, words_from}
 use Rattle.lvdc_text.specs.Numbers.{octal_text, word_in}
 use Rattle.lvdc_image.specs.Reading.{entry_in, words_from as words_told, image_of}
-use Rattle.lvdc_script_lines.specs.Fields.{module_copy_in, index_in, span_in, step_in}
+use Rattle.lvdc_lines.specs.Fields.{module_copy_in, index_in, span_in, step_in}
 use Rattle.lvdc_source.specs.Names.{is_name}
 use Rattle.lvdc_deck.specs.Deck.{told_from, deck_from}
 use Rattle.lvdc_campaign_deck.specs.Campaign.{from_campaign}
@@ -18,7 +18,7 @@ use Rattle.lvdc_report.specs.Voted.{counts_below}
 use Rattle.lvdc_campaign_deck.specs.Study.{other_line}
 use Rattle.lvdc_study.specs.Outcomes.{least_below}
 use Rattle.lvdc_fault.specs.declared.verdict.Verdict.TheVariants.{Admissible, Logic, Memory}
-use Rattle.lvdc_report.specs.Report.{lines_of}
+use Rattle.lvdc_lines.specs.Noted.{lines_of}
 use Rattle.lvdc_study.specs.declared.difference.Difference.TheVariants.{End, Port, Registers, Words}
 use Rattle.lvdc_study.specs.declared.row.Row.{Row}
 use Rattle.lvdc_command_study.specs.Answers.{study_answer, failed_text}

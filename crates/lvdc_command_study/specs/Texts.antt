@@ -3,7 +3,7 @@ use Rattle.std.specs.Prelude.{ℕ, Bool, true, false, is_none, List, ◌++◌, c
 use Rattle.std.specs.declared.option.Option.{Option}
 use Rattle.std.specs.declared.option.Option.TheVariants.{None, Some}
 use Rattle.lvdc_image.specs.Image.{spot_text}
-use Rattle.lvdc_report.specs.Report.{lines_of}
+use Rattle.lvdc_lines.specs.Noted.{lines_of}
 use Rattle.lvdc_command_campaign.specs.Texts.{verdict_text, admits, count_in}
 use Rattle.lvdc_study.specs.declared.difference.Difference.{Difference}
 use Rattle.lvdc_study.specs.declared.difference.Difference.TheVariants.{End, Port, Registers, Words}

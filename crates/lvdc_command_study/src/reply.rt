@@ -17,13 +17,13 @@ ghost use Rattle.lvdc_command_study.specs.Texts.{study_text};
 ghost use Rattle.lvdc_command_study.specs.Studied.{IsRunnable, IsStudied};
 
 use crate::text::study_text;
+use lvdc_campaign_deck::{StudyDeck, read_study};
 use lvdc_command_campaign::refuse;
 use lvdc_command_run::opens_with_words;
 use lvdc_deck::Deck;
 use lvdc_port::PortDevice;
 use lvdc_reply::Reply;
 use lvdc_study::{Bench, Program, Row, Unstudied, rows_keep_laws, study_scripts};
-use lvdc_campaign_deck::{StudyDeck, read_study};
 use lvdc_text::put_octal;
 use lvdc_word::{NoMemory, Seq};
 use std::alloc::Global;

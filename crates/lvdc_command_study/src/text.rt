@@ -1,7 +1,7 @@
 //! The text of a study.
 
 ghost use Rattle.std.specs.Prelude.{◌≡◌, ◌+◌, ◌*◌, ◌≤◌, ◌++◌, length, All, OnOk, IfOk};
-ghost use Rattle.lvdc_report.specs.Report.{lines_of};
+ghost use Rattle.lvdc_lines.specs.Noted.{lines_of};
 ghost use Rattle.lvdc_command_campaign.specs.Texts.{count_in};
 ghost use Rattle.lvdc_command_study.specs.Texts.{difference_text, outcome_text, step_text, redundancy_text, form_text, row_line, is_admissible, is_same, total_line, study_text};
 

@@ -1,7 +1,7 @@
 -- Texts that grow by one line after the other.
 use Rattle.std.proofs.Common.{◌≡◌, ℕ, ◌+◌, List, ◌++◌, sym, ap, ◌∙◌, append_assoc, add-one}
 use Rattle.std.proofs.lemmas.List.{append-nil}
-use Rattle.lvdc_report.specs.Report.{lines_below}
+use Rattle.lvdc_lines.specs.Noted.{lines_below}
 
 pub below_none : (line : ℕ → List ℕ) (front : List ℕ) → front ≡ front ++ lines_below line 0
 unfolding lines_below

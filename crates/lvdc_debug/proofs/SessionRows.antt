@@ -8,11 +8,11 @@ use Rattle.lvdc_map.specs.declared.placed.Placed.{Placed}
 use Rattle.lvdc_vote.specs.Bits.{majority, flipped}
 use Rattle.lvdc_text.specs.Numbers.{octal_text}
 use Rattle.lvdc_port.specs.declared.device.Kind.TheVariants.{Tape}
-use Rattle.lvdc_script_lines.specs.Fields.{place_in, pair_in}
+use Rattle.lvdc_lines.specs.Fields.{place_in, pair_in}
 use Rattle.lvdc_fault.specs.declared.event.Event.{Event}
 use Rattle.lvdc_fault.specs.declared.event.Event.TheVariants.{Flip, Damage, Dead}
 use Rattle.lvdc_model.specs.Trial.{Trial}
-use Rattle.lvdc_report.specs.Report.{lines_below}
+use Rattle.lvdc_lines.specs.Noted.{lines_below}
 use Rattle.lvdc_debug.specs.Commands.{syllable_in, count_in}
 use Rattle.lvdc_debug.specs.Session.{Subject, state_after, entries, session_text, times_asked}
 

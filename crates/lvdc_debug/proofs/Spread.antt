@@ -8,7 +8,7 @@ use Rattle.std.proofs.lemmas.Slice.Eq.{bytes_eq-Decides}
 use Rattle.std.proofs.lemmas.Bool.Decides.{nat_tests}
 use Rattle.lvdc_map.specs.Address.{Spot}
 use Rattle.lvdc_text.specs.Lines.{is_blank, has_bytes, word_texts_of}
-use Rattle.lvdc_script_lines.specs.Fields.{decimal_in, place_in}
+use Rattle.lvdc_lines.specs.Fields.{decimal_in, place_in}
 use Rattle.lvdc_debug.specs.declared.command.Command.{Command}
 use Rattle.lvdc_debug.specs.declared.command.Command.TheVariants.{Step, Go, Break, Regs, Mem, Dis, Copies}
 use Rattle.lvdc_debug.specs.Commands.{syllable_in, count_in, step_in, alone_in, break_of, break_in, mem_of, mem_in, dis_in, copies_in, command_in, IsCommand}

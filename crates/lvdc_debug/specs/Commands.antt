@@ -5,7 +5,7 @@ use Rattle.std.specs.Str.{bytes_eq}
 use Rattle.lvdc_map.specs.Address.{Spot}
 use Rattle.lvdc_text.specs.Lines.{is_blank}
 use Rattle.lvdc_map.specs.Banks.{IsPlace}
-use Rattle.lvdc_script_lines.specs.Fields.{decimal_in, octal_in, place_in}
+use Rattle.lvdc_lines.specs.Fields.{decimal_in, octal_in, place_in}
 use Rattle.lvdc_debug.specs.declared.command.Command.{Command}
 use Rattle.lvdc_debug.specs.declared.command.Command.TheVariants.{Step, Go, Break, Regs, Mem, Dis, Copies}
 

@@ -23,7 +23,8 @@ use Rattle.lvdc_machine.specs.View.{bus_of_votes}
 use Rattle.lvdc_machine.specs.Stands.{shown_of}
 use Rattle.lvdc_machine.specs.declared.shown.Shown.{Shown}
 use Rattle.lvdc_machine.specs.declared.shown.Shown.TheVariants.{Known, Unknown}
-use Rattle.lvdc_report.specs.Report.{lines_below, end_text, memory_line, unknown_line, registers_text}
+use Rattle.lvdc_lines.specs.Noted.{lines_below}
+use Rattle.lvdc_report.specs.Report.{end_text, memory_line, unknown_line, registers_text}
 use Rattle.lvdc_report.specs.Voted.{visible_of}
 use Rattle.lvdc_debug.specs.declared.command.Spot2.{Spot2}
 use Rattle.lvdc_debug.specs.declared.command.Command.{Command}

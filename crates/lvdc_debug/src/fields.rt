@@ -5,7 +5,7 @@ ghost use Rattle.lvdc_text.specs.Lines.{IsWithin, part_of};
 ghost use Rattle.lvdc_debug.specs.Commands.{syllable_in, count_in, step_in, alone_in, break_in, mem_in, dis_in, copies_in, IsCommand};
 
 use crate::{Command, Spot2};
-use lvdc_script_lines::{decimal_in, octal_in, place_in};
+use lvdc_lines::{decimal_in, octal_in, place_in};
 use lvdc_text::{Line, part};
 
 /// How many locations a sector has.

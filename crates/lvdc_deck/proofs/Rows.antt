@@ -10,7 +10,7 @@ use Rattle.lvdc_image.specs.Reading.{words_from as words_told, entry_in, banks_i
 use Rattle.lvdc_image.specs.declared.fault.ImageFault.TheVariants.{BadImageLine}
 use Rattle.lvdc_fault.specs.declared.event.Event.{Event}
 use Rattle.lvdc_fault.specs.declared.event.Event.TheVariants.{Lag}
-use Rattle.lvdc_script_lines.specs.Fields.{module_copy_in, span_in, step_in}
+use Rattle.lvdc_lines.specs.Fields.{module_copy_in, span_in, step_in}
 use Rattle.lvdc_orders.specs.Orders.{plain_order}
 use Rattle.lvdc_source.specs.Lines.{parts_of}
 use Rattle.lvdc_source.specs.Names.{is_name}

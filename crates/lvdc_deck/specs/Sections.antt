@@ -14,7 +14,7 @@ use Rattle.lvdc_port.specs.declared.device.Kind.TheVariants.{Tape}
 use Rattle.lvdc_port.specs.declared.requests.Supply.{Supply}
 use Rattle.lvdc_plain.specs.declared.records.Unplug.{Unplug}
 use Rattle.lvdc_fault.specs.declared.event.Event.{Event}
-use Rattle.lvdc_script_lines.specs.Lines.{fault_in, order_in}
+use Rattle.lvdc_lines.specs.Lines.{fault_in, order_in}
 use Rattle.lvdc_source.specs.Names.{is_name}
 use Rattle.lvdc_fault.specs.declared.TheConstants.{MOST_TIMES, MOST_EVENTS}
 use Rattle.lvdc_deck.specs.declared.TheConstants.{MOST_ORDERS}

@@ -1,6 +1,5 @@
 pub mod Behind
 pub mod Counts
-pub mod Lines
 pub mod Noted
 pub mod NotedLines
 pub mod Shown

@@ -4,11 +4,10 @@ use Rattle.std.proofs.lemmas.List.Elements.{All-tail}
 use Rattle.lvdc_plain.specs.declared.records.Exchange.{Exchange}
 use Rattle.lvdc_model.specs.Voted.{Voted}
 use Rattle.lvdc_model.specs.declared.repair.Repair.{Repair}
-use Rattle.lvdc_report.specs.Report.{exchange_line, log_text}
-use Rattle.lvdc_report.specs.Voted.{repair_line, repairs_text, noted_size}
+use Rattle.lvdc_lines.specs.Noted.{exchange_line, log_text, repair_line, repairs_text, noted_size}
 use Rattle.lvdc_report.proofs.Behind.{IsBehind}
 use Rattle.lvdc_report.proofs.Noted.{IsNoted}
-use Rattle.lvdc_report.proofs.Sizes.{length-both, length-lines}
+use Rattle.lvdc_lines.proofs.LineSizes.{length-both, length-lines}
 
 -- a line of the log, and that of a repair in a step of seven digits at most
 abbrev pub IsShortExchange : Exchange → Type 0

@@ -11,8 +11,9 @@ use Rattle.lvdc_text.specs.Numbers.{octal_text}
 use Rattle.lvdc_plain.specs.declared.records.Stop.TheVariants as stops
 use Rattle.lvdc_fault.specs.declared.verdict.Verdict.TheVariants as verdicts
 use Rattle.lvdc_model.specs.declared.outcome.Outcome.TheVariants.{Done, Stopped, Inadmissible, Device}
-use Rattle.lvdc_report.specs.Report.{lines_of, title_line, end_text, registers_text, log_text, told_line}
-use Rattle.lvdc_report.specs.Voted.{wrong_lines, repairs_text, number_line, counts_below, soak_text}
+use Rattle.lvdc_lines.specs.Noted.{lines_of, log_text, repairs_text}
+use Rattle.lvdc_report.specs.Report.{title_line, end_text, registers_text, told_line}
+use Rattle.lvdc_report.specs.Voted.{wrong_lines, number_line, counts_below, soak_text}
 use Rattle.lvdc_report.specs.declared.title.Title.TheVariants.{Run, Plain, Through}
 
 titles : title_line Run ++ title_line Through ++ title_line Plain ≡ codes "LVDC RUN\nLVDC THROUGH\nLVDC PLAIN\n"

@@ -11,8 +11,9 @@ use Rattle.lvdc_plain.specs.Plain.{PlainState}
 use Rattle.lvdc_plain.specs.Stands as plain
 use Rattle.lvdc_plain.specs.View as plain_view
 use Rattle.lvdc_plain.specs.declared.records.PlainEnd.{PlainEnd}
-use Rattle.lvdc_report.specs.Report.{title_line, end_text, outcome_of, registers_text, log_text, memory_text, all_known, report_text}
-use Rattle.lvdc_report.specs.Voted.{wrong_text, repairs_text, voted_text}
+use Rattle.lvdc_lines.specs.Noted.{log_text, repairs_text}
+use Rattle.lvdc_report.specs.Report.{title_line, end_text, outcome_of, registers_text, memory_text, all_known, report_text}
+use Rattle.lvdc_report.specs.Voted.{wrong_text, voted_text}
 use Rattle.lvdc_report.specs.declared.title.Title.{Title}
 
 pub voted_text_shown : (title : Title) (o : Trial) (m : view.View) (ds : List Device) (v : Voted) → Shows o m ds v

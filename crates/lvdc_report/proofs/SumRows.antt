@@ -7,7 +7,8 @@ use Rattle.lvdc_map.specs.declared.placed.Placed.{Placed}
 use Rattle.lvdc_plain.specs.declared.records.PlainEnd.TheVariants as plain
 use Rattle.lvdc_plain.specs.Run.{Opening, run}
 use Rattle.lvdc_text.specs.Numbers.{octal_text}
-use Rattle.lvdc_report.specs.Report.{lines_of, lines_below, report_text}
+use Rattle.lvdc_lines.specs.Noted.{lines_of, lines_below}
+use Rattle.lvdc_report.specs.Report.{report_text}
 use Rattle.lvdc_report.specs.declared.title.Title.TheVariants.{Plain}
 
 -- words from a location of bank 0 and a sector on

@@ -1,11 +1,10 @@
 -- The texts of a run. Each line ends with LF.
-use Rattle.std.specs.Prelude.{ℕ, zero, suc, ◌<◌, ◌^◌, Bool, true, false, ◌==◌, List, [], ◌∷◌, ◌++◌, codes, decimal, if◌then◌else◌}
+use Rattle.std.specs.Prelude.{ℕ, Bool, true, false, ◌==◌, List, [], ◌++◌, codes, decimal, if◌then◌else◌}
 use Rattle.lvdc_map.specs.Address.{Spot, spot_at}
 use Rattle.lvdc_map.specs.Banks.{is_there}
 use Rattle.lvdc_map.specs.Hop.{HopConstant}
 use Rattle.lvdc_map.specs.Memory.{Memory, word_at}
 use Rattle.lvdc_plain.specs.Plain.{PlainState}
-use Rattle.lvdc_plain.specs.declared.records.Exchange.{Exchange}
 use Rattle.lvdc_plain.specs.declared.records.PlainEnd.{PlainEnd}
 use Rattle.lvdc_plain.specs.declared.records.PlainEnd.TheVariants as plain
 use Rattle.lvdc_plain.specs.declared.records.Stop.{Stop}
@@ -17,6 +16,7 @@ use Rattle.lvdc_model.specs.declared.outcome.Outcome.{Outcome}
 use Rattle.lvdc_model.specs.declared.outcome.Outcome.TheVariants.{Done, Stopped, Inadmissible, Device}
 use Rattle.lvdc_text.specs.Numbers.{octal_text}
 use Rattle.lvdc_image.specs.Image.{spot_text}
+use Rattle.lvdc_lines.specs.Noted.{lines_below, log_text}
 use Rattle.lvdc_report.specs.declared.title.Title.{Title}
 use Rattle.lvdc_report.specs.declared.title.Title.TheVariants.{Run, Plain, Through}
 
@@ -53,18 +53,6 @@ outcome_of plain.Done = Done
 outcome_of (plain.Stopped step stop) = Stopped step stop
 outcome_of (plain.Device step port) = Device step port
 
--- ---- lines one after another
-
--- the lines of the items of a list, in its order
-unfoldable pub lines_of : {A : Type 0} → (A → List ℕ) → List A → List ℕ
-lines_of line [] = []
-lines_of line (item ∷ items) = line item ++ lines_of line items
-
--- the lines of the first so many numbers, from 0
-unfoldable pub lines_below : (ℕ → List ℕ) → ℕ → List ℕ
-lines_below line zero = []
-lines_below line (suc number) = lines_below line number ++ line number
-
 -- ---- the registers
 
 -- the whole instruction times made
@@ -98,26 +86,6 @@ abbrev pub registers_text : Visible → List ℕ
 registers_text v =
     times_line v.times ++ place_line v.place ++ data_line v.place ++ dup_line v.place
     ++ word_line (codes "A") v.a ++ word_line (codes "PQ") v.pq ++ word_line (codes "SAVER") v.saver
-
--- ---- the port log
-
--- whether a word was read or written
-abbrev pub direction : Bool → List ℕ
-direction reading = if reading then codes "IN " else codes "OUT "
-
--- an exchange: its time in decimal, its port and its word in octal
-abbrev pub exchange_line : Exchange → List ℕ
-exchange_line e =
-    direction e.reading ++ decimal e.time ++ codes " " ++ octal_text 3 e.port ++ codes " " ++ octal_text 9 e.word ++ codes "\n"
-
--- the port and the word of an exchange are in their ranges
-pub record IsInRange (e : Exchange) : Type 0 where
-  pub port : e.port < 2 ^ 8
-  pub word : e.word < 2 ^ 26
-
--- the lines of the log in its order
-abbrev pub log_text : List Exchange → List ℕ
-log_text log = lines_of exchange_line log
 
 -- ---- the words of memory
 

@@ -1,16 +1,14 @@
 -- The report of a run of the voted machine, and the text of a soak run. Each line ends with LF.
-use Rattle.std.specs.Prelude.{ℕ, zero, suc, ◌+◌, Bool, ◌==◌, List, [], ◌++◌, codes, decimal, length, if◌then◌else◌}
-use Rattle.lvdc_image.specs.Image.{spot_text}
-use Rattle.lvdc_plain.specs.declared.records.Exchange.{Exchange}
+use Rattle.std.specs.Prelude.{ℕ, zero, suc, ◌+◌, ◌==◌, List, [], ◌++◌, codes, decimal, length, if◌then◌else◌}
 use Rattle.lvdc_plain.specs.declared.records.Visible.{Visible}
 use Rattle.lvdc_model.specs.Known.{is_known}
 use Rattle.lvdc_model.specs.Trial.{Trial}
 use Rattle.lvdc_model.specs.Voted.{Voted, count_of}
-use Rattle.lvdc_model.specs.declared.repair.Repair.{Repair}
 use Rattle.lvdc_machine.specs.View.{registers_on, bus_of_votes, answer_of_end}
 use Rattle.lvdc_machine.specs.declared.mode.Mode.{Mode}
 use Rattle.lvdc_machine.specs.declared.mode.Mode.TheVariants.{Guarded, Through}
-use Rattle.lvdc_report.specs.Report.{lines_of, lines_below, title_line, end_text, registers_text, times_line, word_line, log_text, memory_text}
+use Rattle.lvdc_lines.specs.Noted.{lines_below, log_text, repairs_text}
+use Rattle.lvdc_report.specs.Report.{title_line, end_text, registers_text, times_line, word_line, memory_text}
 use Rattle.lvdc_report.specs.declared.title.Title.{Title}
 use Rattle.lvdc_report.specs.declared.title.Title.TheVariants as titles
 
@@ -38,22 +36,6 @@ wrong_lines counts number =
 -- the lines of all seven modules
 abbrev pub wrong_text : List (List ℕ) → List ℕ
 wrong_text counts = lines_below (λ before. wrong_lines counts (before + 1)) 7
-
--- after a repair, whether the selection switched
-abbrev pub switch_text : Bool → List ℕ
-switch_text switched = if switched then codes " SWITCH" else []
-
--- a repair: its step and its twin are decimal
-abbrev pub repair_line : Repair → List ℕ
-repair_line r = codes "REPAIR " ++ decimal r.step ++ codes " " ++ spot_text r.at ++ codes " " ++ decimal r.twin ++ switch_text r.switched ++ codes "\n"
-
--- the lines of the repairs in their order
-abbrev pub repairs_text : List Repair → List ℕ
-repairs_text repairs = lines_of repair_line repairs
-
--- how many bytes the lines of a log and of repairs have
-abbrev pub noted_size : List Exchange → List Repair → ℕ
-noted_size log repairs = length (log_text log) + length (repairs_text repairs)
 
 -- ---- the whole
 

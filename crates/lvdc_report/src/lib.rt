@@ -3,7 +3,6 @@
 #![tactic(auto)]
 
 mod end;
-mod exchanges;
 mod redundancy;
 mod registers;
 mod report;
@@ -13,8 +12,6 @@ mod voted;
 mod words;
 
 pub use end::put_end;
-pub use exchanges::{put_exchange_line, put_log};
-pub use redundancy::{put_repair_line, put_repairs};
 pub use registers::put_registers;
 pub use report::{LONGEST_REPORT, report_plain};
 pub use soak::{all_counts, report_soak};

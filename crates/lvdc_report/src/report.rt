@@ -5,10 +5,10 @@ ghost use Rattle.lvdc_plain.specs.View.{answer_of_end};
 ghost use Rattle.lvdc_report.specs.Report.{report_text};
 
 use crate::end::{outcome_of, put_end};
-use crate::exchanges::put_log;
 use crate::registers::put_registers;
 use crate::title::{Title, title_line};
 use crate::words::put_memory;
+use lvdc_lines::put_log;
 use lvdc_plain::{Plain, PlainEnd};
 use lvdc_word::NoMemory;
 use std::alloc::Global;

@@ -4,7 +4,7 @@ use Rattle.lvdc_text.specs.Joined.{text_of}
 use Rattle.lvdc_text.specs.Lines.{lines_from, words_from}
 use Rattle.lvdc_text.specs.Numbers.{word_in}
 use Rattle.lvdc_port.specs.Device.{Device}
-use Rattle.lvdc_script_lines.specs.Fields.{module_copy_in, span_in, step_in}
+use Rattle.lvdc_lines.specs.Fields.{module_copy_in, span_in, step_in}
 use Rattle.lvdc_deck.specs.Deck.{told_from, deck_from, deck_of}
 use Rattle.lvdc_deck.specs.declared.deck.Deck.{Deck}
 use Rattle.lvdc_deck.specs.declared.fault.DeckFault.{DeckFault}

@@ -4,9 +4,9 @@ use Rattle.lvdc_command_resume.specs.Answers.{resume_answer}
 use Rattle.lvdc_port.specs.Device.{Device}
 use Rattle.lvdc_port.specs.declared.device.Kind.TheVariants.{Tape, Latch, Ticker}
 use Rattle.lvdc_reply.specs.Answer.{Answer, answer_with}
-use Rattle.lvdc_report.specs.Report.{lines_of}
+use Rattle.lvdc_lines.specs.Noted.{lines_of}
 use Rattle.lvdc_save.specs.Reading.{told_from, told_entries}
-use Rattle.lvdc_script_lines.specs.Fields.{step_in, twin_in, pair_in, cell_in, module_copy_in, index_in, span_in, place_in}
+use Rattle.lvdc_lines.specs.Fields.{step_in, twin_in, pair_in, cell_in, module_copy_in, index_in, span_in, place_in}
 use Rattle.lvdc_source.specs.Names.{is_name}
 use Rattle.lvdc_text.specs.Joined.{text_of}
 use Rattle.lvdc_text.specs.Lines.{lines_from, words_from}

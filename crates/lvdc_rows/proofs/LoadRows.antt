@@ -2,7 +2,7 @@
 use Rattle.std.proofs.Common.{◌≡◌, ℕ, List, [], ◌∷◌, None, refl, codes}
 use Rattle.lvdc_image.specs.Image.{Contents}
 use Rattle.lvdc_text.specs.Numbers.{word_in}
-use Rattle.lvdc_script_lines.specs.Fields.{pair_in, place_in}
+use Rattle.lvdc_lines.specs.Fields.{pair_in, place_in}
 use Rattle.lvdc_uplink.specs.Messages.{id_in, count_in}
 use Rattle.lvdc_uplink.specs.Link.{link_to}
 use Rattle.lvdc_uplink.specs.History.{answers_from}

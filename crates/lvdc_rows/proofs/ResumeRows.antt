@@ -8,12 +8,13 @@ use Rattle.lvdc_model.specs.declared.outcome.Outcome.TheVariants.{Done, Inadmiss
 use Rattle.lvdc_model.specs.declared.outcome.Outcome.{Outcome}
 use Rattle.lvdc_model.specs.declared.repair.Repair.{Repair}
 use Rattle.lvdc_reply.specs.Answer.{answer_with}
-use Rattle.lvdc_report.specs.Report.{lines_of, lines_below, registers_text}
+use Rattle.lvdc_lines.specs.Noted.{lines_of, lines_below}
+use Rattle.lvdc_report.specs.Report.{registers_text}
 use Rattle.lvdc_report.specs.Voted.{counts_below, visible_of}
 use Rattle.lvdc_save.specs.Reading.{told_from, told_entries, saved_of}
 use Rattle.lvdc_save.specs.declared.fault.SaveFault.{SaveFault}
 use Rattle.lvdc_save.specs.declared.saved.Saved.{Saved}
-use Rattle.lvdc_script_lines.specs.Fields.{step_in, twin_in, pair_in, cell_in, module_copy_in, index_in, span_in, place_in}
+use Rattle.lvdc_lines.specs.Fields.{step_in, twin_in, pair_in, cell_in, module_copy_in, index_in, span_in, place_in}
 use Rattle.lvdc_source.specs.Names.{is_name}
 use Rattle.lvdc_text.specs.Lines.{lines_from, words_from}
 use Rattle.lvdc_text.specs.Numbers.{octal_text, word_in}

@@ -7,9 +7,9 @@ use Rattle.lvdc_command_run.specs.declared.job.Engine.TheVariants.{Guarded}
 use Rattle.lvdc_command_run.specs.declared.job.Job.TheVariants.{Deck}
 use Rattle.lvdc_deck.specs.Deck.{commands_from, told_from, deck_from}
 use Rattle.lvdc_image.specs.Reading.{entry_in, words_from as words_told, banks_named, banks_in, image_of}
-use Rattle.lvdc_report.specs.Report.{lines_of, lines_below}
+use Rattle.lvdc_lines.specs.Noted.{lines_of, lines_below}
 use Rattle.lvdc_report.specs.Voted.{counts_below}
-use Rattle.lvdc_script_lines.specs.Fields.{step_in, twin_in, pair_in, cell_in, module_copy_in, index_in, span_in, place_in}
+use Rattle.lvdc_lines.specs.Fields.{step_in, twin_in, pair_in, cell_in, module_copy_in, index_in, span_in, place_in}
 use Rattle.lvdc_source.specs.Names.{is_name}
 use Rattle.lvdc_text.specs.Lines.{lines_from, words_from}
 use Rattle.lvdc_text.specs.Numbers.{octal_text, word_in}

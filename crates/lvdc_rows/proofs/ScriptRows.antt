@@ -2,8 +2,8 @@
 use Rattle.std.proofs.Common.{◌≡◌, ℕ, List, [], ◌∷◌, Option, Some, None, map, codes, refl}
 use Rattle.lvdc_text.specs.Numbers.{word_in}
 use Rattle.lvdc_fault.specs.declared.event.Event.TheVariants.{Flip, Lag, Damage, Dead}
-use Rattle.lvdc_script_lines.specs.Fields.{step_in, twin_in, pair_in, cell_in, module_copy_in, index_in, span_in, place_in}
-use Rattle.lvdc_script_lines.specs.Lines.{fault_in, order_in}
+use Rattle.lvdc_lines.specs.Fields.{step_in, twin_in, pair_in, cell_in, module_copy_in, index_in, span_in, place_in}
+use Rattle.lvdc_lines.specs.Lines.{fault_in, order_in}
 
 -- a pair has one digit, of 0 to 3
 pairs : map pair_in (codes "0" ∷ codes "3" ∷ codes "4" ∷ codes "00" ∷ codes "" ∷ []) ≡ Some 0 ∷ Some 3 ∷ None ∷ None ∷ None ∷ []

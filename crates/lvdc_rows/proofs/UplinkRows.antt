@@ -5,7 +5,7 @@ use Rattle.lvdc_uplink.specs.Answers.{uplink_answer}
 use Rattle.lvdc_uplink.specs.Input.{from_heading}
 use Rattle.lvdc_image.specs.Image.{image_text}
 use Rattle.lvdc_image.specs.Reading.{entry_in, words_from as words_told, banks_named, banks_in, image_of}
-use Rattle.lvdc_script_lines.specs.Fields.{pair_in, place_in}
+use Rattle.lvdc_lines.specs.Fields.{pair_in, place_in}
 use Rattle.lvdc_text.specs.Lines.{lines_from, words_from}
 use Rattle.lvdc_text.specs.Numbers.{octal_text, word_in}
 use Rattle.lvdc_uplink.specs.Messages.{id_in, count_in}

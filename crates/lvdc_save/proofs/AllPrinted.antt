@@ -16,7 +16,7 @@ use Rattle.lvdc_model.specs.declared.repair.Repair.{Repair}
 use Rattle.lvdc_snapshot.specs.declared.snapshot.Snapshot.{Snapshot}
 use Rattle.lvdc_snapshot.specs.Snapshot.{IsWhole}
 use Rattle.lvdc_fault.specs.Events.{TIMES}
-use Rattle.lvdc_report.specs.Report.{IsInRange}
+use Rattle.lvdc_lines.specs.Noted.{IsInRange}
 use Rattle.lvdc_save.specs.declared.entry.Entry.{Entry}
 use Rattle.lvdc_save.specs.declared.entry.Entry.TheVariants as says
 use Rattle.lvdc_save.specs.declared.saved.Saved.{Saved}

@@ -8,7 +8,7 @@ use Rattle.lvdc_text.specs.Numbers.{octal_text}
 use Rattle.lvdc_fault.specs.declared.event.Event.{Event}
 use Rattle.lvdc_fault.specs.declared.event.Event.TheVariants.{Flip, Force, Lag, Deaf, Damage, Stick, Dead}
 use Rattle.lvdc_orders.specs.Orders.{is_order}
-use Rattle.lvdc_script_lines.specs.Lines.{fault_in, order_in}
+use Rattle.lvdc_lines.specs.Lines.{fault_in, order_in}
 use Rattle.lvdc_plain.specs.declared.records.Exchange.{Exchange}
 use Rattle.lvdc_model.specs.declared.repair.Repair.{Repair}
 use Rattle.lvdc_fault.specs.Events.{TIMES}

@@ -5,8 +5,7 @@ use Rattle.std.proofs.lemmas.List.Elements.{All-head, All-tail}
 use Rattle.lvdc_map.specs.Address.{Spot}
 use Rattle.lvdc_text.specs.Numbers.{octal_text}
 use Rattle.lvdc_image.specs.Image.{spot_text}
-use Rattle.lvdc_report.specs.Report.{lines_of, direction}
-use Rattle.lvdc_report.specs.Voted.{switch_text}
+use Rattle.lvdc_lines.specs.Noted.{lines_of, direction, switch_text}
 use Rattle.lvdc_save.specs.declared.entry.CopyState.{CopyState}
 use Rattle.lvdc_save.specs.declared.entry.Entry.{Entry}
 use Rattle.lvdc_save.specs.declared.entry.Entry.TheVariants as says

@@ -6,8 +6,8 @@ use Rattle.lvdc_vote.specs.Numbers.{latches_of}
 use Rattle.lvdc_fault.specs.declared.event.Event.{Event}
 use Rattle.lvdc_fault.specs.declared.event.Event.TheVariants.{Flip, Force, Lag, Deaf, Damage, Stick, Dead}
 use Rattle.lvdc_fault.specs.Events.{IsCopy, IsSpan, IsEvent, STEPS}
-use Rattle.lvdc_script_lines.specs.Fields.{index_in}
-use Rattle.lvdc_script_lines.specs.Lines.{fault_in}
+use Rattle.lvdc_lines.specs.Fields.{index_in}
+use Rattle.lvdc_lines.specs.Lines.{fault_in}
 use Rattle.lvdc_save.proofs.Below.{few_latches}
 use Rattle.lvdc_save.proofs.Words.{IsWord, AreWords, octal-word, decimal-word}
 use Rattle.lvdc_save.proofs.Fields.{decimal-read, word-read, step-read, twin-read, one_pair-read, cell-read, place-read, module_copy-read, span-read}

@@ -8,7 +8,7 @@ use Rattle.lvdc_map.specs.Address.{Spot}
 use Rattle.lvdc_text.specs.Numbers.{word_in, below, octal_text}
 use Rattle.lvdc_text.proofs.ReadBack.{number_of-octal_text}
 use Rattle.lvdc_fault.specs.Events.{IsCopy, IsSpan, STEPS}
-use Rattle.lvdc_script_lines.specs.Fields.{from, decimal_in, octal_in, step_in, twin_in, pair_in, cell_in, module_copy_in, span_in, place_in}
+use Rattle.lvdc_lines.specs.Fields.{from, decimal_in, octal_in, step_in, twin_in, pair_in, cell_in, module_copy_in, span_in, place_in}
 use Rattle.lvdc_save.proofs.Words.{plain_number-decimal}
 
 le-leb : (m n : ℕ) → m ≤ n → nat_le m n ≡ true

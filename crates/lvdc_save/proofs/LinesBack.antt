@@ -4,7 +4,7 @@ use Rattle.std.proofs.lemmas.List.{length-map}
 use Rattle.std.proofs.lemmas.List.Elements.{All-head, All-tail}
 use Rattle.lvdc_text.specs.Lines.{lines_of, numbered, numbered_line}
 use Rattle.lvdc_port.specs.Device.{Device}
-use Rattle.lvdc_report.specs.Report as report
+use Rattle.lvdc_lines.specs.Noted as noted
 use Rattle.lvdc_save.specs.declared.entry.Entry.{Entry}
 use Rattle.lvdc_save.specs.declared.fault.SaveFault.{SaveFault}
 use Rattle.lvdc_save.specs.Lines.{entry_line}
@@ -18,12 +18,12 @@ use Rattle.lvdc_save.proofs.EntriesBack.{entry-back}
 -- ---- the lines
 
 -- the text of entries is their lines, with LF after each
-text-ended : (es : List Entry) → All IsPrinted es → report.lines_of entry_line es ≡ ended (map entry_text es)
-unfolding report.lines_of
+text-ended : (es : List Entry) → All IsPrinted es → noted.lines_of entry_line es ≡ ended (map entry_text es)
+unfolding noted.lines_of
 text-ended [] all = refl
 text-ended (e ∷ es) all =
-    ap (λ (line : List ℕ). line ++ report.lines_of entry_line es) (entry-spelled e (All-head IsPrinted e es all))
-    ∙ append_assoc (entry_text e) (codes "\n") (report.lines_of entry_line es)
+    ap (λ (line : List ℕ). line ++ noted.lines_of entry_line es) (entry-spelled e (All-head IsPrinted e es all))
+    ∙ append_assoc (entry_text e) (codes "\n") (noted.lines_of entry_line es)
     ∙ ap (λ (rest : List ℕ). entry_text e ++ (10 ∷ rest)) (text-ended es (All-tail IsPrinted e es all))
 
 printing : (es : List Entry) → All IsPrinted es → ArePrinting (map entry_text es)
@@ -34,7 +34,7 @@ printing (e ∷ es) all =
 
 -- the numbered lines of the text of entries
 numbered-entries : (es : List Entry) → All IsPrinted es →
-    numbered (report.lines_of entry_line es) (lines_of (report.lines_of entry_line es)) ≡ counted 1 (map entry_text es)
+    numbered (noted.lines_of entry_line es) (lines_of (noted.lines_of entry_line es)) ≡ counted 1 (map entry_text es)
 numbered-entries es all =
     ap (λ (bytes : List ℕ). numbered bytes (lines_of bytes)) (text-ended es all) ∙ numbered-ended (map entry_text es) (printing es all)
 
@@ -57,7 +57,7 @@ told-counted devices number r (e ∷ es) all =
 
 -- what the lines of the text of entries say is what the entries say
 pub told-entries : (devices : List Device) (r : Progress) (es : List Entry) → All IsPrinted es →
-    told_from devices r (numbered (report.lines_of entry_line es) (lines_of (report.lines_of entry_line es))) ≡ told_entries devices 1 r es
+    told_from devices r (numbered (noted.lines_of entry_line es) (lines_of (noted.lines_of entry_line es))) ≡ told_entries devices 1 r es
 told-entries devices r es all = ap (told_from devices r) (numbered-entries es all) ∙ told-counted devices 1 r es all
 
 length-counted : (number : ℕ) (texts : List (List ℕ)) → length (counted number texts) ≡ length texts
@@ -68,14 +68,14 @@ counted-texts : (es : List Entry) → length (counted 1 (map entry_text es)) ≡
 counted-texts es = length-counted 1 (map entry_text es) ∙ length-map es entry_text
 
 -- there are as many lines as entries
-pub count-entries : (es : List Entry) → All IsPrinted es → length (lines_of (report.lines_of entry_line es)) ≡ length es
+pub count-entries : (es : List Entry) → All IsPrinted es → length (lines_of (noted.lines_of entry_line es)) ≡ length es
 count-entries es all =
-    sym (length-map (lines_of (report.lines_of entry_line es)) (numbered_line (report.lines_of entry_line es)))
+    sym (length-map (lines_of (noted.lines_of entry_line es)) (numbered_line (noted.lines_of entry_line es)))
     ∙ ap length (numbered-entries es all) ∙ counted-texts es
 
 -- what the text of entries means is what the entries come to
 pub saved-entries : (devices : List Device) (es : List Entry) → All IsPrinted es →
-    saved_of devices (report.lines_of entry_line es) ≡ and_then (told_entries devices 1 nothing_said es) (whole_of (length es + 1))
+    saved_of devices (noted.lines_of entry_line es) ≡ and_then (told_entries devices 1 nothing_said es) (whole_of (length es + 1))
 saved-entries devices es all =
     ap (saved_from devices) (numbered-entries es all)
     ∙ ap (λ (told : Result Progress SaveFault). and_then told (whole_of (length (counted 1 (map entry_text es)) + 1)))

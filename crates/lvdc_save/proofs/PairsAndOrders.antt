@@ -11,7 +11,7 @@ use Rattle.lvdc_map.specs.Banks.{is_simplex}
 use Rattle.lvdc_image.specs.Image.{simplex_line}
 use Rattle.lvdc_orders.specs.Orders.{is_order, order_of}
 use Rattle.lvdc_orders.proofs.Permutations.{full_from_order, length-full}
-use Rattle.lvdc_script_lines.specs.Lines.{fault_in, order_in}
+use Rattle.lvdc_lines.specs.Lines.{fault_in, order_in}
 use Rattle.lvdc_save.specs.Entries.{pairs_in}
 use Rattle.lvdc_save.proofs.Words.{IsWord, AreWords, after_blanks, is_visible}
 use Rattle.lvdc_save.proofs.Below.{all_below, from_all_below}

@@ -2,7 +2,7 @@
 use Rattle.std.proofs.Common.{◌≡◌, true, [], ◌∷◌, refl, codes, arith}
 use Rattle.std.proofs.lemmas.Fmt.{decimal_digit}
 use Rattle.lvdc_text.specs.Numbers.{octal_text}
-use Rattle.lvdc_report.specs.Report.{lines_of}
+use Rattle.lvdc_lines.specs.Noted.{lines_of}
 use Rattle.lvdc_save.specs.declared.entry.Entry.TheVariants as says
 use Rattle.lvdc_save.specs.Lines.{entry_line}
 

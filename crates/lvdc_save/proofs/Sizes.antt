@@ -23,9 +23,9 @@ use Rattle.lvdc_plain.specs.declared.records.Exchange.{Exchange}
 use Rattle.lvdc_plain.specs.declared.records.Unplug.{Unplug}
 use Rattle.lvdc_model.specs.declared.repair.Repair.{Repair}
 use Rattle.lvdc_snapshot.specs.declared.snapshot.Snapshot.{Snapshot}
-use Rattle.lvdc_report.specs.Report.{lines_of}
-use Rattle.lvdc_report.proofs.Lines.{lines_of-append, lines_of-map}
-use Rattle.lvdc_report.proofs.Sizes.{step_short, length-direction, length-switch_text, length-lines}
+use Rattle.lvdc_lines.specs.Noted.{lines_of}
+use Rattle.lvdc_lines.proofs.LineLists.{lines_of-append, lines_of-map}
+use Rattle.lvdc_lines.proofs.LineSizes.{step_short, length-direction, length-switch_text, length-lines}
 use Rattle.lvdc_snapshot.specs.Snapshot.{IsWhole}
 use Rattle.lvdc_save.specs.Bounded.{IsBounded}
 use Rattle.lvdc_save.specs.declared.saved.Saved.{Saved}

@@ -1,8 +1,8 @@
 -- Texts that grow by the line of one entry after the other.
 use Rattle.std.proofs.Common.{◌≡◌, ℕ, ◌+◌, ◌<◌, ◌≤◌, List, [], ◌∷◌, ◌++◌, map, length, get_or, drop, sym, ap, ◌∙◌, append_assoc}
 use Rattle.std.proofs.lemmas.List.{append-nil}
-use Rattle.lvdc_report.specs.Report.{lines_of}
-use Rattle.lvdc_report.proofs.Lines.{lines_of_more, lines_of_done, lines_of-append, lines_of-map}
+use Rattle.lvdc_lines.specs.Noted.{lines_of}
+use Rattle.lvdc_lines.proofs.LineLists.{lines_of_more, lines_of_done, lines_of-append, lines_of-map}
 use Rattle.lvdc_save.specs.declared.entry.Entry.{Entry}
 use Rattle.lvdc_save.specs.Lines.{entry_line}
 

@@ -8,8 +8,8 @@ use Rattle.lvdc_map.specs.Address.{Spot}
 use Rattle.lvdc_text.specs.Lines.{word_texts_of}
 use Rattle.lvdc_text.specs.Numbers.{word_in}
 use Rattle.lvdc_fault.specs.declared.event.Event.{Event}
-use Rattle.lvdc_script_lines.specs.Fields.{decimal_in, octal_in, place_in}
-use Rattle.lvdc_script_lines.specs.Lines.{fault_in, order_in}
+use Rattle.lvdc_lines.specs.Fields.{decimal_in, octal_in, place_in}
+use Rattle.lvdc_lines.specs.Lines.{fault_in, order_in}
 use Rattle.lvdc_fault.specs.Events.{TIMES}
 use Rattle.lvdc_save.specs.declared.entry.Entry.{Entry}
 use Rattle.lvdc_save.specs.declared.entry.Entry.TheVariants as says

@@ -9,8 +9,7 @@ use Rattle.lvdc_fault.specs.declared.event.Event.TheVariants.{Flip, Force, Lag, 
 use Rattle.lvdc_port.specs.declared.requests.Supply.{Supply}
 use Rattle.lvdc_plain.specs.declared.records.Unplug.{Unplug}
 use Rattle.lvdc_image.specs.Image.{spot_text, simplex_line}
-use Rattle.lvdc_report.specs.Report.{lines_of, exchange_line}
-use Rattle.lvdc_report.specs.Voted.{repair_line}
+use Rattle.lvdc_lines.specs.Noted.{lines_of, exchange_line, repair_line}
 use Rattle.lvdc_save.specs.declared.entry.CopyState.{CopyState}
 use Rattle.lvdc_save.specs.declared.entry.Entry.{Entry}
 use Rattle.lvdc_save.specs.declared.entry.Entry.TheVariants as says

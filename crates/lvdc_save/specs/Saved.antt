@@ -4,7 +4,7 @@ use Rattle.std.specs.List.{range_with_len}
 use Rattle.lvdc_vote.specs.Numbers.{latches_of}
 use Rattle.lvdc_orders.specs.Orders.{orders_of}
 use Rattle.lvdc_snapshot.specs.declared.snapshot.Snapshot.{Snapshot}
-use Rattle.lvdc_report.specs.Report.{lines_of}
+use Rattle.lvdc_lines.specs.Noted.{lines_of}
 use Rattle.lvdc_save.specs.declared.entry.CopyState.{CopyState}
 use Rattle.lvdc_save.specs.declared.entry.Entry.{Entry}
 use Rattle.lvdc_save.specs.declared.entry.Entry.TheVariants as says

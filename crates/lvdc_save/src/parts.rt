@@ -2,7 +2,7 @@
 
 ghost use Rattle.std.specs.Prelude.{◌≡◌, ◌<◌, ◌^◌, ◌++◌, All, OnOk};
 ghost use Rattle.lvdc_map.specs.Address.{IsAddress};
-ghost use Rattle.lvdc_report.specs.Report.{lines_of};
+ghost use Rattle.lvdc_lines.specs.Noted.{lines_of};
 ghost use Rattle.lvdc_save.specs.Lines.{number_after, word_after, cell_after, spot_after, acts_on};
 
 use lvdc_image::put_address;

@@ -8,7 +8,7 @@ ghost use Rattle.lvdc_save.specs.Printed.{IsSupply, IsUnplug, IsOfADeck, IsPrint
 ghost use Rattle.lvdc_vote.specs.Numbers.{latches_of};
 ghost use Rattle.lvdc_orders.specs.Orders.{orders_of};
 ghost use Rattle.lvdc_snapshot.specs.Snapshot.{IsWhole};
-ghost use Rattle.lvdc_report.specs.Report.{lines_of};
+ghost use Rattle.lvdc_lines.specs.Noted.{lines_of};
 ghost use Rattle.lvdc_save.specs.declared.entry.Entry.TheVariants as says;
 ghost use Rattle.lvdc_save.specs.Lines.{copy_line, entry_line};
 ghost use Rattle.lvdc_save.specs.Saved.{module_at, latches_before, copy_state, copy_entries, simplex_entries, entries_of, saved_text};
@@ -20,19 +20,19 @@ use crate::lines::{
     put_steps, put_unplug,
 };
 use lvdc_fault::Script;
+use lvdc_lines::{put_log, put_repairs};
 use lvdc_map::{Banks, Placed};
 use lvdc_modules::latches;
 use lvdc_orders::{COPIES, Orders};
 use lvdc_plain::Unplug;
 use lvdc_port::Supply;
-use lvdc_report::{put_log, put_repairs};
 use lvdc_snapshot::Snapshot;
 use lvdc_twin::Held;
 use lvdc_word::NoMemory;
 use std::alloc::Global;
 
 /// Adds the SIMPLEX line, where a pair is simplex.
-#[tactic(auto, unfolding(lvdc_report::specs::Report::lines_of))]
+#[tactic(auto, unfolding(lvdc_lines::specs::Noted::lines_of))]
 fn put_banks(out: &mut Vec<u8>, banks: Banks) -> Result<(), NoMemory>
     ensures lines { OnOk result (out.new.items ≡ out.old.items ++ lines_of entry_line (simplex_entries banks)) }
     ensures banks { banks < 16 }

@@ -8,15 +8,15 @@ ghost use Rattle.lvdc_text.specs.Lines.{IsWithin, part_of};
 ghost use Rattle.lvdc_save_read.specs.Sound.{IsEntry};
 ghost use Rattle.lvdc_save.specs.Lines.{entry_line};
 ghost use Rattle.lvdc_save.specs.Entries.{title_in, steps_line_in, count_line_in, pair_bit, simplex_line_in, copy_of, copy_line_in, select_of, select_line_in, cell_of, cell_line_in, word_line_in, exchange_line_in, switch_in, repair_of, repair_line_in, state_line_in, unplug_line_in, script_of, end_in, list_line_in, head_line_in, entry_in, entry_of};
-ghost use Rattle.lvdc_script_lines.specs.Lines.{fault_in, order_in};
+ghost use Rattle.lvdc_lines.specs.Lines.{fault_in, order_in};
 
 use crate::fields::{cell_in, port_in, spot_in, steps_in, times_in, twin_in, words_in};
+use lvdc_lines::{decimal_in, event_of, order_of, place_in};
 use lvdc_map::{Address, Banks, Placed};
 use lvdc_model::Repair;
 use lvdc_plain::{Exchange, Unplug};
 use lvdc_port::Supply;
 use lvdc_save::{CopyState, Entry, put_entry};
-use lvdc_script_lines::{decimal_in, event_of, order_of, place_in};
 use lvdc_text::{Line, octal_word, part, tokens};
 use lvdc_twin::Held;
 use lvdc_word::{Cell, NoMemory, Seq, Word};

@@ -6,8 +6,8 @@ ghost use Rattle.lvdc_fault.specs.Events.{TIMES};
 ghost use Rattle.lvdc_save.specs.Entries.{steps_in, times_in, port_in, twin_in, cell_in, spot_in, words_in};
 
 use lvdc_fault::MOST_TIMES;
+use lvdc_lines::{decimal_in, octal_in};
 use lvdc_map::Address;
-use lvdc_script_lines::{decimal_in, octal_in};
 use lvdc_text::{Line, octal_word, part};
 use lvdc_word::{Cell, NoMemory, Word};
 use std::alloc::Global;

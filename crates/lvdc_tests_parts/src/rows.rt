@@ -1,7 +1,7 @@
 //! Tables of rows, and comparisons. A row ends in `;`, and its columns are parted by `|`; blanks at its start don't count. A call of
 //! these takes a part of the proof that the same assertion, written out, takes.
 use lvdc_fault::{Event, Script};
-use lvdc_script_lines::read_fault;
+use lvdc_lines::read_fault;
 use std::alloc::Global;
 use std::fmt::Debug;
 use std::process::Abort;

@@ -1,5 +1,5 @@
 use crate::rows::{column, comes, event, same, shown};
-use lvdc_script_lines::read_order;
+use lvdc_lines::read_order;
 use std::test::Fail;
 
 /// The events that lines mean, and the lines.

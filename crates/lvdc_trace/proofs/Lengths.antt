@@ -10,8 +10,8 @@ use Rattle.lvdc_text.proofs.ReadBack.{length-octal_text}
 use Rattle.lvdc_modules.specs.declared.wanted.Wanted.{Wanted}
 use Rattle.lvdc_modules.specs.declared.wanted.Wanted.TheVariants.{Nothing, Fetch, Operand, Store, PortRead, PortWrite}
 use Rattle.lvdc_model.specs.declared.repair.Repair.{Repair}
-use Rattle.lvdc_report.specs.Report.{lines_below, direction}
-use Rattle.lvdc_report.proofs.Sizes.{byte_short, length-switch_text, length-direction}
+use Rattle.lvdc_lines.specs.Noted.{lines_below, direction}
+use Rattle.lvdc_lines.proofs.LineSizes.{byte_short, length-switch_text, length-direction}
 use Rattle.lvdc_logic.specs.Logic.{latch_of, vote_at, is_outvoted}
 use Rattle.lvdc_debug.specs.Session.{latch_text, copy_line}
 use Rattle.lvdc_trace.specs.Steps.{access_line, port_line, exchange_text, repair_text, vote_line, told_copy, told_copies, copies_text}

@@ -14,7 +14,7 @@ use Rattle.lvdc_fault.specs.declared.event.Event.{Event}
 use Rattle.lvdc_fault.specs.declared.event.Event.TheVariants.{Flip, Damage}
 use Rattle.lvdc_model.specs.Trial.{Trial}
 use Rattle.lvdc_machine.specs.declared.mode.Mode.TheVariants.{Guarded, Through}
-use Rattle.lvdc_report.specs.Report.{lines_below}
+use Rattle.lvdc_lines.specs.Noted.{lines_below}
 use Rattle.lvdc_trace.specs.declared.window.Window.{Window}
 use Rattle.lvdc_trace.specs.Traces.{trace_text, failed_text}
 

@@ -15,8 +15,7 @@ use Rattle.lvdc_fault.specs.declared.event.Event.{Event}
 use Rattle.lvdc_model.specs.declared.repair.Repair.{Repair}
 use Rattle.lvdc_logic.specs.Logic.{vote_at, is_outvoted}
 use Rattle.lvdc_machine.specs.declared.made.Made.{Made}
-use Rattle.lvdc_report.specs.Report.{lines_below, direction}
-use Rattle.lvdc_report.specs.Voted.{switch_text}
+use Rattle.lvdc_lines.specs.Noted.{lines_below, direction, switch_text}
 use Rattle.lvdc_debug.specs.Session.{latch_text, copy_line}
 
 -- ---- the exchange

@@ -11,7 +11,8 @@ use Rattle.lvdc_machine.specs.Steps.{run_of}
 use Rattle.lvdc_machine.specs.declared.made.Made.{Made}
 use Rattle.lvdc_machine.specs.declared.mode.Mode.{Mode}
 use Rattle.lvdc_machine.specs.declared.mode.Mode.TheVariants.{Guarded, Through}
-use Rattle.lvdc_report.specs.Report.{lines_below, end_text}
+use Rattle.lvdc_lines.specs.Noted.{lines_below}
+use Rattle.lvdc_report.specs.Report.{end_text}
 use Rattle.lvdc_trace.specs.declared.window.Window.{Window}
 use Rattle.lvdc_trace.specs.Steps.{step_text}
 

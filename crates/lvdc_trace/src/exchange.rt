@@ -1,8 +1,7 @@
 //! The exchange of a step, and the repair that its read noted.
 
 ghost use Rattle.std.specs.Prelude.{◌≡◌, ◌+◌, ◌≤◌, ◌++◌, length, OnOk, Some};
-ghost use Rattle.lvdc_report.specs.Report.{direction};
-ghost use Rattle.lvdc_report.specs.Voted.{switch_text};
+ghost use Rattle.lvdc_lines.specs.Noted.{direction, switch_text};
 ghost use Rattle.lvdc_trace.specs.Steps.{access_line, port_line, exchange_text, repair_text};
 
 use lvdc_image::put_address;

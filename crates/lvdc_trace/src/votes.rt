@@ -4,7 +4,7 @@ ghost use Rattle.std.specs.Prelude.{◌≡◌, ℕ, ◌+◌, ◌*◌, ◌≤◌,
 ghost use Rattle.lvdc_vote.specs.Copies.{Copies};
 ghost use Rattle.lvdc_vote.specs.Numbers.{latches_of};
 ghost use Rattle.lvdc_logic.specs.Logic.{vote_at};
-ghost use Rattle.lvdc_report.specs.Report.{lines_below};
+ghost use Rattle.lvdc_lines.specs.Noted.{lines_below};
 ghost use Rattle.lvdc_debug.specs.Session.{latch_text};
 ghost use Rattle.lvdc_trace.specs.Steps.{has_changed, vote_line, told_vote, votes_text};
 ghost use Rattle.lvdc_trace.specs.Votes.{votes_in, AreVotesOf, AreVotes};

@@ -7,7 +7,7 @@ use Rattle.std.proofs.lemmas.Bool.{ltb-true, leb-true}
 use Rattle.lvdc_map.specs.Address.{Spot}
 use Rattle.lvdc_text.specs.Lines.{word_texts_of, is_long}
 use Rattle.lvdc_text.specs.Numbers.{number_of, below, word_in}
-use Rattle.lvdc_script_lines.specs.Fields.{from, octal_in, pair_in, place_of, place_in}
+use Rattle.lvdc_lines.specs.Fields.{from, octal_in, pair_in, place_of, place_in}
 use Rattle.lvdc_uplink.specs.Messages.{id_in, count_in, content_in, checked_of, open_of, open_in, frame_of, frame_in, commit_of, commit_in, abandon_in, message_in, message_of}
 use Rattle.lvdc_uplink.specs.declared.message.Message.{Message}
 use Rattle.lvdc_uplink.specs.declared.message.Message.TheVariants as messages

@@ -3,7 +3,7 @@ use Rattle.std.proofs.Common.{◌≡◌, ℕ, List, [], ◌∷◌, None, Some, r
 use Rattle.lvdc_map.specs.declared.placed.Placed.{Placed}
 use Rattle.lvdc_image.specs.Image.{Contents}
 use Rattle.lvdc_text.specs.Numbers.{word_in}
-use Rattle.lvdc_script_lines.specs.Fields.{pair_in, place_in}
+use Rattle.lvdc_lines.specs.Fields.{pair_in, place_in}
 use Rattle.lvdc_uplink.specs.Frames.{bare_load, frame_check}
 use Rattle.lvdc_uplink.specs.Patching.{with_word}
 use Rattle.lvdc_uplink.specs.Messages.{id_in, count_in}

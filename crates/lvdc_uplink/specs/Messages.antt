@@ -4,7 +4,7 @@ use Rattle.std.specs.Str.{bytes_eq}
 use Rattle.lvdc_map.specs.Address.{Spot}
 use Rattle.lvdc_text.specs.Lines.{word_texts_of, is_long}
 use Rattle.lvdc_text.specs.Numbers.{number_of, below, word_in}
-use Rattle.lvdc_script_lines.specs.Fields.{from, place_in}
+use Rattle.lvdc_lines.specs.Fields.{from, place_in}
 use Rattle.lvdc_uplink.specs.Frames.{Frame}
 use Rattle.lvdc_uplink.specs.declared.message.Message.{Message}
 use Rattle.lvdc_uplink.specs.declared.message.Message.TheVariants as messages

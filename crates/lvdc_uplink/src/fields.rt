@@ -4,8 +4,8 @@ ghost use Rattle.lvdc_uplink.specs.Messages.{decimal_in, id_in, count_in, frame_
 
 use crate::frame::{Frame, MOST_WORDS};
 use crate::message::Message;
+use lvdc_lines::place_in;
 use lvdc_map::Address;
-use lvdc_script_lines::place_in;
 use lvdc_text::{Line, decimal, octal_word, part};
 use lvdc_word::Word;
 

@@ -1,8 +1,8 @@
 use Rattle.std.proofs.Common.{ℕ, ◌++◌, ◌∙◌, ap, codes, decimal, length, arith, length-append}
 use Rattle.lvdc_campaign.specs.declared.row.Row.{Row}
 use Rattle.lvdc_command_campaign.specs.Texts.{admits, count_in}
-use Rattle.lvdc_report.proofs.Lines.{onward}
-use Rattle.lvdc_report.proofs.Sizes.{decimal_short}
+use Rattle.lvdc_lines.proofs.LineLists.{onward}
+use Rattle.lvdc_lines.proofs.LineSizes.{decimal_short}
 use Rattle.lvdc_command_campaign.proofs.text.put_total.Goals as goal
 
 pub returns-clause-line : goal.returns-clause-line

@@ -1,9 +1,9 @@
 use Rattle.std.proofs.Common.{◌+◌, ◌<◌, ◌≤◌, ℕ, List, length, sym, ap, subst, ◌∙◌, arith}
 use Rattle.lvdc_model.specs.Voted.{voted_start}
-use Rattle.lvdc_report.specs.Voted.{noted_size}
+use Rattle.lvdc_lines.specs.Noted.{noted_size}
 use Rattle.lvdc_report.specs.declared.report.TheConstants.{LONGEST_REPORT}
 use Rattle.lvdc_report.proofs.Noted.{start_below}
-use Rattle.lvdc_report.proofs.Sizes.{none-noted}
+use Rattle.lvdc_lines.proofs.LineSizes.{none-noted}
 use Rattle.lvdc_command_run.specs.Accounts.{end_status}
 use Rattle.lvdc_command_run.proofs.runs.report_end.Goals as goal
 

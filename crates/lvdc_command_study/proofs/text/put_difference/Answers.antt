@@ -1,5 +1,5 @@
 use Rattle.std.proofs.Common.{ℕ, ap, length, arith, length-append}
-use Rattle.lvdc_report.proofs.Sizes.{decimal_short}
+use Rattle.lvdc_lines.proofs.LineSizes.{decimal_short}
 use Rattle.lvdc_command_study.proofs.text.put_difference.Goals as goal
 
 pub returns-in_ok-put_decimal-in-Port-clause-short : goal.returns-in_ok-put_decimal-in-Port-clause-short

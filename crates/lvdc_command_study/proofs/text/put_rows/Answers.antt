@@ -1,6 +1,6 @@
 use Rattle.std.proofs.Common.{arith}
 use Rattle.lvdc_command_study.specs.Texts.{row_line}
-use Rattle.lvdc_report.proofs.Lines.{lines_of_more, lines_of_done}
+use Rattle.lvdc_lines.proofs.LineLists.{lines_of_more, lines_of_done}
 use Rattle.lvdc_command_study.proofs.text.put_rows.Goals as goal
 
 pub loop-row-preserved : goal.loop-row-preserved

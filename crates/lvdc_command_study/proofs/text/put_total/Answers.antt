@@ -1,6 +1,6 @@
 use Rattle.std.proofs.Common.{ℕ, ◌++◌, ◌∙◌, ap, codes, decimal, length, arith, length-append}
-use Rattle.lvdc_report.proofs.Lines.{onward}
-use Rattle.lvdc_report.proofs.Sizes.{decimal_short}
+use Rattle.lvdc_lines.proofs.LineLists.{onward}
+use Rattle.lvdc_lines.proofs.LineSizes.{decimal_short}
 use Rattle.lvdc_study.specs.declared.row.Row.{Row}
 use Rattle.lvdc_command_campaign.specs.Texts.{count_in}
 use Rattle.lvdc_command_study.specs.Texts.{is_admissible, is_same}

@@ -1,7 +1,7 @@
 use Rattle.std.proofs.Common.{◌≡◌, ℕ, ◌<◌, ◌≤◌, List, [], ◌∷◌, map, length, get_or, Option, None, Some, option_map, refl, ap, ◌∙◌, arith}
 use Rattle.lvdc_text.specs.Lines.{part_of}
 use Rattle.lvdc_text.specs.declared.cutting.Line.{Line}
-use Rattle.lvdc_script_lines.specs.Fields.{decimal_in}
+use Rattle.lvdc_lines.specs.Fields.{decimal_in}
 use Rattle.lvdc_debug.specs.declared.command.Command.TheVariants.{Step}
 use Rattle.lvdc_debug.specs.Commands.{step_in}
 use Rattle.lvdc_text.proofs.Places.{is-there}

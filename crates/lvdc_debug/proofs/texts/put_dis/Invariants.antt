@@ -2,7 +2,7 @@ use Rattle.std.proofs.Common.{◌≡◌, ℕ, ◌+◌, ◌*◌, ◌≤◌, ◌++
 use Rattle.lvdc_port.specs.Device.{Device}
 use Rattle.lvdc_model.specs.Trial.{Trial}
 use Rattle.lvdc_machine.specs.Stands.{Stands, state_by, shown_of}
-use Rattle.lvdc_report.specs.Report.{lines_below}
+use Rattle.lvdc_lines.specs.Noted.{lines_below}
 use Rattle.lvdc_debug.specs.Session.{further, instruction_shown}
 use Rattle.lvdc_debug.proofs.texts.put_dis.Given as goal
 

@@ -1,6 +1,6 @@
 use Rattle.std.proofs.Common.{◌≡◌, ◌+◌, ◌*◌, ◌≤◌, ◌++◌, length}
 use Rattle.lvdc_logic.specs.Logic.{latch_of}
-use Rattle.lvdc_report.specs.Report.{lines_below}
+use Rattle.lvdc_lines.specs.Noted.{lines_below}
 use Rattle.lvdc_debug.specs.Session.{latch_text}
 use Rattle.lvdc_debug.proofs.texts.put_latches.Given as goal
 

@@ -1,6 +1,6 @@
 use Rattle.std.proofs.Common.{ℕ, ap, length, arith, length-append}
 use Rattle.lvdc_text.proofs.ReadBack.{length-octal_text}
-use Rattle.lvdc_report.proofs.Sizes.{decimal_short}
+use Rattle.lvdc_lines.proofs.LineSizes.{decimal_short}
 use Rattle.lvdc_report.proofs.end.put_device.Goals as goal
 
 pub returns-clause-short : goal.returns-clause-short

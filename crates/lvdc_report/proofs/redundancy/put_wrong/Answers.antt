@@ -1,6 +1,6 @@
 use Rattle.std.proofs.Common.{◌+◌, arith}
 use Rattle.lvdc_report.specs.Voted.{wrong_lines}
-use Rattle.lvdc_report.proofs.Lines.{lines_below_none, lines_below_more}
+use Rattle.lvdc_lines.proofs.LineLists.{lines_below_none, lines_below_more}
 use Rattle.lvdc_report.proofs.redundancy.put_wrong.Goals as goal
 
 pub loop-before-init : goal.loop-before-init

@@ -1,5 +1,5 @@
 use Rattle.std.proofs.Common.{◌≡◌, ◌+◌, ◌*◌, ◌≤◌, ◌++◌, length}
-use Rattle.lvdc_report.specs.Report.{lines_below}
+use Rattle.lvdc_lines.specs.Noted.{lines_below}
 use Rattle.lvdc_report.specs.Voted.{wrong_lines}
 use Rattle.lvdc_report.proofs.redundancy.put_wrong.Given as goal
 

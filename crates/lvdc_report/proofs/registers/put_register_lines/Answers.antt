@@ -1,6 +1,7 @@
 use Rattle.std.proofs.Common.{codes, arith}
 use Rattle.lvdc_report.specs.Report.{place_line, data_line, dup_line, word_line}
-use Rattle.lvdc_report.proofs.Sizes.{grown_by, length-place_line, length-data_line, length-dup_line, length-word_line}
+use Rattle.lvdc_lines.proofs.LineSizes.{grown_by}
+use Rattle.lvdc_report.proofs.Sizes.{length-place_line, length-data_line, length-dup_line, length-word_line}
 use Rattle.lvdc_report.proofs.registers.put_register_lines.Goals as goal
 
 pub returns-clause-short : goal.returns-clause-short

@@ -1,9 +1,10 @@
 use Rattle.std.proofs.Common.{ℕ, ◌++◌, ap, ◌∙◌, [], length, arith, length-append}
 use Rattle.lvdc_plain.specs.View.{visible_of}
-use Rattle.lvdc_report.specs.Report.{title_line, end_text, outcome_of, registers_text, exchange_line, log_text, memory_text, all_known}
+use Rattle.lvdc_lines.specs.Noted.{exchange_line, log_text}
+use Rattle.lvdc_report.specs.Report.{title_line, end_text, outcome_of, registers_text, memory_text, all_known}
 use Rattle.lvdc_report.specs.declared.title.Title.TheVariants.{Plain}
-use Rattle.lvdc_report.proofs.Lines.{onward}
-use Rattle.lvdc_report.proofs.Sizes.{length-lines}
+use Rattle.lvdc_lines.proofs.LineLists.{onward}
+use Rattle.lvdc_lines.proofs.LineSizes.{length-lines}
 use Rattle.lvdc_report.proofs.Shown.{plain_text_shown}
 use Rattle.lvdc_report.proofs.report.report_plain.Goals as goal
 

@@ -1,6 +1,7 @@
 use Rattle.std.proofs.Common.{ap, codes, length, arith}
 use Rattle.lvdc_report.specs.Report.{word_line}
-use Rattle.lvdc_report.proofs.Sizes.{grown_by, length-word_line}
+use Rattle.lvdc_lines.proofs.LineSizes.{grown_by}
+use Rattle.lvdc_report.proofs.Sizes.{length-word_line}
 use Rattle.lvdc_report.proofs.soak.report_soak.Goals as goal
 
 pub returns-clause-size : goal.returns-clause-size

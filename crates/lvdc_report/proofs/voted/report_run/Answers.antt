@@ -3,9 +3,10 @@ use Rattle.lvdc_plain.specs.declared.records.Visible.{Visible}
 use Rattle.lvdc_model.specs.Known.{is_known}
 use Rattle.lvdc_machine.specs.Resumed.{state_from}
 use Rattle.lvdc_machine.specs.View.{answer_of_end, visible_of}
-use Rattle.lvdc_report.specs.Report.{title_line, end_text, registers_text, log_text, memory_text}
-use Rattle.lvdc_report.specs.Voted.{title_of, wrong_text, repairs_text}
-use Rattle.lvdc_report.proofs.Lines.{onward}
+use Rattle.lvdc_lines.specs.Noted.{log_text, repairs_text}
+use Rattle.lvdc_report.specs.Report.{title_line, end_text, registers_text, memory_text}
+use Rattle.lvdc_report.specs.Voted.{title_of, wrong_text}
+use Rattle.lvdc_lines.proofs.LineLists.{onward}
 use Rattle.lvdc_report.proofs.Behind.{state_from_behind}
 use Rattle.lvdc_report.proofs.Noted.{state_from_noted}
 use Rattle.lvdc_report.proofs.NotedLines.{IsShortExchange, IsShortRepair, noted-short}

@@ -1,7 +1,8 @@
 use Rattle.std.proofs.Common.{◌≡◌, ◌++◌, ◌∙◌, ap, arith}
 use Rattle.lvdc_map.specs.Address.{spot_at}
-use Rattle.lvdc_report.specs.Report.{lines_below, line_at, all_known}
-use Rattle.lvdc_report.proofs.Lines.{lines_below_none, lines_below_more}
+use Rattle.lvdc_lines.specs.Noted.{lines_below}
+use Rattle.lvdc_report.specs.Report.{line_at, all_known}
+use Rattle.lvdc_lines.proofs.LineLists.{lines_below_none, lines_below_more}
 use Rattle.lvdc_report.proofs.words.put_memory.Goals as goal
 
 pub loop-number-init : goal.loop-number-init

@@ -1,7 +1,8 @@
 use Rattle.std.proofs.Common.{◌≡◌, ◌+◌, ◌*◌, ◌≤◌, ◌++◌, length}
 use Rattle.lvdc_map.specs.Address.{spot_at}
 use Rattle.lvdc_map.specs.Memory.{Memory, IsMemory}
-use Rattle.lvdc_report.specs.Report.{lines_below, line_at, all_known}
+use Rattle.lvdc_lines.specs.Noted.{lines_below}
+use Rattle.lvdc_report.specs.Report.{line_at, all_known}
 use Rattle.lvdc_report.proofs.words.put_memory.Given as goal
 
 abbrev pub invariant-loop-number : goal.invariant-loop-number

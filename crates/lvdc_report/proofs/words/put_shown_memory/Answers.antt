@@ -2,8 +2,9 @@ use Rattle.std.proofs.Common.{◌≡◌, ◌++◌, ◌∙◌, ap, arith}
 use Rattle.lvdc_map.specs.Address.{spot_at}
 use Rattle.lvdc_model.specs.Known.{is_known}
 use Rattle.lvdc_machine.specs.Resumed.{state_from}
-use Rattle.lvdc_report.specs.Report.{lines_below, line_at}
-use Rattle.lvdc_report.proofs.Lines.{lines_below_none, lines_below_more}
+use Rattle.lvdc_lines.specs.Noted.{lines_below}
+use Rattle.lvdc_report.specs.Report.{line_at}
+use Rattle.lvdc_lines.proofs.LineLists.{lines_below_none, lines_below_more}
 use Rattle.lvdc_report.proofs.words.put_shown_memory.Goals as goal
 
 pub loop-number-init : goal.loop-number-init

@@ -5,7 +5,8 @@ use Rattle.lvdc_model.specs.Known.{is_known}
 use Rattle.lvdc_model.specs.Trial.{Trial}
 use Rattle.lvdc_model.specs.Voted.{Voted}
 use Rattle.lvdc_machine.specs.Resumed.{state_from, StandsFrom}
-use Rattle.lvdc_report.specs.Report.{lines_below, line_at}
+use Rattle.lvdc_lines.specs.Noted.{lines_below}
+use Rattle.lvdc_report.specs.Report.{line_at}
 use Rattle.lvdc_report.proofs.words.put_shown_memory.Given as goal
 
 abbrev pub invariant-loop-number : goal.invariant-loop-number

@@ -1,7 +1,7 @@
 use Rattle.std.proofs.Common.{get_or, ◌++◌, ◌∙◌, ap}
 use Rattle.std.proofs.lemmas.List.{get_or_default}
 use Rattle.lvdc_save.specs.Lines.{number_after}
-use Rattle.lvdc_report.proofs.Lines.{lines_of_more, lines_of_done}
+use Rattle.lvdc_lines.proofs.LineLists.{lines_of_more, lines_of_done}
 use Rattle.lvdc_save.proofs.parts.put_twins.Goals as goal
 
 pub loop-twin-preserved : goal.loop-twin-preserved

@@ -2,7 +2,7 @@ use Rattle.std.proofs.Common.{ℕ, ◌<◌, ◌^◌, All, subst}
 use Rattle.std.proofs.lemmas.List.{take_all}
 use Rattle.std.proofs.lemmas.List.Elements.{All-more}
 use Rattle.lvdc_save.specs.Lines.{word_after}
-use Rattle.lvdc_report.proofs.Lines.{lines_of_more, lines_of_done}
+use Rattle.lvdc_lines.proofs.LineLists.{lines_of_more, lines_of_done}
 use Rattle.lvdc_save.proofs.parts.put_words.Goals as goal
 
 pub loop-word-preserved : goal.loop-word-preserved

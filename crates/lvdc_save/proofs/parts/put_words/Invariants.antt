@@ -1,5 +1,5 @@
 use Rattle.std.proofs.Common.{◌≡◌, ℕ, ◌<◌, ◌^◌, ◌++◌, All, drop, take}
-use Rattle.lvdc_report.specs.Report.{lines_of}
+use Rattle.lvdc_lines.specs.Noted.{lines_of}
 use Rattle.lvdc_save.specs.Lines.{word_after}
 use Rattle.lvdc_save.proofs.parts.put_words.Given as goal
 

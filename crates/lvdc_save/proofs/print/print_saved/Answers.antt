@@ -8,9 +8,8 @@ use Rattle.lvdc_model.specs.declared.repair.Repair.{Repair}
 use Rattle.lvdc_fault.specs.Events.{TIMES}
 use Rattle.lvdc_save.specs.Printed.{IsSupply, IsUnplug}
 use Rattle.lvdc_map.specs.declared.placed.Placed.{Placed}
-use Rattle.lvdc_report.specs.Report.{IsInRange, lines_of, log_text}
-use Rattle.lvdc_report.specs.Voted.{repairs_text}
-use Rattle.lvdc_report.proofs.Lines.{lines_of-map}
+use Rattle.lvdc_lines.specs.Noted.{IsInRange, lines_of, log_text, repairs_text}
+use Rattle.lvdc_lines.proofs.LineLists.{lines_of-map}
 use Rattle.lvdc_save.specs.declared.entry.Entry.TheVariants as says
 use Rattle.lvdc_save.specs.Lines.{entry_line, select_line}
 use Rattle.lvdc_save.proofs.Printing.{whole_text}

@@ -1,7 +1,7 @@
 use Rattle.std.proofs.Common.{◌≡◌, ◌++◌, ◌+◌, ◌*◌, ◌≤◌, length, map, drop, take, All}
 use Rattle.lvdc_vote.specs.Copies.{IsFullOrder}
 use Rattle.lvdc_orders.specs.Orders.{orders_of}
-use Rattle.lvdc_report.specs.Report.{lines_of}
+use Rattle.lvdc_lines.specs.Noted.{lines_of}
 use Rattle.lvdc_save.specs.declared.entry.Entry.TheVariants as says
 use Rattle.lvdc_save.specs.Lines.{entry_line}
 use Rattle.lvdc_save.proofs.print.put_orders.Given as goal

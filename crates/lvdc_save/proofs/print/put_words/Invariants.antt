@@ -1,6 +1,6 @@
 use Rattle.std.proofs.Common.{◌≡◌, ◌++◌, All, map, drop, take}
 use Rattle.lvdc_image.specs.Image.{IsPlaced}
-use Rattle.lvdc_report.specs.Report.{lines_of}
+use Rattle.lvdc_lines.specs.Noted.{lines_of}
 use Rattle.lvdc_save.specs.declared.entry.Entry.TheVariants as says
 use Rattle.lvdc_save.specs.Lines.{entry_line}
 use Rattle.lvdc_save.proofs.print.put_words.Given as goal

@@ -1,5 +1,5 @@
 use Rattle.std.proofs.Common.{◌+◌}
-use Rattle.lvdc_report.proofs.Lines.{lines_below_none, lines_below_more}
+use Rattle.lvdc_lines.proofs.LineLists.{lines_below_none, lines_below_more}
 use Rattle.lvdc_trace.specs.Steps.{told_copies}
 use Rattle.lvdc_trace.proofs.copies.put_copies.Goals as goal
 

@@ -1,5 +1,5 @@
 use Rattle.std.proofs.Common.{◌≡◌, ◌+◌, ◌++◌}
-use Rattle.lvdc_report.specs.Report.{lines_below}
+use Rattle.lvdc_lines.specs.Noted.{lines_below}
 use Rattle.lvdc_trace.specs.Steps.{told_copies}
 use Rattle.lvdc_trace.proofs.copies.put_copies.Given as goal
 

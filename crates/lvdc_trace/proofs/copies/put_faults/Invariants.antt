@@ -1,6 +1,6 @@
 use Rattle.std.proofs.Common.{◌≡◌, ℕ, ◌+◌, ◌*◌, ◌≤◌, ◌++◌, length}
 use Rattle.std.specs.declared.option.Option.TheVariants.{Some}
-use Rattle.lvdc_report.specs.Report.{lines_below}
+use Rattle.lvdc_lines.specs.Noted.{lines_below}
 use Rattle.lvdc_trace.specs.Steps.{fault_lines}
 use Rattle.lvdc_trace.proofs.copies.put_faults.Given as goal
 

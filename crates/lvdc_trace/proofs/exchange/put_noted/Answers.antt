@@ -1,5 +1,5 @@
 use Rattle.std.proofs.Common.{ℕ, ap, length, arith, length-append}
-use Rattle.lvdc_report.proofs.Sizes.{byte_short, length-switch_text}
+use Rattle.lvdc_lines.proofs.LineSizes.{byte_short, length-switch_text}
 use Rattle.lvdc_trace.proofs.exchange.put_noted.Goals as goal
 
 pub returns-clause-short : goal.returns-clause-short

@@ -1,5 +1,5 @@
 use Rattle.std.proofs.Common.{ℕ, ap, length, arith, length-append}
-use Rattle.lvdc_report.proofs.Sizes.{step_short}
+use Rattle.lvdc_lines.proofs.LineSizes.{step_short}
 use Rattle.lvdc_trace.proofs.Lengths.{length-exchange_text, length-copies_text}
 use Rattle.lvdc_trace.proofs.step.put_step.Goals as goal
 

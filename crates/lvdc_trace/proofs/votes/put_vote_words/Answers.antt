@@ -1,5 +1,5 @@
 use Rattle.std.proofs.Common.{◌++◌, ◌∙◌, ap}
-use Rattle.lvdc_report.proofs.Lines.{lines_below_none, lines_below_more}
+use Rattle.lvdc_lines.proofs.LineLists.{lines_below_none, lines_below_more}
 use Rattle.lvdc_debug.specs.Session.{latch_text}
 use Rattle.lvdc_logic.specs.Logic.{vote_at}
 use Rattle.lvdc_trace.proofs.votes.put_vote_words.Goals as goal

@@ -1,5 +1,5 @@
 use Rattle.std.proofs.Common.{◌≡◌, ◌++◌}
-use Rattle.lvdc_report.specs.Report.{lines_below}
+use Rattle.lvdc_lines.specs.Noted.{lines_below}
 use Rattle.lvdc_debug.specs.Session.{latch_text}
 use Rattle.lvdc_logic.specs.Logic.{vote_at}
 use Rattle.lvdc_trace.proofs.votes.put_vote_words.Given as goal

@@ -1,6 +1,6 @@
 use Rattle.std.proofs.Common.{◌≡◌, ℕ, ◌+◌, ◌*◌, ◌≤◌, suc, ap, arith}
 use Rattle.lvdc_vote.specs.Numbers.{latches_of}
-use Rattle.lvdc_report.proofs.Lines.{lines_below_none, lines_below_more}
+use Rattle.lvdc_lines.proofs.LineLists.{lines_below_none, lines_below_more}
 use Rattle.lvdc_trace.specs.Steps.{told_vote}
 use Rattle.lvdc_trace.proofs.Lengths.{vote_room}
 use Rattle.lvdc_trace.proofs.votes.put_votes.Goals as goal

@@ -1,6 +1,6 @@
 use Rattle.std.proofs.Common.{◌≡◌, ◌+◌, ◌≤◌, ◌++◌, List, length}
 use Rattle.lvdc_vote.specs.Copies.{Copies}
-use Rattle.lvdc_report.specs.Report.{lines_below}
+use Rattle.lvdc_lines.specs.Noted.{lines_below}
 use Rattle.lvdc_trace.specs.Steps.{told_vote}
 use Rattle.lvdc_trace.specs.Votes.{AreVotes}
 use Rattle.lvdc_trace.proofs.Lengths.{vote_room}

@@ -1,6 +1,6 @@
 use Rattle.std.proofs.Common.{map, sym, ◌∙◌}
 use Rattle.lvdc_text.specs.Lines.{part_of}
-use Rattle.lvdc_script_lines.specs.Lines.{fault_in}
+use Rattle.lvdc_lines.specs.Lines.{fault_in}
 use Rattle.lvdc_campaign_deck.proofs.Steps.{event-none, event-many, event-more}
 use Rattle.lvdc_campaign_deck.proofs.scripts.Scripts.take_event.Goals as goal
 

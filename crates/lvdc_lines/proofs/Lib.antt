@@ -1,0 +1,3 @@
+mod Rows
+pub mod LineLists
+pub mod LineSizes

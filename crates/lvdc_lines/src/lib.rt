@@ -1,0 +1,15 @@
+//! Lines that several texts share. Those of a fault script and of a deck's orders: events with their numbers in range, and orders of
+//! latching (this project's profile). Those of what a run notes: exchanges with devices, and repairs.
+#![tactic(auto)]
+
+mod cells;
+mod copies;
+mod exchanges;
+mod fields;
+mod lines;
+mod repairs;
+
+pub use exchanges::{put_exchange_line, put_log};
+pub use fields::{decimal_in, octal_in, place_in};
+pub use lines::{event_of, order_of, read_fault, read_order};
+pub use repairs::{put_repair_line, put_repairs};
