@@ -17,8 +17,8 @@ class Case:
     """What is given, and what is known of the answer without the simulator."""
 
     def __init__(self, name: str, shows: str, words: str | list[str], given: str, status: int = 0, text: str | None = None,
-                 has: str | Sequence[str] = (), lacks: Sequence[str] = (), worked: bool = False) -> None:
-        self.name, self.shows, self.given, self.status, self.worked = name, shows, given, status, worked
+                 has: str | Sequence[str] = (), lacks: Sequence[str] = (), worked: bool = False, is_long: bool = False) -> None:
+        self.name, self.shows, self.given, self.status, self.worked, self.is_long = name, shows, given, status, worked, is_long
         self.words = words.split() if isinstance(words, str) else words
         self.text = None if text is None else block(text)
         self.has = block(has).splitlines() if isinstance(has, str) else list(has)

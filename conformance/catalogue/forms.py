@@ -4,7 +4,7 @@ from .traces import USAGE
 
 TITLE = "forms"
 SHOWS = """Whether a script masks by form, by the request `form` of the worker: it is told from the lines, the simplex pairs and the count
-alone, and nothing is run. `conformance/run-worker` tries these, and `conformance/run` passes over them. A run of two times has the
+alone, and nothing is run. Only a worker has it: `conformance/run --worker`. A run of two times has the
 steps 0 to 5."""
 
 FIRST_ROW = """

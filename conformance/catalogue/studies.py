@@ -6,7 +6,7 @@ from .traces import USAGE
 
 TITLE = "studies"
 SHOWS = """One program with devices under many scripts, by the request `study` of the worker: of each script the verdict, what differs first,
-what the redundancy did, and whether it masks by form. `conformance/run-worker` tries these, and `conformance/run` passes over them."""
+what the redundancy did, and whether it masks by form. Only a worker has it: `conformance/run --worker`."""
 
 # Reads a word from port 000, stores it, writes it to port 017 and waits.
 TAPE_CODE = "12400 13002 12017 10003"

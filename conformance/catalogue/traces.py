@@ -5,8 +5,7 @@ from . import Case, deck, sum_deck
 from .faults import DEAF_CODE, EVERY_STEP_C
 
 TITLE = "traces"
-SHOWS = """What happened in each step of a run, by the request `trace` of the worker: `conformance/run-worker` tries these, and
-`conformance/run` passes over them."""
+SHOWS = """What happened in each step of a run, by the request `trace`, which only a worker has."""
 
 USAGE = """
 usage: lvdc-worker

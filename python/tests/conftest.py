@@ -1,6 +1,11 @@
 """What the tests share: the texts of the repository, and a worker where one is there."""
-import gzip
+import atexit
+import functools
 import os
+import shutil
+import subprocess
+import sys
+import tempfile
 from collections.abc import Iterator
 from pathlib import Path
 
@@ -18,15 +23,18 @@ settings.register_profile("others", deadline=None)
 settings.load_profile("same")
 
 
+@functools.cache
 def cases() -> list[Path]:
-    """The folders of the conformance cases."""
-    return sorted((TOP / "conformance" / "cases").glob("*/*"))
+    """The conformance cases, each as a folder of its words, its input, its text and its status, which go when the tests are over."""
+    folder = tempfile.mkdtemp()
+    atexit.register(shutil.rmtree, folder)
+    subprocess.run([sys.executable, str(TOP / "conformance" / "run"), "--unpack", folder], check=True)
+    return sorted(Path(folder).glob("*/*"))
 
 
 def input_of(case: Path) -> bytes:
     """The input of a case."""
-    packed = case / "input.gz"
-    return gzip.decompress(packed.read_bytes()) if packed.exists() else (case / "input").read_bytes()
+    return (case / "input").read_bytes()
 
 
 def name_of(path: Path) -> str:
