@@ -7,8 +7,8 @@ ghost use Rattle.lvdc_asm.specs.declared.fault.AsmFault.TheVariants.{NoMemory as
 
 use crate::AsmFault;
 use crate::data::DataPlace;
-use lvdc_text::Index;
 use lvdc_source::Item;
+use lvdc_text::Index;
 use std::alloc::Global;
 use std::marker::Model;
 

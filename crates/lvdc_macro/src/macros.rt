@@ -2,8 +2,8 @@ ghost use Rattle.std.specs.Prelude.{◌≡◌, ℕ, List, ◌++◌, ◌∷◌, [
 ghost use Rattle.lvdc_macro.specs.Macros.{is_reserved, may_be_named};
 ghost use Rattle.lvdc_macro.specs.Making.{lines_named, macros_of};
 
-use lvdc_text::{Index, Line};
 use lvdc_source::{is_name, is_operation};
+use lvdc_text::{Index, Line};
 use lvdc_word::NoMemory;
 use std::alloc::Global;
 use std::marker::Model;

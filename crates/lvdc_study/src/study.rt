@@ -18,12 +18,12 @@ use crate::runs::go_through;
 use crate::{Difference, Program, Row, Unstudied};
 use lvdc_campaign::{is_admissible, through_is_shown, verdict_of};
 use lvdc_fault::{Named, Script, Verdict};
-use lvdc_withstands::{first_unmet, form_masks};
 use lvdc_machine::{Machine, Snapshot};
 use lvdc_model::Repair;
 use lvdc_plain::Plain;
 use lvdc_port::PortDevice;
 use lvdc_report::all_counts;
+use lvdc_withstands::{first_unmet, form_masks};
 use lvdc_word::{NoMemory, Seq};
 use std::alloc::Global;
 
