@@ -1,34 +1,26 @@
-//! Tests of the top call: worked rows of each command, refusals, statuses, limits, and streams and devices that fail. The program
-//! itself does nothing.
+//! Tests of the top call: what each command answers of a small input, over bytes, over streams and over devices, and streams and
+//! devices that fail. The program itself does nothing.
 #![tactic(auto)]
 
 #[cfg(test)]
-mod commands;
-#[cfg(test)]
-mod decks;
-#[cfg(test)]
-mod devices;
+mod answers;
 #[cfg(test)]
 mod exchanges;
 #[cfg(test)]
 mod inputs;
 #[cfg(test)]
-mod limits;
+mod inquiries;
 #[cfg(test)]
 mod punctual;
 #[cfg(test)]
-mod refusals;
+mod restored;
 #[cfg(test)]
 mod rows;
 #[cfg(test)]
-mod saves;
-#[cfg(test)]
-mod sixteen;
-#[cfg(test)]
 mod streams;
 #[cfg(test)]
-mod told;
+mod studies;
 #[cfg(test)]
-mod whole;
+mod told;
 
 fn main() {}

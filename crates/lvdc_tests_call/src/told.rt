@@ -1,12 +1,12 @@
 //! What the top call tells of an input.
-ghost use Rattle.std.specs.Prelude.{map, IfOk};
+ghost use Rattle.std.specs.Prelude.{◌≡◌, map, IfOk};
 ghost use Rattle.lvdc_port.specs.Devices.{AreDistinct};
+ghost use Rattle.lvdc_cli.specs.declared.TheConstants.{SESSION_ROOM};
 
-use crate::punctual::Punctual;
-use crate::sixteen::sixteen;
 use lvdc_cli::{SESSION_ROOM, lvdc};
-use lvdc_port::{Failing, Latch, PortDevice, Recorder, Tape, Ticker, word_of_time};
-use lvdc_text::{FaultySink, FaultySource, read_all};
+use lvdc_port::{Failing, Latch, PortDevice, Recorder, Tape};
+use lvdc_reply::Reply;
+use lvdc_text::{FaultySink, FaultySource};
 use std::alloc::Global;
 use std::test::Fail;
 
@@ -29,69 +29,8 @@ pub const NONE: Fails = Fails {
     recorder: 0,
 };
 
-/// The devices that stand at the ports: a tape at 000, a latch at 014, a ticker at 016, a recorder at 017.
-#[derive(Clone, Copy)]
-pub enum Rack {
-    Empty,
-    Ticker,
-    TapeAndTicker,
-    TapeAndRecorder,
-    RecorderAndTape,
-    TapeLatchAndRecorder,
-    /// The tape stands at port 001.
-    OtherTape,
-    /// A latch and a recorder that take words at this time alone.
-    Punctual(u32),
-    /// One device at each of the ports 000 to 017, as the program has them.
-    Sixteen,
-}
-
-/// A ticker.
-fn ticker(alloc: Global) -> Result<Vec<Box<dyn PortDevice>>, Fail>
-    ensures { IfOk result (λ devices. AreDistinct (map device_of devices.items)) }
-{
-    let mut devices: Vec<Box<dyn PortDevice>> = Vec::new(alloc);
-    devices.push(Box::new(alloc, Ticker::new(0o16))?)?;
-    Ok(devices)
-}
-
-/// A tape and a ticker.
-fn tape_and_ticker(alloc: Global, fails: Fails) -> Result<Vec<Box<dyn PortDevice>>, Fail>
-    ensures { IfOk result (λ devices. AreDistinct (map device_of devices.items)) }
-{
-    let mut devices: Vec<Box<dyn PortDevice>> = Vec::new(alloc);
-    let calls = Vec::from_slice(alloc, &[fails.tape])?;
-    devices.push(Box::new(alloc, Failing::new(Tape::new(alloc, 0), calls))?)?;
-    devices.push(Box::new(alloc, Ticker::new(0o16))?)?;
-    Ok(devices)
-}
-
-/// A tape and a recorder.
-fn tape_and_recorder(alloc: Global, fails: Fails) -> Result<Vec<Box<dyn PortDevice>>, Fail>
-    ensures { IfOk result (λ devices. AreDistinct (map device_of devices.items)) }
-{
-    let mut devices: Vec<Box<dyn PortDevice>> = Vec::new(alloc);
-    let calls = Vec::from_slice(alloc, &[fails.tape])?;
-    devices.push(Box::new(alloc, Failing::new(Tape::new(alloc, 0), calls))?)?;
-    let calls = Vec::from_slice(alloc, &[fails.recorder])?;
-    devices.push(Box::new(alloc, Failing::new(Recorder::new(alloc, 0o17), calls))?)?;
-    Ok(devices)
-}
-
-/// A recorder and a tape.
-fn recorder_and_tape(alloc: Global, fails: Fails) -> Result<Vec<Box<dyn PortDevice>>, Fail>
-    ensures { IfOk result (λ devices. AreDistinct (map device_of devices.items)) }
-{
-    let mut devices: Vec<Box<dyn PortDevice>> = Vec::new(alloc);
-    let calls = Vec::from_slice(alloc, &[fails.recorder])?;
-    devices.push(Box::new(alloc, Failing::new(Recorder::new(alloc, 0o17), calls))?)?;
-    let calls = Vec::from_slice(alloc, &[fails.tape])?;
-    devices.push(Box::new(alloc, Failing::new(Tape::new(alloc, 0), calls))?)?;
-    Ok(devices)
-}
-
-/// A tape, a latch and a recorder.
-fn tape_latch_and_recorder(alloc: Global, fails: Fails) -> Result<Vec<Box<dyn PortDevice>>, Fail>
+/// A tape at port 000, a latch at 014 and a recorder at 017.
+fn rack(alloc: Global, fails: Fails) -> Result<Vec<Box<dyn PortDevice>>, Fail>
     ensures { IfOk result (λ devices. AreDistinct (map device_of devices.items)) }
 {
     let mut devices: Vec<Box<dyn PortDevice>> = Vec::new(alloc);
@@ -102,59 +41,6 @@ fn tape_latch_and_recorder(alloc: Global, fails: Fails) -> Result<Vec<Box<dyn Po
     let calls = Vec::from_slice(alloc, &[fails.recorder])?;
     devices.push(Box::new(alloc, Failing::new(Recorder::new(alloc, 0o17), calls))?)?;
     Ok(devices)
-}
-
-/// A tape at port 001, a latch and a recorder.
-fn other_tape(alloc: Global, fails: Fails) -> Result<Vec<Box<dyn PortDevice>>, Fail>
-    ensures { IfOk result (λ devices. AreDistinct (map device_of devices.items)) }
-{
-    let mut devices: Vec<Box<dyn PortDevice>> = Vec::new(alloc);
-    let calls = Vec::from_slice(alloc, &[fails.tape])?;
-    devices.push(Box::new(alloc, Failing::new(Tape::new(alloc, 0o1), calls))?)?;
-    let calls = Vec::from_slice(alloc, &[fails.latch])?;
-    devices.push(Box::new(alloc, Failing::new(Latch::new(0o14), calls))?)?;
-    let calls = Vec::from_slice(alloc, &[fails.recorder])?;
-    devices.push(Box::new(alloc, Failing::new(Recorder::new(alloc, 0o17), calls))?)?;
-    Ok(devices)
-}
-
-/// A latch and a recorder that take words after so many times alone.
-fn punctual(alloc: Global, times: u32) -> Result<Vec<Box<dyn PortDevice>>, Fail>
-    ensures { IfOk result (λ devices. AreDistinct (map device_of devices.items)) }
-{
-    let mut devices: Vec<Box<dyn PortDevice>> = Vec::new(alloc);
-    let latch = Punctual::new(Latch::new(0o14), word_of_time(u64::from(times)));
-    devices.push(Box::new(alloc, latch)?)?;
-    let recorder = Punctual::new(Recorder::new(alloc, 0o17), word_of_time(u64::from(times)));
-    devices.push(Box::new(alloc, recorder)?)?;
-    Ok(devices)
-}
-
-/// The devices of a rack.
-fn devices(alloc: Global, rack: Rack, fails: Fails) -> Result<Vec<Box<dyn PortDevice>>, Fail>
-    ensures { IfOk result (λ devices. AreDistinct (map device_of devices.items)) }
-{
-    match rack {
-        Rack::Empty => Ok(Vec::new(alloc)),
-        Rack::Ticker => ticker(alloc),
-        Rack::TapeAndTicker => tape_and_ticker(alloc, fails),
-        Rack::TapeAndRecorder => tape_and_recorder(alloc, fails),
-        Rack::RecorderAndTape => recorder_and_tape(alloc, fails),
-        Rack::TapeLatchAndRecorder => tape_latch_and_recorder(alloc, fails),
-        Rack::OtherTape => other_tape(alloc, fails),
-        Rack::Punctual(times) => punctual(alloc, times),
-        Rack::Sixteen => sixteen(alloc),
-    }
-}
-
-/// How a call has ended: its status, what was written, the words that each device holds which is left, and how many bytes were
-/// left unread, where they were few.
-#[derive(Drop)]
-pub struct Ended {
-    pub status: u8,
-    pub text: String,
-    pub held: String,
-    pub unread: usize,
 }
 
 /// The words of a command line.
@@ -166,56 +52,80 @@ pub fn command(alloc: Global, line: &str) -> Result<Vec<String>, Fail> {
     Ok(words)
 }
 
-/// The port of a device and the words that it holds, in octal, and a stroke.
-fn held(alloc: Global, device: &Box<dyn PortDevice>) -> Result<String, Fail> {
+/// The input, where this read fails.
+fn source(alloc: Global, input: &str, read: u64) -> Result<FaultySource, Fail> {
+    let bytes = Vec::from_slice(alloc, input.as_bytes())?;
+    Ok(FaultySource::new(bytes, Vec::from_slice(alloc, &[read])?))
+}
+
+/// Room for any answer, where this write fails.
+fn sink(alloc: Global, write: u64) -> Result<FaultySink, Fail>
+    ensures { IfOk result (λ sink. sink.room ≡ SESSION_ROOM) }
+{
+    let calls = Vec::from_slice(alloc, &[write])?;
+    Ok(FaultySink::with_room(alloc, SESSION_ROOM, calls)?)
+}
+
+/// Adds the port of a device and the words that it holds, in octal, and a stroke.
+fn put_held(alloc: Global, told: &mut String, device: &Box<dyn PortDevice>) -> Result<(), Fail> {
     let port = device.port();
-    let mut text = format!(in alloc; "{port:03o}:")?;
+    told.push_str(format!(in alloc; "{port:03o}:")?.as_str())?;
     for index in 0..8 {
         if let Some(word) = device.held(index) {
-            text.push_str(format!(in alloc; " {:o}", word.value())?.as_str())?;
+            told.push_str(format!(in alloc; " {:o}", word.value())?.as_str())?;
         }
     }
-    text.push_str("/")?;
-    Ok(text)
+    told.push_str("/")?;
+    Ok(())
 }
 
-/// The bytes as a text.
-pub fn ascii(alloc: Global, bytes: &[u8]) -> Result<String, Fail> {
-    match String::from_utf8(Vec::from_slice(alloc, bytes)?) {
-        Ok(text) => Ok(text),
-        Err(_) => Err("a byte of the text is no ASCII".into()),
+/// How a call has ended: its status, what was written, and the words that each device holds which is left; a bar stands between.
+fn ended(
+    alloc: Global,
+    status: u8,
+    written: &[u8],
+    devices: &Vec<Box<dyn PortDevice>>,
+) -> Result<String, Fail> {
+    let text = str::from_utf8(written).map_err(|_| "a byte that is no ASCII")?;
+    let mut told = format!(in alloc; "{status}|{text}|")?;
+    for device in devices {
+        put_held(alloc, &mut told, device)?;
     }
+    Ok(told)
 }
 
-/// What is told of an input.
-pub fn told(
+/// The status and the text of a reply, with a bar between.
+pub fn replied(alloc: Global, reply: &Reply) -> Result<String, Fail> {
+    let text = str::from_utf8(reply.text.items()).map_err(|_| "a byte that is no ASCII")?;
+    Ok(format!(in alloc; "{}|{text}", reply.status)?)
+}
+
+/// What is told of an input over these devices, where these calls of the source or of the sink fail.
+pub fn tells_over(
     alloc: Global,
     line: &str,
-    input: &[u8],
-    rack: Rack,
+    input: &str,
     fails: Fails,
-) -> Result<Ended, Fail> {
+    devices: &mut Vec<Box<dyn PortDevice>>,
+) -> Result<String, Fail>
+    requires { AreDistinct (map device_of devices.old.items) }
+{
     let words = command(alloc, line)?;
-    let mut devices = devices(alloc, rack, fails)?;
-    let bytes = Vec::from_slice(alloc, input)?;
-    let mut source = FaultySource::new(bytes, Vec::from_slice(alloc, &[fails.read])?);
-    let calls = Vec::from_slice(alloc, &[fails.write])?;
-    let mut sink = FaultySink::with_room(alloc, SESSION_ROOM, calls)?;
-    let status = lvdc(
-        alloc,
-        words.as_slice(),
-        &mut source,
-        &mut sink,
-        &mut devices,
-    );
-    let mut words = String::new(alloc);
-    for device in &devices {
-        words.push_str(held(alloc, device)?.as_str())?;
-    }
-    Ok(Ended {
-        status,
-        text: ascii(alloc, sink.bytes())?,
-        held: words,
-        unread: read_all(alloc, &mut source, 100).map_or(0, |left| left.len()),
-    })
+    let mut source = source(alloc, input, fails.read)?;
+    let mut sink = sink(alloc, fails.write)?;
+    let status = lvdc(alloc, words.as_slice(), &mut source, &mut sink, devices);
+    ended(alloc, status, sink.bytes(), devices)
+}
+
+/// What is told of an input over a tape, a latch and a recorder, where these calls fail.
+pub fn tells(alloc: Global, line: &str, input: &str, fails: Fails) -> Result<String, Fail> {
+    let mut devices = rack(alloc, fails)?;
+    tells_over(alloc, line, input, fails, &mut devices)
+}
+
+/// The status, the text and what is held, of what a call has told.
+pub fn parts(told: &str) -> Result<(&str, &str, &str), Fail> {
+    let (status, rest) = told.split_once("|").ok_or("a status")?;
+    let (text, held) = rest.rsplit_once("|").ok_or("what is held")?;
+    Ok((status, text, held))
 }

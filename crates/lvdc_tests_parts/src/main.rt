@@ -1,32 +1,18 @@
-//! Tests of the values, the map, the voters, the twins, the faults and their form, and the devices, over the public calls of their
-//! crates. The program itself does nothing.
+//! Tests of what no text of the program shows: the voters at a module of one's own, sources and sinks, a device that fails, the deck
+//! that a soak run draws, and the largest load. The program itself does nothing.
 #![tactic(auto)]
 
 #[cfg(test)]
-mod fault;
-#[cfg(test)]
-mod isa;
-#[cfg(test)]
-mod map;
-#[cfg(test)]
-mod masks;
-#[cfg(test)]
-mod mul;
-#[cfg(test)]
-mod orders;
-#[cfg(test)]
 mod port;
 #[cfg(test)]
-mod rows;
+mod same;
 #[cfg(test)]
-mod script_lines;
+mod soak;
 #[cfg(test)]
 mod text;
 #[cfg(test)]
-mod twin;
+mod uplink;
 #[cfg(test)]
 mod vote;
-#[cfg(test)]
-mod word;
 
 fn main() {}
