@@ -1,0 +1,11 @@
+pub mod FailureRows
+pub mod Telling
+pub mod Exchanged
+pub mod Masking
+pub mod Plainly
+pub mod Scripted
+pub mod Admitted
+pub mod AnyOrder
+pub mod Endings
+pub mod Unseen
+pub mod Faces
