@@ -1,6 +1,5 @@
 pub mod Over
 pub mod Commands
-pub mod Inquiries
 pub mod Rack
 pub mod Inquired
 pub mod Words

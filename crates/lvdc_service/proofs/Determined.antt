@@ -6,7 +6,9 @@ use Rattle.std.proofs.lemmas.Bool.Decides.{nat_tests}
 use Rattle.lvdc_console.specs.Commands.{Command, command_of, limit_of, answer_by, too_long_answer, command_answer, input_of}
 use Rattle.lvdc_console.specs.Rack.{rack}
 use Rattle.lvdc_service.specs.Frames.{Request}
-use Rattle.lvdc_console.specs.Inquiries.{inquiry_answer, inquiry_of, most_bytes, Inquiry}
+use Rattle.lvdc_console.specs.declared.words.Inquiry.{Inquiry}
+use Rattle.lvdc_console.specs.Words.{inquiry_of, most_bytes}
+use Rattle.lvdc_console.specs.Replies.{inquiry_answer}
 use Rattle.lvdc_service.specs.Served.{Reply, too_long_reply, reply_of, other_reply, reply_by, reply_to, IsReplyTo, usage, too_long, replied, inquiry_too_long, inquired, wants_memory, AreReplies, IsUnhindered, AreUnhindered}
 
 -- what a command's request is answered, by whether its input is too long

@@ -2,7 +2,7 @@
 use Rattle.std.proofs.Common.{◌≡◌, [], ◌∷◌, ◌++◌, refl}
 use Rattle.std.specs.Prelude.{codes}
 use Rattle.lvdc_service.specs.Frames.{frame_line_of_parts, cut_line, frame_at, frames_within}
-use Rattle.lvdc_console.specs.Inquiries.{first_of}
+use Rattle.lvdc_console.specs.Words.{first_of}
 use Rattle.lvdc_service.specs.Served.{reply_line, bytes_of, usage_reply, bad_frame_reply, read_fault_reply, too_long_reply, served}
 
 -- ---- replies

@@ -8,7 +8,9 @@ use Rattle.lvdc_console.specs.Commands.{Command, command_of, limit_of, read_faul
 use Rattle.lvdc_console.specs.Rack.{rack}
 use Rattle.lvdc_console.specs.Over.{IsReplied}
 use Rattle.lvdc_console.specs.Inquired.{IsInquired}
-use Rattle.lvdc_console.specs.Inquiries.{inquiry_answer, inquiry_of, most_bytes, Inquiry}
+use Rattle.lvdc_console.specs.declared.words.Inquiry.{Inquiry}
+use Rattle.lvdc_console.specs.Words.{inquiry_of, most_bytes}
+use Rattle.lvdc_console.specs.Replies.{inquiry_answer}
 use Rattle.lvdc_service.specs.Frames.{Request, Frames, frames_of}
 
 -- ---- a reply

@@ -2,7 +2,7 @@ ghost use Rattle.std.specs.Prelude.{◌≡◌, ◌≤◌, ℕ, List, length, map
 ghost use Rattle.std.specs.List.{list_all};
 ghost use Rattle.lvdc_text.specs.Words.{texts};
 ghost use Rattle.lvdc_console.specs.Commands.{command_of, reads_for, limit_of, input_of};
-ghost use Rattle.lvdc_console.specs.Inquiries.{inquiry_of, most_bytes, IsInquiry};
+ghost use Rattle.lvdc_console.specs.Words.{inquiry_of, most_bytes, IsInquiry};
 ghost use Rattle.lvdc_service.specs.Frames.{is_word};
 ghost use Rattle.lvdc_service.specs.Parts.{part_of, LiesIn};
 ghost use Rattle.lvdc_service.specs.Served.{IsReplyTo};
