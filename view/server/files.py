@@ -1,15 +1,18 @@
-"""What the lab's server sends besides answers: its page and the examples. All of it is read when it starts, and nothing afterwards, so a
+"""What the lab's server sends besides answers: its pages and the examples. All of it is read when it starts, and nothing afterwards, so a
 path is only ever looked up in a table."""
 import json
 import pathlib
 from collections.abc import Iterable
 from dataclasses import dataclass
 
+from wording import languages, script_of
+
 VIEW = pathlib.Path(__file__).resolve().parent.parent
 PAGES = VIEW / "page"
 EXAMPLES = VIEW.parent / "examples"
 TYPES = {".html": "text/html", ".css": "text/css", ".js": "text/javascript", ".json": "application/json", ".svg": "image/svg+xml"}
-PAGE, PROGRAMS = "lab.html", "programs.json"
+SERVED = ["lab.html", "flight.html"]
+PROGRAMS, LANGUAGES = "programs.json", "js/languages.js"
 
 
 @dataclass(frozen=True, slots=True)
@@ -25,11 +28,13 @@ def file_of(path: str, content: bytes) -> File:
     return File(f"{TYPES[pathlib.PurePath(path).suffix]}; charset=utf-8", content)
 
 
-def page_files() -> dict[str, File]:
-    """The page, its style and its scripts, each by its path."""
-    found = [PAGES / PAGE, *PAGES.glob("*.css"), *PAGES.glob("js/**/*.js")]
+def page_files(first: str, *words: pathlib.Path) -> dict[str, File]:
+    """The pages, their styles and scripts, each by its path, and this page at the address itself. Languages are those of the repository and of
+    these folders of words. Raises WrongWords."""
+    found = [*(PAGES / it for it in SERVED), *PAGES.glob("*.css"), *PAGES.glob("js/**/*.js")]
     files = {it.relative_to(PAGES).as_posix(): file_of(it.name, it.read_bytes()) for it in found}
-    files[""] = files[PAGE]
+    files[LANGUAGES] = file_of(LANGUAGES, script_of(languages(*words)).encode())
+    files[""] = files[first]
     return files
 
 

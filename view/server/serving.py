@@ -1,29 +1,29 @@
 """The lab's server: HTTP on the loopback, with few threads, and a limit on everything that a request brings.
 
-It stands on http.server of Python, which limits little. Here a connection has one request, which must be read whole within some seconds,
-however slowly its bytes come; the threads are few, connections wait for them in a queue, and one that finds the queue full is turned
-away."""
+It stands on http.server of Python, which limits little. Here a connection has one request, which must be whole within some seconds. Whole
+requests wait for few threads in a queue, and one that finds the queue full is turned away. A question is answered or turned away within
+some seconds from when it was whole, the time that it waited included."""
 import contextlib
 import io
 import queue
 import secrets
 import socket
-import socketserver
 import threading
 import time
 from collections.abc import Callable
 from http.server import BaseHTTPRequestHandler
-from typing import Any
+from typing import Any, NamedTuple, Self
 
+from arriving import Gathering
 from files import File
 from gate import HEADERS, Gate, Headers, Refusal, length_of_input
-from questions import asked, words_of
+from questions import Asker, words_of
 from lvdc.pools import Pool
 
 ADDRESS = "127.0.0.1"
-THREADS = 32
+THREADS, THREADS_FOR_FILES = 32, 4
 MOST_WAITING = 256
-SECONDS_TO_READ = 5.0
+WAITING_TO_CONNECT = 1024
 SECONDS_TO_WRITE = 5.0
 SECONDS_TO_DROP = 0.25
 MOST_DROPPED, MOST_DROPPED_AT_ONCE = 1 << 22, 1 << 16
@@ -38,40 +38,32 @@ GUARDS = {
 TURNED_AWAY = (b"HTTP/1.0 503 Service Unavailable\r\nContent-Type: text/plain; charset=utf-8\r\nRetry-After: 1\r\nConnection: close\r\n\r\n"
                b"Too many ask at once. Ask again in a second.\n")
 
-Connection = tuple[socket.socket, Any]
 
+class Whole(NamedTuple):
+    """A request that has come, its connection, and when it was whole."""
 
-class TimedReader(io.RawIOBase):
-    """Reads a connection up to a moment. After it a read raises TimeoutError, however many bytes came before."""
-
-    def __init__(self, connection: socket.socket, seconds: float) -> None:
-        self.connection, self.until = connection, time.monotonic() + seconds
-
-    def readable(self) -> bool:
-        """Whether it can be read: it can."""
-        return True
-
-    def readinto(self, buffer: Any) -> int:
-        """Reads some bytes."""
-        left = self.until - time.monotonic()
-        if left <= 0:
-            raise TimeoutError("the request came too slowly")
-        self.connection.settimeout(left)
-        return self.connection.recv_into(buffer)
+    connection: socket.socket
+    came: bytes
+    at: float
 
 
 class Handler(BaseHTTPRequestHandler):
     """Answers the one request of a connection."""
 
-    server: "Server"
+    server: "Server"  # type: ignore[assignment]
+
+    def __init__(self, whole: Whole, server: "Server") -> None:
+        self.whole_at, self.came = whole.at, whole.came
+        super().__init__(whole.connection, None, server)  # type: ignore[arg-type]
 
     def setup(self) -> None:
-        """Reads by the clock."""
+        """Reads what has come."""
         super().setup()
-        self.rfile = io.BufferedReader(TimedReader(self.connection, SECONDS_TO_READ))
+        self.rfile = io.BufferedReader(io.BytesIO(self.came))  # type: ignore[arg-type]
+        self.connection.settimeout(SECONDS_TO_WRITE)
 
     def handle_one_request(self) -> None:
-        """Answers the request; one that comes too slowly has no answer."""
+        """Answers the request; one that is cut has no answer."""
         with contextlib.suppress(OSError):
             super().handle_one_request()
 
@@ -107,7 +99,7 @@ class Handler(BaseHTTPRequestHandler):
         deck = self.rfile.read(length)
         if len(deck) < length:
             raise Refusal(400, "The input has ended too early.")
-        reply = asked(self.server.pool, words, deck)
+        reply = self.server.asker.asked(words, deck, self.whole_at)
         self.send(200, File("text/plain; charset=utf-8", reply.text), {"Lvdc-Status": str(reply.status)})
 
     def send(self, status: int, file: File, more: dict[str, str] | None = None) -> None:
@@ -129,10 +121,10 @@ class Handler(BaseHTTPRequestHandler):
     def drop_input(self) -> None:
         """Reads what still comes, within limits: where a connection is closed before, the answer may be lost on its way."""
         self.connection.shutdown(socket.SHUT_WR)
-        rest = TimedReader(self.connection, SECONDS_TO_DROP)
-        room = bytearray(MOST_DROPPED_AT_ONCE)
+        until = time.monotonic() + SECONDS_TO_DROP
         for _ in range(MOST_DROPPED // MOST_DROPPED_AT_ONCE):
-            if not rest.readinto(room):
+            self.connection.settimeout(max(0.001, until - time.monotonic()))
+            if not self.connection.recv(MOST_DROPPED_AT_ONCE):
                 break
 
     def version_string(self) -> str:
@@ -143,48 +135,55 @@ class Handler(BaseHTTPRequestHandler):
         """Nothing is written of requests."""
 
 
-class Server(socketserver.TCPServer):
-    """Listens on the loopback. Its files and its pool are what it answers from."""
+class Server:
+    """Listens on the loopback. Its files and its pool are what it answers from. Used by `with`, which ends it."""
 
-    allow_reuse_address = True
-    request_queue_size = 1024
+    def __init__(self, port: int, files: dict[str, File], pool: Pool, token: str | None = None) -> None:
+        self._listener = socket.create_server((ADDRESS, port), backlog=WAITING_TO_CONNECT)
+        self.files, self.asker = files, Asker(pool)
+        self.gate = Gate(self._listener.getsockname()[1], token or secrets.token_urlsafe(BYTES_OF_TOKEN))
+        # files don't wait for questions
+        self._questions: queue.Queue[Whole] = queue.Queue(MOST_WAITING)
+        self._others: queue.Queue[Whole] = queue.Queue(MOST_WAITING)
+        for waiting, threads in ((self._questions, THREADS), (self._others, THREADS_FOR_FILES)):
+            for _ in range(threads):
+                threading.Thread(target=self._take_turns, args=[waiting], daemon=True).start()
 
-    def __init__(self, port: int, files: dict[str, File], pool: Pool) -> None:
-        super().__init__((ADDRESS, port), Handler)
-        self.files, self.pool = files, pool
-        self.gate = Gate(self.server_address[1], secrets.token_urlsafe(BYTES_OF_TOKEN))
-        self._waiting: queue.Queue[Connection] = queue.Queue(MOST_WAITING)
-        for _ in range(THREADS):
-            threading.Thread(target=self._take_turns, daemon=True).start()
+    def __enter__(self) -> Self:
+        return self
+
+    def __exit__(self, *_: object) -> None:
+        self._listener.close()
 
     @property
     def address(self) -> str:
         """The address of the page."""
         return f"http://{ADDRESS}:{self.gate.port}/{self.gate.token}/"
 
-    def process_request(self, request: Any, client_address: Any) -> None:
-        """Lets a connection wait for a thread, or turns it away."""
-        try:
-            self._waiting.put_nowait((request, client_address))
-        except queue.Full:
-            turn_away(request)
-            self.shutdown_request(request)
-
-    def _take_turns(self) -> None:
-        """Answers one waiting connection after another."""
+    def serve_forever(self) -> None:
+        """Takes requests until the program ends."""
+        gathering = Gathering(self._listener, self._hand_on)
         while True:
-            request, client_address = self._waiting.get()
-            try:
-                self.finish_request(request, client_address)
-            except Exception:
-                self.handle_error(request, client_address)
-            finally:
-                self.shutdown_request(request)
+            gathering.go_on()
+
+    def _hand_on(self, connection: socket.socket, came: bytes) -> None:
+        """Lets a request wait for a thread, or turns it away."""
+        waiting = self._questions if came.startswith(b"POST ") else self._others
+        try:
+            waiting.put_nowait(Whole(connection, came, time.monotonic()))
+        except queue.Full:
+            turn_away(connection)
+
+    def _take_turns(self, waiting: "queue.Queue[Whole]") -> None:
+        """Answers one waiting request after another."""
+        while True:
+            whole = waiting.get()
+            with contextlib.closing(whole.connection), contextlib.suppress(OSError):
+                Handler(whole, self)
+                whole.connection.shutdown(socket.SHUT_WR)
 
 
 def turn_away(connection: socket.socket) -> None:
-    """Says that too many ask at once, without waiting for what is asked."""
-    with contextlib.suppress(OSError):
-        connection.settimeout(0)
+    """Says that too many ask at once."""
+    with contextlib.closing(connection), contextlib.suppress(OSError):
         connection.send(TURNED_AWAY)
-        connection.recv(65_536)

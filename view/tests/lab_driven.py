@@ -55,6 +55,11 @@ RESTS = ("document.body.getAttribute('aria-busy') === 'false' && document.getEle
          "&& document.querySelector('#board .light') !== null")
 
 
+# All that a visitor can set, and where the page stands.
+CONTROLS = """[[...document.querySelectorAll('input, select, details, [aria-pressed]')].map((it) =>
+    [it.id || it.lang, it.value, it.checked, it.open, it.getAttribute('aria-pressed')].join()).join(' '), scrollY]"""
+
+
 class Visitor(Browser):
     """Someone who looks at a page of the lab, and presses."""
 
@@ -170,6 +175,9 @@ def try_copies(page: Visitor, tally: Tally, worker: Worker) -> None:
     end = lvdc.run(says["deck"], worker=worker).end
     tally.expect("two copies: the end", str(end), f"END INADMISSIBLE {STEP} LOGIC 3")
     tally.expect("two copies: its words", [f"step {STEP} " in says["outcome"], "copies 1 & 2 of the decoder" in says["outcome"]], [True, True])
+    page.press_lamp(3, 2)
+    tally.expect("a second press takes the second copy back", [page.says()["kind"], page.says()["deck"].count("FLIP")], ["always", 1])
+    page.press_lamp(3, 2)
     tally.expect("two copies: the last step", [says["last"], says["lamps"]["3-1"], says["lamps"]["3-2"]], [STEP, "hurt", "hurt"])
 
 
@@ -382,12 +390,7 @@ def try_still(page: Visitor, tally: Tally) -> None:
 
 
 def try_languages(page: Visitor, tally: Tally) -> None:
-    """All words of each language are there, and the page speaks them."""
-    keys = "Object.values(Words.LANGUAGES).map((it) => Object.keys(it).sort().join(' '))"
-    in_braces = "([key, text]) => key + (text.match(/\\{\\w+\\}/g) ?? []).sort()"
-    names = f"Object.values(Words.LANGUAGES).map((it) => Object.entries(it).map({in_braces}).sort().join(' '))"
-    for what, script in (("keys", keys), ("names in braces", names)):
-        tally.expect(f"languages: the same {what}", len(set(page.run(script))), 1)
+    """The page speaks another language."""
     page.press('#languages [lang="de"]')
     page.press_lamp(3, 2)
     says = page.says()
@@ -403,10 +406,16 @@ def try_kiosk(page: Visitor, tally: Tally, address: str) -> None:
     page.wait()
     ways_out = "[...document.querySelectorAll('a, textarea, input[type=\"file\"], input[type=\"number\"]')]"
     tally.expect("a kiosk: ways out", page.run(f"{ways_out}.filter((it) => it.checkVisibility()).length"), 0)
-    page.press('#languages [lang="de"]')
+    controls = page.run(CONTROLS)
+    for query in ('#languages [lang="de"]', "#good", "#octal"):
+        page.press(query)
+    page.set("kind", "DEAF", "change")
     page.press_lamp(5, 1)
+    page.run("window.scrollTo(0, 1000)")
+    tally.expect("a kiosk: its controls are others now", page.run(CONTROLS) != controls, True)
     page.wait(f"{RESTS} && document.getElementById('outcome').dataset.kind === 'healthy'")
     tally.expect("a kiosk: it begins again", [page.run("document.documentElement.lang"), page.says()["step"], page.says()["acts"]], ["en", STEP, []])
+    tally.expect("a kiosk: all controls are as at first", page.run(CONTROLS), controls)
 
 
 # ---- time, and hostile pages

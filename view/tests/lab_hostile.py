@@ -124,8 +124,8 @@ def dripping(lab: Lab) -> list[socket.socket]:
 
 def try_slow(tally: Tally, slow: list[socket.socket], began: float) -> None:
     """A byte now and then keeps no connection open: each is closed when its time is over."""
-    left = slow
-    while left and time.monotonic() - began < 2 * SECONDS_TO_READ:
+    left, until = slow, max(began + 2 * SECONDS_TO_READ, time.monotonic() + 2)
+    while left and time.monotonic() < until:
         time.sleep(0.2)
         left = [it for it in left if is_open(it)]
     tally.expect("slow requests that are still open", len(left), 0)

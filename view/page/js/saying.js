@@ -36,8 +36,12 @@ const Saying = (() => {
             .map((it) => words(`happens.${it.kind}`, { twin: it.twin, place: it.place, pair: it.pair }));
     }
 
-    function repairs({ repair }, words) {
-        return repair ? [words('happens.repair', { twin: repair.twin, other: 1 - repair.twin, place: repair.address })] : [];
+    /** A cell that was found bad: it is rewritten, unless its twin is dead there. */
+    function repairs({ repair, cells }, words) {
+        if (!repair) return [];
+        const isDead = cells.dead[repair.twin].has(Cells.placeOf(repair.address)[0]);
+        const values = { twin: repair.twin, other: 1 - repair.twin, place: repair.address };
+        return [words(isDead ? 'happens.repair.dead' : 'happens.repair', values)];
     }
 
     /** The sentences of a moment: the harm before it, its exchange, its repair, its copies. */

@@ -259,9 +259,10 @@ const Board = (() => {
         /** What befell a cell, and what is done with it in this moment. */
         stateOf(twin, place) {
             const { cells, repair } = this.moment;
-            const mended = repair && repair.twin === twin && Cells.placeOf(repair.address) === place;
+            const isDead = cells.dead[twin].has(place[0]);
+            const mended = repair && !isDead && repair.twin === twin && Cells.placeOf(repair.address) === place;
             return [
-                ...(cells.dead[twin].has(place[0]) ? ['dead'] : []), ...(cells.marks[twin].get(place) ?? []), ...(mended ? ['mended'] : []),
+                ...(isDead ? ['dead'] : []), ...(cells.marks[twin].get(place) ?? []), ...(mended ? ['mended'] : []),
                 ...this.doneWith(twin, place), ...(this.marks.cells.has(`${twin} ${place}`) ? ['marked'] : []),
             ];
         }

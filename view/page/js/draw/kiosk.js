@@ -39,8 +39,7 @@ const Kiosk = (() => {
             const chapters = ['one', 'two', 'cell'].map((it) => [it, chapterOf(story[it], found.listing)]);
             Object.assign(this, { found, step: story.step, story: Object.fromEntries(chapters), idle, screen: 1, hurt: [], timer: null });
             this.screens = found.answers?.isWhole ? SCREENS : SCREENS.slice(0, -1);
-            const languages = Object.keys(Words.LANGUAGES);
-            [this.first] = [document.documentElement.lang, ...languages].filter((it) => languages.includes(it));
+            this.first = Words.known(document.documentElement.lang);
             this.words = Words.of(this.first);
             this.stage = new Stage.Stage({ words: this.words, places: found.places, simplex: found.deck.simplex });
             this.stage.drawing.element.addEventListener('lamp', (event) => this.touch(event.detail));
@@ -210,7 +209,7 @@ const Kiosk = (() => {
 
     /** Fills the page with the kiosk of an exhibit. */
     function begin(found, story, parameters) {
-        if (Object.hasOwn(Words.LANGUAGES, parameters.get('kiosk'))) document.documentElement.lang = parameters.get('kiosk');
+        document.documentElement.lang = Words.known(parameters.get('lang'), parameters.get('kiosk'), document.documentElement.lang);
         const kiosk = new Kiosk(found, story, idleOf(parameters));
         document.documentElement.classList.add('in-kiosk');
         document.body.replaceChildren(kiosk.element);

@@ -12,9 +12,12 @@ const OutcomeView = (() => {
         return [words(`row.${it.kind}`, { number: Latches.decimal(it.word) }), html('span', { class: 'small' }, ` ${it.address ?? it.port}`)];
     }
 
+    /** The step of a result; both, where the two runs have it in different steps. */
+    const stepsOf = (it) => [...new Set([it.well?.step, it.hurt?.step])].filter((step) => step !== undefined).sort((a, b) => a - b).join(' / ');
+
     function row(it, isFirst, words) {
         const note = isFirst ? [html('strong', { class: 'first-wrong' }, sign('✕'), words('through.first'))] : [];
-        return html('tr', { class: isFirst ? 'first-wrong-row' : '' }, html('td', {}, String((it.well ?? it.hurt).step)),
+        return html('tr', { class: isFirst ? 'first-wrong-row' : '' }, html('td', {}, stepsOf(it)),
             html('td', {}, ...cellParts(it.well, words)), html('td', {}, ...cellParts(it.hurt, words), ' ', ...note));
     }
 

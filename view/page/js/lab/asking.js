@@ -6,16 +6,19 @@ const Asking = (() => {
     const TOO_MANY = 503;
     const TRIES = 5;
     const WAIT = 200;
+    const PATIENCE = 8000;
+    const LOOK_EVERY = 2000;
     const MOST_KEPT = 24;
     const WHY = { 413: 'lab.long', 503: 'lab.many', 504: 'lab.late', 507: 'lab.late' };
     const kept = new Map();
 
     const pause = (milliseconds) => new Promise((done) => { window.setTimeout(done, milliseconds); });
 
-    /** A response, whatever it says. */
+    /** A response with its text, whatever it says; a server that is silent for a while is taken for gone. */
     async function fetched(address, options) {
         try {
-            return await fetch(address, options);
+            const response = await fetch(address, { ...options, signal: AbortSignal.timeout(PATIENCE) });
+            return { response, text: await response.text() };
         } catch {
             throw new Error('lab.gone');
         }
@@ -26,16 +29,16 @@ const Asking = (() => {
     /** Asks once more where too many ask at once. */
     async function answered(words, deck) {
         for (let tries = 1; ; tries += 1) {
-            const response = await request(words, deck);
-            if (response.status !== TOO_MANY || tries === TRIES) return response;
+            const answer = await request(words, deck);
+            if (answer.response.status !== TOO_MANY || tries === TRIES) return answer;
             await pause(WAIT * tries);
         }
     }
 
     async function asked(words, deck) {
-        const response = await answered(words, deck);
+        const { response, text } = await answered(words, deck);
         if (!response.ok) throw new Error(WHY[response.status] ?? 'lab.gone');
-        return { status: Number(response.headers.get('Lvdc-Status')), text: await response.text() };
+        return { status: Number(response.headers.get('Lvdc-Status')), text };
     }
 
     /** Keeps an answer, and drops the oldest where there are too many. */
@@ -52,8 +55,22 @@ const Asking = (() => {
         return kept.get(key) ?? keep(key, asked(words, deck));
     }
 
-    /** The programs that may be chosen. */
-    const programs = async () => (await fetched('programs.json')).json();
+    let looking = null;
 
-    return { ask, programs };
+    /** Looks from time to time whether the server is there again at the same address, and then begins the page anew. */
+    function comeBack() {
+        looking ??= window.setInterval(async () => {
+            const answer = await fetched('programs.json').catch(() => null);
+            if (answer?.response.ok) window.location.reload();
+        }, LOOK_EVERY);
+    }
+
+    /** The programs that may be chosen. */
+    async function programs() {
+        const { response, text } = await fetched('programs.json');
+        if (!response.ok) throw new Error('lab.gone');
+        return JSON.parse(text);
+    }
+
+    return { ask, comeBack, programs };
 })();

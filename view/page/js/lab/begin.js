@@ -9,10 +9,10 @@
 
     const on = (id, event, act) => place(id).addEventListener(event, act);
 
-    /** The language that was chosen last, else the browser's, else the first. */
+    /** The language of the address, else the one that was chosen last, else the browser's, else the first. */
     function languageAtFirst() {
-        const wanted = [window.localStorage.getItem(KEPT_LANGUAGE), navigator.language.slice(0, 2)];
-        return wanted.find((it) => it !== null && Object.hasOwn(Words.LANGUAGES, it)) ?? Object.keys(Words.LANGUAGES)[0];
+        const asked = new URLSearchParams(window.location.search);
+        return Words.known(asked.get('lang'), asked.get('kiosk'), window.localStorage.getItem(KEPT_LANGUAGE), navigator.language.slice(0, 2));
     }
 
     function listenToTime(page) {
@@ -66,7 +66,7 @@
     function beKiosk(page, seconds) {
         const language = document.documentElement.lang;
         let waiting = null;
-        const beginAgain = () => { page.speak(language); page.begin(); };
+        const beginAgain = () => { page.speak(language); page.beginAgain(); };
         const wait = () => { window.clearTimeout(waiting); waiting = window.setTimeout(beginAgain, 1000 * seconds); };
         for (const event of ['pointerdown', 'keydown', 'input']) document.addEventListener(event, wait);
         document.addEventListener('contextmenu', (event) => event.preventDefault());

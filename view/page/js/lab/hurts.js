@@ -33,8 +33,17 @@ const Hurts = (() => {
     /** A whole memory dies for good: its twin of each pair. */
     const memory = (twin, step) => PAIRS.map((pair) => `DEAD ${twin} ${pair} ${step} ${FOR_GOOD}`);
 
+    /** What an act hurts in a step: a copy, a cell, a memory, or nothing there. */
+    function targetOf(lines, step) {
+        const faults = lines.map((text, at) => Faults.of({ text, number: at + 1 }));
+        const [first] = faults;
+        if (!first || !Faults.actsIn(first, step, step)) return null;
+        if (first.module !== null) return Trace.keyOf(first.module, first.copy);
+        return first.place === null ? `memory ${first.twin} ${faults.length}` : `cell ${first.twin} ${first.place}`;
+    }
+
     /** Whether a fault lasts to the end of all steps. */
     const isLasting = (fault) => fault.last === FOR_GOOD;
 
-    return { copy, cell, memory, isLasting };
+    return { copy, cell, memory, targetOf, isLasting };
 })();

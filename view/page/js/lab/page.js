@@ -34,6 +34,13 @@ class LabPage {
         });
     }
 
+    /** Begins as for the next visitor: all that the one before has chosen is forgotten. */
+    beginAgain() {
+        this.sight.reset();
+        this.useOctal(false);
+        return this.begin();
+    }
+
     choose(at) {
         LabSight.place('program').value = String(at);
         return this.use(this.programs[at].deck);
@@ -76,7 +83,7 @@ class LabPage {
     }
 
     hurt(lines) {
-        this.session.hurt(lines);
+        this.session.hurt(lines, this.step);
         return this.changed();
     }
 
@@ -133,6 +140,7 @@ class LabPage {
         } catch (error) {
             if (!error.message.startsWith('lab.')) throw error;
             if (turn === this.turn) this.fail(error.message);
+            if (error.message === 'lab.gone') Asking.comeBack();
         } finally {
             this.asking -= 1;
             this.sight.busy(this.asking > 0);

@@ -24,7 +24,13 @@ class LabSession {
     /** One more than the last step that is asked for. */
     get steps() { return Parts.firstStepOf(this.count); }
 
-    hurt(lines) { this.acts = [...this.acts, lines]; }
+    /** Adds an act; one that hurts what an act before it hurts in the same step is taken for that it takes it back. */
+    hurt(lines, step) {
+        const target = Hurts.targetOf(lines, step);
+        const earlier = target === null ? -1 : this.acts.findLastIndex((it) => Hurts.targetOf(it, step) === target);
+        if (earlier < 0) this.acts = [...this.acts, lines];
+        else this.mend(earlier);
+    }
 
     undo() { this.acts = this.acts.slice(0, -1); }
 

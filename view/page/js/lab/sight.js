@@ -22,6 +22,15 @@ class LabSight {
     /** The word that was read or stored last at a place, if that is known. */
     wordAt(place) { return this.drawing.moment.known?.get(place)?.word; }
 
+    /** Puts all controls back to where they are at first, and the page to its top. */
+    reset() {
+        const { place } = LabSight;
+        for (const id of ['once', 'good']) place(id).checked = place(id).defaultChecked;
+        for (const id of ['kind', 'program']) place(id).selectedIndex = 0;
+        for (const it of document.querySelectorAll('details')) it.open = false;
+        window.scrollTo(0, 0);
+    }
+
     programs(names) {
         LabSight.place('program').replaceChildren(...names.map((it, at) => Element.html('option', { value: at }, it.replaceAll('-', ' '))));
     }

@@ -56,7 +56,7 @@ const LabTelling = (() => {
     function exchange(it, octal, words) {
         if (!it) return words('row.nothing');
         const way = words(it.reading ? 'word.in' : 'word.out');
-        return words('lab.exchange', { way, port: it.port, word: octal ? it.word : Latches.decimal(it.word) });
+        return words('lab.exchange', { time: it.time, way, port: it.port, word: octal ? it.word : Latches.decimal(it.word) });
     }
 
     /** Where a run through every fault parts from that of a healthy machine. */

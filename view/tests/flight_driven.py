@@ -1,0 +1,293 @@
+"""Drives the flight in a headless Chromium as visitors would, and compares what it shows with the texts of the worker."""
+import itertools
+import json
+import os
+import random
+import re
+import time
+
+import lvdc
+from lab_driven import Visitor
+from lab_running import Lab, Tally
+from lvdc.workers import Worker
+
+SIZES = [(390, 844), (844, 390), (1024, 768), (1366, 768), (1080, 1920), (1920, 1080), (3840, 2160)]
+LEAST_TARGET = 44
+LETTERS_IN_HEIGHT = 60
+SECONDS_TO_MOVE = 0.2
+SECONDS_TO_A_FAULT = 10
+STEPS_OF_A_SECOND = 60
+STEPS_OF_A_STRIKE = 90
+OPENING_STEP = 61
+STEPS_TRIED = range(OPENING_STEP, OPENING_STEP + STEPS_OF_A_SECOND, 10)
+DRAWN_STRIKES = 40
+PAIRS = [(module, pair) for module in range(1, 8) for pair in itertools.combinations((1, 2, 3), 2)]
+PROVED = "Proved: every word that it sends"
+PROVED_UNTIL = "Proved: up to here"
+MNEMONICS = "CLA ADD SUB RSU STO PIO MPY MPH DIV AND XOR TRA TMI TNZ HOP CDS SHF EXM".split()
+NOT_FOR_VISITORS = re.compile(r"\b[0-7]{9}\b|\b[0-7] [0-7]{2} [0-7]{3}\b|\b(" + "|".join(MNEMONICS) + r")\b|\.(deck|js|html|txt)\b")
+
+# What stands on the page, with the language's own words for nothing but what is shown.
+TEXT = "document.body.innerText"
+
+# What is wrong with the page's measures: what is cut off, lies outside of the window, is too small, or lies over something else.
+MEASURES = """(() => {
+    const shown = (it) => it.checkVisibility() && getComputedStyle(it).visibility !== 'hidden' && it.offsetWidth !== 1;
+    const all = (query) => [...document.querySelectorAll(query)].filter(shown);
+    const named = (it) => it.id || it.className || it.tagName;
+    const box = (it) => it.getBoundingClientRect();
+    const leaves = all('h1, h2, p, button, .says, .number, .voter, .value, .port').filter((it) => it.textContent.trim());
+    const words = (it) => { const range = document.createRange(); range.selectNodeContents(it); return range.getBoundingClientRect(); };
+    const outside = leaves.filter((it) => { const { left, top, right, bottom } = words(it);
+        return left < -1 || top < -1 || right > innerWidth + 1 || bottom > innerHeight + 1; });
+    const cut = leaves.filter((it) => { const [own, text] = [box(it), words(it)]; return text.width > own.width + 2 || text.height > own.height + 4; });
+    const small = all('button').filter((it) => Math.min(box(it).width, box(it).height) < TARGET - 0.5);
+    const low = leaves.filter((it) => parseFloat(getComputedStyle(it).fontSize) < innerHeight / LETTERS - 0.05);
+    const single = all('h1, h2, #verdict, #more, button:not(.copy), .says, .voter, .value, .port, .angle').filter((it) => it.textContent.trim());
+    const over = [];
+    single.forEach((one, at) => single.slice(at + 1).forEach((other) => {
+        if (one.contains(other) || other.contains(one)) return;
+        const [a, b] = [words(one), words(other)];
+        if (Math.min(a.right, b.right) - Math.max(a.left, b.left) > 2 && Math.min(a.bottom, b.bottom) - Math.max(a.top, b.top) > 2) {
+            over.push(`${named(one)} and ${named(other)}`);
+        }
+    }));
+    const scrolls = document.documentElement.scrollWidth > innerWidth || document.documentElement.scrollHeight > innerHeight;
+    return { outside: outside.map(named), cut: cut.map((it) => `${named(it)}: ${it.textContent.slice(0, 30)}`), small: small.map(named), low: low.map(named), over, scrolls };
+})()""".replace("TARGET", str(LEAST_TARGET)).replace("LETTERS", str(LETTERS_IN_HEIGHT))
+FINE = {"outside": [], "cut": [], "small": [], "low": [], "over": [], "scrolls": False}
+
+# All that a visitor can change.
+CONTROLS = """[document.documentElement.lang, document.getElementById('sound').ariaPressed, document.getElementById('told').open, flight.alone, scrollY,
+    [...document.querySelectorAll('[aria-pressed]')].map((it) => it.ariaPressed).join(' ')]"""
+KIND = "document.body.dataset.kind"
+
+
+class Guest(Visitor):
+    """Someone who looks at the flight of this lab."""
+
+    def __init__(self, lab: Lab) -> None:
+        super().__init__()
+        self.lab = lab
+
+
+def opened(page: Guest, query: str = "") -> None:
+    """Opens the flight and waits until it flies."""
+    page.visit(f"{page.lab.address}flight.html{query}")
+    page.wait("window.flight?.state === 'flying'")
+    page.run("Flight.GUESS_WITHIN = 600_000, 0")
+
+
+def strike(page: Guest, *what: tuple[int, int]) -> None:
+    """Strikes copies with the mouse, and waits for the question."""
+    for module, copy in what:
+        point(page, f'.copy[data-module="{module}"][data-copy="{copy}"]')
+        page.wait(f"{KIND} === 'asked' && flight.struckTogether.length > 0 && /(FLIP|FORCE) {module} {copy} /.test(flight.flown.text)")
+
+
+def point(page: Guest, query: str) -> None:
+    """Presses the mouse in the middle of an element."""
+    x, y = page.run(f"(({{ left, top, width, height }}) => [left + width / 2, top + height / 2])"
+                    f"(document.querySelector({json.dumps(query)}).getBoundingClientRect())")
+    for kind in ("mousePressed", "mouseReleased"):
+        page.call("Input.dispatchMouseEvent", type=kind, x=x, y=y, button="left", clickCount=1)
+
+
+def words_of(report: lvdc.Report) -> list[tuple[int, int]]:
+    """The words that go to the rocket, with their times."""
+    return [(it.time, it.word.signed) for it in report.exchanges if it.is_write]
+
+
+# ---- what two lies come to
+
+def try_pairs(page: Guest, tally: Tally, worker: Worker, deck: str) -> None:
+    """Two copies of a module, struck in any step of a second: other words go to the rocket than from a healthy computer."""
+    healthy = words_of(lvdc.run(deck, worker=worker))
+    same = []
+    for step, (module, copies) in itertools.product(STEPS_TRIED, PAIRS):
+        faults = page.run(f"{json.dumps(copies)}.flatMap((it) => Strikes.copy({module}, it, {step}))")
+        told = lvdc.run(deck.replace("\nRUN ", "\nFAULTS\n" + "\n".join(faults) + "\nRUN "), through=True, worker=worker)
+        if words_of(told) == healthy:
+            same.append((step, module, copies))
+    tally.expect(f"{len(STEPS_TRIED) * len(PAIRS)} pairs of lies that change no word", same, [])
+
+
+def try_claims(page: Guest, tally: Tally, worker: Worker) -> None:
+    """Whatever is struck, what is said of it agrees with the report of the same deck."""
+    kinds = set()
+    for number in range(DRAWN_STRIKES):
+        draw = random.Random(number)
+        first = draw.randrange(1, 3000)
+        parts = [{"twin": draw.randrange(2)} if draw.randrange(5) == 0 else {"module": draw.randint(1, 7), "copy": draw.randint(1, 3)}
+                 for _ in range(draw.choice([1, 1, 2, 2, 3]))]
+        said = page.run(f"""(async (parts) => {{
+            const faults = parts.flatMap((it) => (it.module ? Strikes.copy(it.module, it.copy, {first}) : Strikes.memory(it.twin, {first})));
+            const flown = await Flown.of(flight.deck, [...new Set(faults)]);
+            const verdict = Verdict.of(flown, flight.healthy, parts, Words.of('en'));
+            return [flown.text, verdict.kind, [verdict.title, ...verdict.more].join(' ')];
+        }})({json.dumps(parts)})""")
+        text, kind, words = said
+        report = lvdc.run(text, worker=worker)
+        is_done, is_ended = isinstance(report.end, lvdc.Done), isinstance(report.end, lvdc.Inadmissible)
+        kinds.add(kind)
+        tally.expect(f"drawn strike {number}: what is claimed", [PROVED in words, PROVED_UNTIL in words], [is_done and not report.lost, is_ended])
+        healthy = words_of(lvdc.run(lvdc.Deck.read(text).with_faults(), worker=worker))
+        through = words_of(lvdc.run(text, through=True, worker=worker))
+        due = ("broke" if through != healthy else "luck") if is_ended else "flew"
+        tally.expect(f"drawn strike {number}: its kind", kind, due)
+    tally.expect("kinds of what was drawn", {"flew", "broke"} <= kinds, True)
+
+
+# ---- a visit
+
+def try_visit(page: Guest, tally: Tally, worker: Worker) -> None:
+    """One lie is outvoted, two win; each press moves something at once, and each copy shows what the trace says."""
+    point(page, "#choices button")
+    page.wait("flight.at > 130")
+    began = time.monotonic()
+    strike(page, (5, 2))
+    answered = page.run("performance.getEntriesByName('answer').at(-1).duration") / 1000
+    moved = page.run("document.querySelector('.copy.hit') !== null")
+    tally.expect("a press moves what was pressed", [moved, time.monotonic() - began < 10], [True, True])
+    print(f"flight: {1000 * answered:.0f} ms from a strike to its answer, at a load of {os.getloadavg()[0]:.0f}", flush=True)
+    tally.expect("an answer in time", answered < SECONDS_TO_MOVE or os.getloadavg()[0] > (os.cpu_count() or 1), True)
+    text, step = page.run("[flight.flown.text, flight.step]")
+    told = lvdc.trace(text, step, 1, worker=worker).steps[0]
+    shown = page.run("[1, 2, 3].map((it) => document.querySelector(`.copy[data-module=\"5\"][data-copy=\"${it}\"] .says`).textContent)")
+    vote, lie = told.votes[5][0].signed, told.differing[(5, 2)][0].signed
+    tally.expect("what the copies say", [int(it.replace("\u2212", "-")) for it in shown], [vote, lie, vote])
+    point(page, '[data-key="flight.yes"]')
+    page.wait(f"{KIND} === 'flew'")
+    tally.expect("one lie", ["outvoted" in page.run(TEXT), "You guessed right" in page.run(TEXT)], [True, True])
+    page.wait("flight.state === 'flying' && flight.at > 260")
+    strike(page, (5, 1), (5, 3))
+    point(page, '[data-key="flight.yes"]')
+    page.wait(f"{KIND} === 'broke'")
+    wrong = page.run("document.querySelector('.angle strong').textContent")
+    through = words_of(lvdc.run(page.run("flight.flown.text"), through=True, worker=worker))
+    at = page.run("flight.flown.firstWrong(flight.healthy)")
+    tally.expect("two lies: the angle that the rocket is told", int(wrong.rstrip("\u00b0").replace("\u2212", "-")), round(through[at][1] / 100))
+    tally.expect("two lies", ["outvoted the truth" in page.run(TEXT), "You guessed wrong" in page.run(TEXT)], [True, True])
+
+
+def try_memories(page: Guest, tally: Tally) -> None:
+    """A dead memory is told by the other one; two dead ones are the end."""
+    opened(page)
+    page.run("flight.alone = false")
+    for twin, kind in ((0, "flew"), (1, "broke")):
+        page.wait("flight.state === 'flying'")
+        point(page, f'.memory[data-twin="{twin}"]')
+        page.wait(f"{KIND} === 'asked' && flight.flown.text.includes('DEAD {twin} ')")
+        point(page, '[data-key="flight.no"]')
+        page.wait(f"{KIND} === '{kind}'")
+        tally.expect(f"memory {twin + 1} is dead", page.run(f"document.querySelector('.memory[data-twin=\"{twin}\"]').dataset.kind"), "dead")
+    point(page, "#choices button")
+
+
+def try_fingers(page: Guest, tally: Tally) -> None:
+    """Two fingers at once strike two copies."""
+    opened(page)
+    points = [page.run(f"(({{ left, top }}) => ({{ x: left + 9, y: top + 9 }}))(document.querySelector('.copy[data-module=\"4\"][data-copy=\"{copy}\"]')"
+                       ".getBoundingClientRect())") for copy in (1, 2)]
+    page.call("Input.dispatchTouchEvent", type="touchStart", touchPoints=points)
+    page.call("Input.dispatchTouchEvent", type="touchEnd", touchPoints=[])
+    page.wait(f"{KIND} === 'asked' && flight.flown.through !== null")
+    tally.expect("two fingers at once", page.run("flight.struckTogether.map((it) => it.copy).sort().join()"), "1,2")
+
+
+def try_keys(page: Guest, tally: Tally) -> None:
+    """The keyboard alone: a copy is struck, and a guess is made."""
+    opened(page)
+    page.run("document.querySelector('.copy').focus()")
+    page.key("ArrowRight", 39)
+    page.key("Enter", 13, "\r")
+    page.wait(f"{KIND} === 'asked'")
+    tally.expect("keys: a copy", page.run("[flight.struck[0].module, flight.struck[0].copy]"), [1, 2])
+    page.run("document.querySelector('[data-key=\"flight.yes\"]').focus()")
+    page.key("Enter", 13, "\r")
+    page.wait(f"{KIND} === 'flew'")
+    tab_stops = "document.querySelectorAll('#machine [tabindex=\"0\"]').length"
+    tally.expect("keys: one stop in the machine, the guess keeps the focus", [page.run(tab_stops), page.run("document.activeElement.dataset.key")], [1, "flight.again"])
+
+
+# ---- nobody there
+
+def try_alone(page: Guest, tally: Tally) -> None:
+    """Untouched a fault shows within ten seconds; then a disaster; with less motion too."""
+    for still in (False, True):
+        page.size(1366, 768, still=still)
+        began = time.monotonic()
+        opened(page)
+        page.wait("document.querySelector('.copy[data-kind=\"lies\"]') !== null")
+        tally.expect(f"untouched, less motion {still}: a fault", time.monotonic() - began < SECONDS_TO_A_FAULT, True)
+        page.wait(f"{KIND} === 'flew'")
+        tally.expect(f"untouched, less motion {still}: what moves", page.run("document.getAnimations().length > 0") and still, False)
+    page.size(1366, 768)
+
+
+def try_idle(page: Guest, tally: Tally) -> None:
+    """When a visitor has gone, all is as at first."""
+    opened(page, "?kiosk&idle=2")
+    first = page.run(CONTROLS)
+    for query in ('#languages [lang="de"]', "#sound", "#story"):
+        point(page, query)
+    page.run("flight.alone = false; 0")
+    tally.expect("idle: what a visitor changed", page.run(CONTROLS) != first, True)
+    page.wait("flight.alone && flight.state === 'flying'")
+    tally.expect("idle: all is as at first", page.run(CONTROLS), first)
+
+
+# ---- sizes, languages, colours
+
+def try_measures(page: Guest, tally: Tally) -> None:
+    """At all sizes and in all languages nothing is cut off, overlaid or scrolled, letters and targets are large; nothing is said in octal."""
+    for width, height in SIZES:
+        page.size(width, height)
+        opened(page)
+        for language in page.run("Object.keys(Words.LANGUAGES)"):
+            name = f"{width} by {height}, {language}"
+            page.run(f"flight.speak('{language}')")
+            tally.expect(f"{name}: at first", page.run(MEASURES), FINE)
+            page.run("flight.touch({ module: 2, copy: 1 }, document.querySelector('.copy'))")
+            page.wait(f"{KIND} === 'asked'")
+            tally.expect(f"{name}: the question", page.run(MEASURES), FINE)
+            page.run("flight.touch({ module: 2, copy: 3 }, document.querySelector('.copy'))")
+            page.wait("flight.flown.through !== null")
+            page.run("flight.guess = true; flight.reveal()")
+            page.wait(f"['broke', 'luck'].includes({KIND})")
+            tally.expect(f"{name}: the end", page.run(MEASURES), FINE)
+            tally.expect(f"{name}: what visitors can't read", NOT_FOR_VISITORS.findall(page.run(TEXT)), [])
+            page.run("flight.launch()")
+    page.size(1366, 768)
+
+
+CONTRAST = """(() => {
+    const part = (it) => (it <= 0.04045 ? it / 12.92 : ((it + 0.055) / 1.055) ** 2.4);
+    const luminance = (name) => {
+        const [r, g, b] = getComputedStyle(document.documentElement).getPropertyValue(name).trim().match(/[0-9a-f]{2}/gi).map((it) => part(Number.parseInt(it, 16) / 255));
+        return 0.2126 * r + 0.7152 * g + 0.0722 * b;
+    };
+    return PAIRS.filter(([one, other, least]) => {
+        const [light, dark] = [luminance(one), luminance(other)].sort((a, b) => b - a);
+        return (light + 0.05) / (dark + 0.05) < least;
+    });
+})()"""
+CONTRASTS = [("--text", "--night", 4.5), ("--text", "--card", 4.5), ("--muted", "--card", 4.5), ("--text", "--well", 4.5), ("--muted", "--well", 4.5),
+             ("--text", "--lie", 4.5), ("--text", "--alone", 4.5), ("--on-button", "--button", 4.5), ("--lie-edge", "--card", 4.5),
+             ("--edge", "--night", 3), ("--edge", "--card", 3), ("--well-edge", "--card", 3), ("--lie-edge", "--night", 3)]
+
+
+def try_flight(lab: Lab, tally: Tally, worker: Worker) -> None:
+    """All of it."""
+    with Guest(lab) as page:
+        page.size(1366, 768)
+        opened(page)
+        tally.expect("contrasts that are too low", page.run(CONTRAST.replace("PAIRS", json.dumps(CONTRASTS))), [])
+        deck = page.run("flight.healthy.text")
+        try_pairs(page, tally, worker, deck)
+        try_claims(page, tally, worker)
+        try_visit(page, tally, worker)
+        for part in (try_memories, try_fingers, try_keys, try_alone, try_idle, try_measures):
+            part(page, tally)
+        strangers = [it for it in page.strangers() if not it.startswith(lab.address)]
+        tally.expect("faults of the flight, and what it asks for elsewhere", page.faults() + strangers, [])
