@@ -2,7 +2,9 @@
 import atexit
 import functools
 import os
+import shlex
 import shutil
+import stat
 import subprocess
 import sys
 import tempfile
@@ -16,6 +18,7 @@ from lvdc import NoWorker, Worker
 from lvdc.workers import find_worker
 
 TOP = Path(__file__).resolve().parents[2]
+FAKE = Path(__file__).resolve().parent / "fake_worker.py"
 
 # The same examples each time, on however busy a machine; --hypothesis-profile=others draws others.
 settings.register_profile("same", deadline=None, derandomize=True)
@@ -53,6 +56,16 @@ def worker() -> Iterator[Worker]:
         pytest.skip(str(error))
     with Worker(program, limit=60) as found:
         yield found
+
+
+@pytest.fixture
+def program(tmp_path: Path, monkeypatch: pytest.MonkeyPatch) -> Path:
+    """The stand-in as a program, which notes its starts in a file `log` beside it."""
+    found = tmp_path / "lvdc-worker"
+    found.write_text(f"#!/bin/sh\nexec {shlex.quote(sys.executable)} {shlex.quote(str(FAKE))}\n")
+    found.chmod(found.stat().st_mode | stat.S_IXUSR)
+    monkeypatch.setenv("FAKE_WORKER_LOG", str(tmp_path / "log"))
+    return found
 
 
 def pytest_addoption(parser: pytest.Parser) -> None:

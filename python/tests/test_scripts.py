@@ -6,14 +6,16 @@ from hypothesis import given
 from hypothesis import strategies as st
 
 from lvdc import Address, Damage, Flip, Lag, Script, Unread
-from lvdc.inputs import read_scripts, script_text
-from lvdc.scripts import DamagePairs, Damages, Lasting, Mixed, Near, Scripts, flips, flips_apart, near_flips, pairs
+from lvdc.inputs import population_text, read_population, read_scripts, script_text
+from lvdc.scripts import (DamagePairs, Damages, Lasting, Mixed, Near, Scripts, Simultaneous, at_rate, flips, flips_apart, near_flips, pairs,
+                          simultaneous)
 from lvdc.studies import name_of
 
 PLACES = [Address(0, 1, 0), Address(0, 15, 3)]
 KINDS: list[Scripts] = [
     flips(range(4), modules=[5, 3], latches=[0, 1], bits=[0, 25]), pairs([2, 4], modules=[6], bits=range(3)),
-    near_flips([0, 1, 3, 9], 2, modules=[3], bits=[0]), Lasting(range(3), [1, 5], modules=[1, 7]), Damages([0, 5], PLACES, bits=[0, 27]),
+    near_flips([0, 1, 3, 9], 2, modules=[3], bits=[0]), Simultaneous(flips([0, 3], modules=[4], bits=[1, 3]), 3),
+    Lasting(range(3), [1, 5], modules=[1, 7]), Damages([0, 5], PLACES, bits=[0, 27]),
     DamagePairs([0, 5], PLACES, [0, 3]), DamagePairs([0, 5], PLACES, [0, 3], twins=[0, 1], bits=[0, 1, 2], width=2, end=8),
     Damages([0, 5], PLACES, bits=[0, 1, 14, 27], width=3),
     Lasting([0, 2], [1, 3], kinds=["lag", "deaf", "force", "stick", "dead"], modules=[6], bits=[0, 26], places=PLACES),
@@ -35,7 +37,8 @@ def test_flips_go_by_steps_modules_latches_copies_and_bits() -> None:
     assert scripts[0].faults == (Flip(5, 1, 4, 4, 0, 1),)
     assert scripts[3].faults == (Flip(5, 2, 4, 4, 0, 2),)
     assert scripts[-1].about == {"kind": "flip", "module": 5, "latch": 1, "copy": 3, "step": 5, "bit": 1}
-    assert len(flips(range(42))) == 49140
+    assert len(flips(range(42))) == 42 * 3 * 252
+    assert len(flips(range(42), all_bits=True)) == 42 * 3 * 15 * 26
 
 
 def test_pairs_hurt_two_copies_of_a_latch() -> None:
@@ -88,9 +91,13 @@ def test_a_distance_below_0_is_refused() -> None:
 @pytest.mark.parametrize("scripts", KINDS, ids=lambda it: type(it).__name__)
 def test_an_input_says_what_its_scripts_were_made_from(scripts: Scripts) -> None:
     given_scripts = list(scripts.drawn(20))
-    text = "IMAGE\nLVDC 1\nEND\nRUN 9\nCAMPAIGN\n* drawn\n" + "".join(script_text(name_of(at), it) for at, it in enumerate(given_scripts))
+    told = scripts.drawn(20).population
+    text = ("IMAGE\nLVDC 1\nEND\nRUN 9\nCAMPAIGN\n" + population_text(told)
+            + "".join(script_text(name_of(at), it) for at, it in enumerate(given_scripts)))
     assert all(len(line) <= 120 for line in text.split("\n"))
     found = list(read_scripts(text))
+    population = read_population(text)
+    assert (population.size, population.drawn, population.seed) == (told.size, 20, 1)
     assert [name for name, _ in found] == [name_of(at) for at in range(20)]
     assert [it for _, it in found] == given_scripts
 
@@ -125,6 +132,32 @@ def test_mixed_scripts_are_drawn_by_a_number() -> None:
     mixed = Mixed(20, PLACES)
     assert [str(it) for it in mixed.drawn(200, 3)] == [str(it) for it in mixed.drawn(200, 3)]
     assert {str(it).split(" ")[0] for it in mixed.drawn(200)} == {"FLIP", "FORCE", "LAG", "DEAF", "DAMAGE", "STICK", "DEAD"}
+
+
+def test_so_many_at_one_step() -> None:
+    kind = simultaneous(3, [2, 5], modules=[4], bits=[1, 3])
+    texts = [str(it) for it in kind]
+    each = [[str(it) for it in flips([step], modules=[4], bits=[1, 3])] for step in (2, 5)]
+    assert sorted(texts) == sorted("".join(it) for singles in each for it in combinations(singles, 3))
+    assert {len(set(it.faults)) for it in kind.drawn(200)} == {3}
+
+
+def test_a_rate_hits_as_often_as_it_says() -> None:
+    kind = at_rate(0.01, range(20), modules=[3])
+    bits = 20 * 3 * 13
+    counts = [len(it.faults) for it in kind.drawn(400, seed=5)]
+    assert abs(sum(counts) / 400 - bits * 0.01) < 4 * (bits * 0.01 / 400) ** 0.5
+    assert all(len(set(it.faults)) == len(it.faults) for it in kind.drawn(400))
+    assert kind.population.size is None
+
+
+def test_what_is_drawn_can_be_gone_through_again() -> None:
+    drawn = flips(range(9)).drawn(20, seed=4)
+    assert list(drawn) == list(drawn)
+    assert (len(drawn), drawn.population.drawn, drawn.population.seed, drawn.population.size) == (20, 20, 4, 9 * 756)
+    both = drawn + pairs(range(2))
+    assert len(both) == 20 + 2 * 756
+    assert [it.is_census for it in both.populations] == [False, True]
 
 
 def test_nothing_is_drawn_from_nothing() -> None:

@@ -10,6 +10,7 @@ from lvdc import (Address, Damage, Differs, Done, Error, Form, Inadmissible, Log
                   Worker, WorkerFailed)
 from lvdc.lines import Unread, decode
 from lvdc.traces import MemoryExchange, PortExchange, ReadRepair
+from lvdc.values import Port
 
 TEXTS = Path(__file__).resolve().parent / "texts"
 CASES = sorted(TEXTS.glob("*/*"))
@@ -55,7 +56,7 @@ def test_a_trace_has_wrong_copies_repairs_and_ports() -> None:
     assert wrong.steps[1].differing == {(3, 3): (Word(0o7001),)}
     assert Trace.read(text_of("trace/two-repairs")).steps[1].repair == ReadRepair(Address(0, 1, 0), 0, is_switch=True)
     ports = Trace.read(text_of("trace/a-word-through-two-ports"))
-    assert ports.steps[2].exchange == PortExchange("IN", 0, Word(5))
+    assert ports.steps[2].exchange == PortExchange("IN", Port(0), Word(5))
     assert Trace.read(text_of("trace/one-wrong-copy-in-each-step")).end is None
     assert Trace.read(text_of("trace/an-inadmissible-step")).end == Inadmissible(Logic(4, 3))
 

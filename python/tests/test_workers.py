@@ -1,8 +1,5 @@
 """Workers and pools, over a stand-in that dies, sleeps and writes what is no reply."""
 import os
-import shlex
-import stat
-import sys
 import threading
 import time
 from collections.abc import Iterator
@@ -12,18 +9,6 @@ import pytest
 
 from lvdc import NoMemory, NotACommand, NoWorker, Pool, Refused, Request, TimeLimit, Worker, WorkerFailed, ask
 from lvdc.workers import find_worker, frame_of
-
-FAKE = Path(__file__).resolve().parent / "fake_worker.py"
-
-
-@pytest.fixture
-def program(tmp_path: Path, monkeypatch: pytest.MonkeyPatch) -> Path:
-    """The stand-in as a program, which notes its starts in a file `log` beside it."""
-    found = tmp_path / "lvdc-worker"
-    found.write_text(f"#!/bin/sh\nexec {shlex.quote(sys.executable)} {shlex.quote(str(FAKE))}\n")
-    found.chmod(found.stat().st_mode | stat.S_IXUSR)
-    monkeypatch.setenv("FAKE_WORKER_LOG", str(tmp_path / "log"))
-    return found
 
 
 @pytest.fixture

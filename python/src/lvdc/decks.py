@@ -1,15 +1,17 @@
 """Decks: what is run. A deck is made in code, or read from a text; `str` prints it in the one form that docs/FORMATS.md shows, without
 comments. What a deck may say is the program's to judge: a deck that it refuses can be made here."""
+import html
 import re
 from collections.abc import Iterable, Sequence
 from dataclasses import dataclass, replace
-from typing import Self, TypeAlias
+from typing import Self, TypeAlias, TypeVar
 
-from lvdc.faults import Fault, read_fault
+from lvdc.faults import FAULTS, Fault, read_fault
 from lvdc.images import Image
 from lvdc.lines import Unread, sections, tokens
-from lvdc.values import Hop, Word, check
+from lvdc.values import PAIRS, STEPS_A_TIME, Address, Hop, Port, Word, check
 
+Part = TypeVar("Part")
 LETTERS = "ABCDEFGHIJKLMNOPQRSTU"
 SECTIONS = ["START", "SIMPLEX", "PORTS", "FAULTS", "ORDER", "RUN", "DEBUG"]
 _WORD = re.compile("[0-7]{1,9}")
@@ -19,18 +21,23 @@ _COUNT = re.compile("[0-9]{1,9}")
 _NAME = re.compile("[A-Z][A-Z0-9]{0,7}")
 
 
-@dataclass(frozen=True, slots=True)
+@dataclass(frozen=True, slots=True, repr=False)
 class Source:
     """A source text, up to its line END, which ends with LF."""
 
     text: str
 
     def __post_init__(self) -> None:
+        if not isinstance(self.text, str):
+            raise TypeError(f"a Source is made of its text, not {_shown(self.text)}: of a file, Source(path.read_text())")
         if not self.text.endswith("\n"):
             object.__setattr__(self, "text", self.text + "\n")
 
     def __str__(self) -> str:
         return self.text
+
+    def __repr__(self) -> str:
+        return f"<Source of {self.text.count(chr(10))} lines>"
 
 
 @dataclass(frozen=True, slots=True)
@@ -42,12 +49,13 @@ class Tape:
 
     def __post_init__(self) -> None:
         check("a port", self.port, 256)
-        object.__setattr__(self, "words", tuple(map(Word, self.words)))
+        object.__setattr__(self, "port", Port(self.port))
+        object.__setattr__(self, "words", tuple(map(Word, several("the words of a tape", self.words))))
         if not self.words:
             raise ValueError("a tape line has a word or more")
 
     def __str__(self) -> str:
-        return " ".join([f"TAPE {self.port:03o}", *map(str, self.words)])
+        return " ".join([f"TAPE {self.port}", *map(str, self.words)])
 
 
 @dataclass(frozen=True, slots=True)
@@ -60,20 +68,33 @@ class Unplug:
     def __post_init__(self) -> None:
         check("a port", self.port, 256)
         check("a time", self.time, 1_000_001)
+        object.__setattr__(self, "port", Port(self.port))
 
     def __str__(self) -> str:
-        return f"UNPLUG {self.port:03o} {self.time}"
+        return f"UNPLUG {self.port} {self.time}"
 
 
 PortLine: TypeAlias = Tape | Unplug
 
 
-@dataclass(frozen=True, slots=True)
+@dataclass(frozen=True, slots=True, repr=False)
 class Deck:
     """A program, the count of instruction times, and the sections of a deck.
 
     `start` is a HOP constant or, over a source, the name of a line of code. `orders` are tokens of the 21 letters A to U. `commands` are
-    those of a debug session; none means that there is no section DEBUG."""
+    those of a debug session; none means that there is no section DEBUG. Raises TypeError where a part is of another kind.
+
+    >>> from lvdc import Address, Deck, Image
+    >>> deck = Deck(Image({Address(0, 0, 0): 0o17000}), count=2)
+    >>> deck.steps
+    range(0, 6)
+    >>> print(deck, end="")
+    IMAGE
+    LVDC 1
+    0 00 000 000017000
+    END
+    RUN 2
+    """
 
     program: Image | Source
     count: int
@@ -85,14 +106,34 @@ class Deck:
     commands: Sequence[str] | None = None
 
     def __post_init__(self) -> None:
-        for name in ("simplex", "ports", "faults", "orders"):
-            object.__setattr__(self, name, tuple(getattr(self, name)))
+        if not isinstance(self.program, (Image, Source)):
+            raise TypeError(f"a program is an Image or a Source, not {_shown(self.program)}: of a text, Source(text) or Image.read(text)")
+        check("a count of instruction times", self.count, 1_000_000_000)
+        if self.start is not None and not isinstance(self.start, (Hop, str)):
+            raise TypeError(f"a start is a Hop or a name, not {_shown(self.start)}: of a word, Hop.of(word)")
+        kinds: dict[str, tuple[type, ...]] = {"simplex": (int,), "ports": (Tape, Unplug), "faults": FAULTS, "orders": (str,)}
+        for name, kind in kinds.items():
+            object.__setattr__(self, name, several(name, getattr(self, name), kind))
         if self.commands is not None:
-            object.__setattr__(self, "commands", tuple(self.commands))
+            object.__setattr__(self, "commands", several("commands", self.commands, (str,)))
+
+    @property
+    def steps(self) -> range:
+        """The steps of the run: three to each instruction time that is asked for."""
+        return range(STEPS_A_TIME * self.count)
+
+    @property
+    def places(self) -> tuple[Address, ...]:
+        """The places of the words of the image, where a twin can be hurt. Raises ValueError for a source, which is to be assembled first."""
+        if not isinstance(self.program, Image):
+            raise ValueError("the words of a source are known once it is assembled: places=lvdc.assemble_image(deck.program).words")
+        return tuple(it for it in self.program.words if it.bank in PAIRS)
 
     @classmethod
     def read(cls, text: str) -> Self:
         """Reads a deck, with comments and blanks. Raises Unread at the line that it can't be."""
+        if not isinstance(text, str):
+            raise TypeError(f"a deck is read from its text, not {_shown(text)}: of a file, Deck.read(path.read_text())")
         reader = _Reader(text)
         program = reader.read_program()
         reader.read_sections()
@@ -100,12 +141,18 @@ class Deck:
                    tuple(reader.orders), None if reader.commands is None else tuple(reader.commands))
 
     def with_faults(self, *faults: Fault) -> Self:
-        """The same deck with these faults in place of its own."""
+        """The same deck with these faults in place of its own. Raises TypeError where one isn't a fault."""
         return replace(self, faults=faults)
 
     def with_commands(self, *commands: str) -> Self:
         """The same deck with these commands of a debug session."""
         return replace(self, commands=commands)
+
+    def __repr__(self) -> str:
+        return f"<Deck of {self.count} instruction times: {self.program!r}, {len(self.faults)} faults>"
+
+    def _repr_html_(self) -> str:
+        return f"<pre>{html.escape(str(self))}</pre>"
 
     def __str__(self) -> str:
         heading = "IMAGE" if isinstance(self.program, Image) else "SOURCE"
@@ -116,6 +163,25 @@ class Deck:
         lines.append(f"RUN {self.count}")
         lines += [] if self.commands is None else ["DEBUG", *self.commands]
         return f"{heading}\n{self.program}" + "".join(f"{it}\n" for it in lines)
+
+
+def several(what: str, given: Iterable[Part], kinds: tuple[type, ...] = (int,)) -> tuple[Part, ...]:
+    """The parts that are given, each of one of these kinds. Raises TypeError else, as for a str, which is a row of letters."""
+    names = " or ".join(it.__name__ for it in kinds)
+    if isinstance(given, (str, bytes)) or not isinstance(given, Iterable):
+        raise TypeError(f"{what} are a list of {names}, not {_shown(given)}")
+    found = tuple(given)
+    for it in found:
+        if not isinstance(it, kinds):
+            hint = ", give them one by one: *faults" if isinstance(it, (list, tuple)) else ""
+            raise TypeError(f"{what} are a list of {names}: {_shown(it)} is none{hint}")
+    return found
+
+
+def _shown(given: object) -> str:
+    """What was given, as a message has it."""
+    shown = repr(given)
+    return shown if len(shown) <= 60 else f"{shown[:57]}..."
 
 
 def campaign_text(deck: Deck, scripts: Iterable[tuple[str, Iterable[Fault]]], ports: bool = False) -> str:

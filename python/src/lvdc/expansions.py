@@ -5,7 +5,7 @@ from typing import Self
 from lvdc.lines import Lines
 
 
-@dataclass(frozen=True, slots=True)
+@dataclass(frozen=True, slots=True, repr=False)
 class Expansion:
     """The lines of a source without macros."""
 
@@ -20,6 +20,9 @@ class Expansion:
         while (line := lines.take()) is not None:
             found.append(line)
         return cls(tuple(found), text)
+
+    def __repr__(self) -> str:
+        return f"<Expansion of {len(self.lines)} lines>"
 
     def __str__(self) -> str:
         return "".join(f"{it}\n" for it in self.lines)

@@ -16,7 +16,7 @@ END_OF_WORDS = 1 << Word.BITS
 
 def _check_copy(module: int, copy: int, first: int, last: int) -> None:
     """Wants a module, a copy, and steps."""
-    if 0 < module < 8 and 0 < copy < 4 and 0 <= first <= last < END_OF_STEPS:
+    if type(module) is type(copy) is type(first) is type(last) is int and 0 < module < 8 and 0 < copy < 4 and 0 <= first <= last < END_OF_STEPS:
         return
     check("a module", module, 8, 1)
     check("a copy", copy, 4, 1)
@@ -39,7 +39,7 @@ def _check_place(twin: int, pair: int, sector: int, location: int) -> None:
 
 def _check_latch(module: int, latch: int, *words: int) -> None:
     """Wants a latch that the module has, and words."""
-    if 0 <= latch < len(LATCHES[module]) and 0 <= min(words) <= max(words) < END_OF_WORDS:
+    if type(latch) is int and all(type(it) is int and 0 <= it < END_OF_WORDS for it in words) and 0 <= latch < len(LATCHES[module]):
         return
     check(f"a latch of module {module}", latch, len(LATCHES[module]))
     for word in words:
@@ -178,6 +178,7 @@ class Dead:
         return f"DEAD {self.twin} {self.pair} {self.first} {self.last}"
 
 
+FAULTS: tuple[type, ...] = (Flip, Force, Lag, Deaf, Damage, Stick, Dead)
 Fault: TypeAlias = Flip | Force | Lag | Deaf | Damage | Stick | Dead
 CopyFault: TypeAlias = Flip | Force | Lag | Deaf
 MemoryFault: TypeAlias = Damage | Stick | Dead

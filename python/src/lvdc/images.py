@@ -1,9 +1,9 @@
 """Image texts: the words with which memory is filled."""
 from collections.abc import Mapping
 from dataclasses import dataclass, field
-from types import MappingProxyType
 from typing import Self
 
+from lvdc.frozen import Frozen
 from lvdc.lines import ADDRESS, WORD, Lines, pattern
 from lvdc.values import Address, Hop, Word
 
@@ -14,19 +14,34 @@ _LINE = pattern(ADDRESS, WORD)
 _END = pattern("END")
 
 
-@dataclass(frozen=True, slots=True)
+@dataclass(frozen=True, slots=True, repr=False)
 class Image:
     """Words by their addresses, and of version 2 a start constant and the simplex pairs. Words may be given as plain numbers.
 
-    The addresses rise in the text, whatever order they are given in."""
+    The addresses rise in the text, whatever order they are given in. Raises ValueError where a word or a pair is none, TypeError where
+    an address is no Address.
+
+    >>> from lvdc import Address, Image
+    >>> print(Image({Address(0, 1, 0): 5, Address(0, 0, 0): 0o17000}), end="")
+    LVDC 1
+    0 00 000 000017000
+    0 01 000 000000005
+    END
+    """
 
     words: Mapping[Address, int] = field(default_factory=dict)
     start: Hop | None = None
     simplex: tuple[int, ...] = ()
 
     def __post_init__(self) -> None:
+        if not isinstance(self.words, Mapping):
+            raise TypeError(f"an Image is made of words by their addresses, as {{Address(0, 0, 0): 0o17000}}, not {self.words!r:.60}: "
+                            "of a text, Image.read(text)")
+        for address in self.words:
+            if not isinstance(address, Address):
+                raise TypeError(f"the words of an Image stand at an Address, as Address(0, 1, 0), not at {address!r}")
         rising = {address: Word(self.words[address]) for address in sorted(self.words)}
-        object.__setattr__(self, "words", MappingProxyType(rising))
+        object.__setattr__(self, "words", Frozen(rising))
         if self.simplex and self.start is None:
             raise ValueError("an image with simplex pairs has a start constant too")
         if list(self.simplex) != sorted(set(self.simplex) & {0, 1, 2, 3}):
@@ -57,6 +72,9 @@ class Image:
             words[address] = Word.read(found[2])
         lines.need(_END, "a word line or END")
         return cls(words, start, simplex)
+
+    def __repr__(self) -> str:
+        return f"<Image of {len(self.words)} words>"
 
     def __str__(self) -> str:
         head = [f"LVDC {1 if self.start is None else 2}", *([] if self.start is None else [f"START {self.start}"])]

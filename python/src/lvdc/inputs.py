@@ -1,17 +1,39 @@
 """The input of a campaign or a study: the text of a deck, the line CAMPAIGN, and scripts by their names.
 
 What a script was made from stands in comments behind its name, so that a row can be joined to it: lines that begin with `*:`, with the
-columns of a table as `name=value`, parted by commas."""
+columns of a table as `name=value`, parted by commas. Such a line before the first script says of which population they are."""
 import re
+import textwrap
 from collections.abc import Iterable, Iterator
 
 from lvdc.faults import Fault, read_fault
 from lvdc.lines import Unread, sections, tokens
+from lvdc.populations import GIVEN, Population
 from lvdc.scripts import Script
 
 MARK = "*:"
 MOST_OF_LINE = 120
 _INTEGER = re.compile("0|-?[1-9][0-9]*")
+
+
+def population_text(population: Population) -> str:
+    """The lines that say of which population the scripts of an input are."""
+    parts = {"of": population.size, "drawn": population.drawn, "seed": population.seed}
+    numbers = ", ".join(f"{name}={value}" for name, value in parts.items() if value is not None)
+    told_lines = textwrap.wrap(str(population), MOST_OF_LINE - 2)
+    return "".join(f"* {it}\n" for it in told_lines) + (f"{MARK} {numbers}\n" if numbers else "")
+
+
+def read_population(text: str) -> Population:
+    """The population that an input says; that of given scripts where it says none."""
+    lines = sections(text)
+    for _, line in _lines_of_scripts(lines):
+        if line.startswith(MARK):
+            told = {name: value for name, value in _about(line).items() if isinstance(value, int)}
+            return Population(GIVEN.each, told.get("of"), told.get("drawn"), told.get("seed"))
+        if tokens(line) and not line.startswith("*"):
+            break
+    return GIVEN
 
 
 def script_text(name: str, script: Script) -> str:

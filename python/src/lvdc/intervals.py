@@ -2,16 +2,28 @@
 import math
 from dataclasses import dataclass
 
+from lvdc.values import check
+
 Z_95 = 1.959963984540054  # two-sided, 95 %
 
 
 @dataclass(frozen=True, slots=True)
 class Share:
-    """So many of a total, with Wilson's interval of the proportion behind it: `low` and `high` at 95 %. Of no total the interval is 0 to
-    1, and the share is no number."""
+    """So many of a total. Of a sample Wilson's interval of the proportion behind it goes from `low` to `high`, at 95 %; of no total it is 0
+    to 1, and the share is no number. Of a census the share is what there is: it has no interval, and `low` and `high` are the share.
+
+    >>> from lvdc import Share
+    >>> print(Share(1, 4), "|", Share(1, 4, is_census=True))
+    1 of 4, 25.0% (4.6% to 69.9%) | 1 of all 4, 25.0%
+    """
 
     count: int
     total: int
+    is_census: bool = False
+
+    def __post_init__(self) -> None:
+        check("a total", self.total, 1 << 63)
+        check("a count", self.count, self.total + 1)
 
     @property
     def share(self) -> float:
@@ -19,23 +31,36 @@ class Share:
         return self.count / self.total if self.total else math.nan
 
     @property
+    def interval(self) -> tuple[float, float] | None:
+        """The ends of the interval; None of a census."""
+        return None if self.is_census else wilson(self.count, self.total)
+
+    @property
     def low(self) -> float:
         """The lower end of the interval."""
-        return wilson(self.count, self.total)[0]
+        return self.share if self.is_census else wilson(self.count, self.total)[0]
 
     @property
     def high(self) -> float:
         """The upper end of the interval."""
-        return wilson(self.count, self.total)[1]
+        return self.share if self.is_census else wilson(self.count, self.total)[1]
 
     def __str__(self) -> str:
-        return f"{self.count} of {self.total}" + (f", {self.share:.1%} ({self.low:.1%} to {self.high:.1%})" if self.total else "")
+        told = f"{self.count} of {'all ' * self.is_census}{self.total}"
+        if self.total:
+            told += f", {self.share:.1%}" + ("" if self.is_census else f" ({self.low:.1%} to {self.high:.1%})")
+        return told
 
 
 def wilson(count: int, total: int, z: float = Z_95) -> tuple[float, float]:
-    """Wilson's interval of a proportion, for a normal deviate z."""
-    if not 0 <= count <= total:
-        raise ValueError(f"{count} is no part of {total}")
+    """Wilson's interval of a proportion, for a normal deviate z. Raises ValueError where the count is no part of the total.
+
+    >>> from lvdc import wilson
+    >>> [round(it, 4) for it in wilson(0, 10)]
+    [0.0, 0.2775]
+    """
+    check("a total", total, 1 << 63)
+    check("a count", count, total + 1)
     if total == 0:
         return 0.0, 1.0
     share, square = count / total, z * z

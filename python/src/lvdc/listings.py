@@ -1,8 +1,10 @@
 """Listings of the assembler."""
 import re
+from collections.abc import Mapping
 from dataclasses import dataclass, field
 from typing import Self, TypeAlias
 
+from lvdc.frozen import Frozen
 from lvdc.lines import WORD, Lines, pattern
 from lvdc.reports import PLACE
 from lvdc.values import Address, Place, Word
@@ -63,14 +65,14 @@ class Row:
         return f"{self.number:7d} {str(self.field or ''):20} {self.line}"
 
 
-@dataclass(frozen=True, slots=True)
+@dataclass(frozen=True, slots=True, repr=False)
 class Listing:
     """What the assembler made of a source: rows, the words that it made for literals, and where each name stands (the place of an
     instruction, or the address of a word), by pairs."""
 
     rows: tuple[Row, ...]
     pool: tuple[tuple[Address, Word], ...]
-    names: dict[str, Place | Address]
+    names: Mapping[str, Place | Address]
     text: str = field(repr=False, compare=False)
 
     @classmethod
@@ -92,7 +94,10 @@ class Listing:
                 raise lines.fault("a name that is new")
             names[it[1]] = Place.read(it[2]) if it[2] else _address(it[3])
         lines.end()
-        return cls(tuple(rows), pool, names, text)
+        return cls(tuple(rows), pool, Frozen(names), text)
+
+    def __repr__(self) -> str:
+        return f"<Listing of {len(self.rows)} rows, {len(self.names)} names>"
 
     def __str__(self) -> str:
         lines = [*map(str, self.rows), *(f"POOL {address} {word}" for address, word in self.pool)]

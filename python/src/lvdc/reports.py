@@ -3,12 +3,13 @@ read from, and `str` prints it again from what was read."""
 from collections.abc import Iterator, Mapping
 from dataclasses import dataclass, field
 from enum import Enum
-from types import MappingProxyType
 from typing import Self
 
 from lvdc.ends import END, End, end_of
+from lvdc.frozen import Frozen
 from lvdc.lines import ADDRESS, COPY, MODULE, NUMBER, PORT, TWIN, WORD, Lines, pattern
-from lvdc.values import Address, Place, Word
+from lvdc.tabled import html_table
+from lvdc.values import Address, Place, Port, Word
 
 PLACE = r"([0-7] (?:0[0-7]|1[0-7]) [01] [0-3][0-7]{2})"
 _TIMES = pattern("TIMES", NUMBER)
@@ -68,12 +69,12 @@ class Exchange:
     """A word that went through a port at an instruction time; `is_write` where the program wrote it."""
 
     time: int
-    port: int
+    port: Port
     word: Word
     is_write: bool
 
     def __str__(self) -> str:
-        return f"{'OUT' if self.is_write else 'IN'} {self.time} {self.port:03o} {self.word}"
+        return f"{'OUT' if self.is_write else 'IN'} {self.time} {self.port} {self.word}"
 
 
 @dataclass(frozen=True, slots=True)
@@ -92,7 +93,7 @@ class Repair:
 def take_exchanges(lines: Lines) -> Iterator[Exchange]:
     """Reads a port log."""
     for found in lines.each(EXCHANGE):
-        yield Exchange(int(found[2]), int(found[3], 8), Word.read(found[4]), found[1] == "OUT")
+        yield Exchange(int(found[2]), Port.read(found[3]), Word.read(found[4]), found[1] == "OUT")
 
 
 def take_repairs(lines: Lines) -> Iterator[Repair]:
@@ -117,7 +118,7 @@ def mem_line(address: Address, word: Word | None) -> str:
     return f"MEM {address} {'?' if word is None else word}"
 
 
-@dataclass(frozen=True, slots=True)
+@dataclass(frozen=True, slots=True, repr=False)
 class Report:
     """What a run comes to.
 
@@ -139,8 +140,8 @@ class Report:
         lines = Lines(text)
         kind = Kind(lines.need(_TITLE, "the title of a report")[1])
         end = end_of(lines.need(END, "an END line"))
-        report = cls(kind, end, Registers.take(lines), tuple(take_exchanges(lines)), MappingProxyType(dict(take_words(lines))),
-                     MappingProxyType(_take_wrong(lines)), tuple(take_repairs(lines)), text)
+        report = cls(kind, end, Registers.take(lines), tuple(take_exchanges(lines)), Frozen(dict(take_words(lines))),
+                     Frozen(_take_wrong(lines)), tuple(take_repairs(lines)), text)
         lines.end()
         return report
 
@@ -160,8 +161,25 @@ class Report:
         return tuple(address for address, word in self.words.items() if word is None)
 
     def word(self, address: Address) -> Word | None:
-        """The word at an address: 0 where the report has no line of it, None where it can't be recovered."""
+        """The word at an address: 0 where the report has no line of it, None where it can't be recovered. Raises TypeError where it is no
+        Address."""
+        if not isinstance(address, Address):
+            raise TypeError(f"a word stands at an Address, as Address(0, 1, 0), not at {address!r}")
         return self.words.get(address, Word(0))
+
+    def __repr__(self) -> str:
+        return (f"<Report {self.kind.value}: {self.end}, {self.registers.times} times, {len(self.exchanges)} exchanges, {len(self.words)} words, "
+                f"{sum(self.wrong.values())} differing copies, {len(self.repairs)} repairs>")
+
+    def _repr_html_(self) -> str:
+        registers = self.registers
+        rows: list[tuple[object, ...]] = [("run", self.kind.value), ("end", self.end), ("times", registers.times), ("place", registers.place),
+                                          ("A", registers.a), ("PQ", registers.pq), ("SAVER", registers.saver)]
+        rows += [(f"{'OUT' if it.is_write else 'IN'} at {it.time}, port {it.port}", it.word) for it in self.exchanges]
+        rows += [(f"word {address}", "can't be recovered" if word is None else word) for address, word in self.words.items()]
+        rows += [(f"module {module}, copy {copy}", f"differed in {count} steps") for (module, copy), count in self.wrong.items()]
+        rows += [("repair", it) for it in self.repairs]
+        return html_table((), rows)
 
     def __str__(self) -> str:
         lines = [*map(str, self.exchanges), *(mem_line(*it) for it in self.words.items())]

@@ -45,19 +45,25 @@ SAME, DIFFERS = Same(), Differs()
 
 @dataclass(frozen=True, slots=True)
 class CampaignRow:
-    """What became of a script: its verdict, and whether the outcome is the same. `script` is known where it was asked for by objects."""
+    """What became of a script: its verdict, and whether the outcome is the same. `known_script` is there where it was asked for by objects,
+    and `script` is it."""
 
     name: str
     verdict: Verdict
     outcome: Outcome
-    script: Script | None = field(default=None, repr=False, compare=False)
+    known_script: Script | None = field(default=None, repr=False, compare=False)
 
     def __str__(self) -> str:
         return f"SCRIPT {self.name} {self.verdict} {self.outcome}"
 
+    @property
+    def script(self) -> Script:
+        """The script. Raises LookupError where the row was read from a text alone."""
+        return _known(self)
+
     def with_script(self, script: Script | None) -> Self:
         """The same row with its script."""
-        return replace(self, script=script)
+        return replace(self, known_script=script)
 
 
 @dataclass(frozen=True, slots=True)
@@ -72,22 +78,27 @@ class StudyRow:
     repairs: int
     first_repair: int | None
     form: bool
-    script: Script | None = field(default=None, repr=False, compare=False)
+    known_script: Script | None = field(default=None, repr=False, compare=False)
 
     def __str__(self) -> str:
         first = "-" if self.first_repair is None else self.first_repair
         return (f"SCRIPT {self.name} {self.verdict} {self.outcome} COPIES {self.copies} REPAIRS {self.repairs} {first} "
                 f"FORM {'YES' if self.form else 'NO'}")
 
+    @property
+    def script(self) -> Script:
+        """The script. Raises LookupError where the row was read from a text alone."""
+        return _known(self)
+
     def with_script(self, script: Script | None) -> Self:
         """The same row with its script."""
-        return replace(self, script=script)
+        return replace(self, known_script=script)
 
 
 Row: TypeAlias = CampaignRow | StudyRow
 
 
-@dataclass(frozen=True, slots=True)
+@dataclass(frozen=True, slots=True, repr=False)
 class CampaignRows:
     """The text of a campaign: its rows, and the total of scripts, of admissible ones and of those with the same outcome."""
 
@@ -106,11 +117,14 @@ class CampaignRows:
         lines.end()
         return cls(rows, int(total[1]), int(total[2]), int(total[3]), text)
 
+    def __repr__(self) -> str:
+        return f"<CampaignRows: {self.scripts} scripts, {self.admissible} admissible, {self.same} the same>"
+
     def __str__(self) -> str:
         return "".join(f"{it}\n" for it in self.rows) + f"CAMPAIGN {self.scripts} ADMISSIBLE {self.admissible} SAME {self.same}\n"
 
 
-@dataclass(frozen=True, slots=True)
+@dataclass(frozen=True, slots=True, repr=False)
 class StudyRows:
     """The text of a study: its rows, and the total of scripts, of admissible ones, of those with the same outcome and of those that mask
     by form."""
@@ -131,9 +145,19 @@ class StudyRows:
         lines.end()
         return cls(rows, int(total[1]), int(total[2]), int(total[3]), int(total[4]), text)
 
+    def __repr__(self) -> str:
+        return f"<StudyRows: {self.scripts} scripts, {self.admissible} admissible, {self.same} the same, {self.form} masking by form>"
+
     def __str__(self) -> str:
         return ("".join(f"{it}\n" for it in self.rows)
                 + f"STUDY {self.scripts} ADMISSIBLE {self.admissible} SAME {self.same} FORM {self.form}\n")
+
+
+def _known(row: Row) -> Script:
+    """The script of a row."""
+    if row.known_script is None:
+        raise LookupError(f"the script of {row.name} isn't known here: with_script says which it is")
+    return row.known_script
 
 
 def each_row(text: str) -> Iterator[Row]:

@@ -2,14 +2,14 @@
 import re
 from collections.abc import Iterator, Mapping
 from dataclasses import dataclass, field
-from types import MappingProxyType
 from typing import Self
 
 from lvdc.decks import LETTERS, Unplug
 from lvdc.faults import Fault, read_fault
+from lvdc.frozen import Frozen
 from lvdc.lines import ADDRESS, CELL, NUMBER, PORT, TWIN, WORD, Lines, pattern
 from lvdc.reports import Exchange, Repair, take_exchanges, take_repairs
-from lvdc.values import COPIES, LATCHES, MODULES, Address, Cell, Word
+from lvdc.values import COPIES, LATCHES, MODULES, Address, Cell, Port, Word
 
 _TITLE = pattern("LVDC", "SAVE", "1")
 _STEPS = pattern("STEPS", NUMBER)
@@ -33,7 +33,7 @@ class CopyState:
     latches: tuple[Word, ...]
 
 
-@dataclass(frozen=True, slots=True)
+@dataclass(frozen=True, slots=True, repr=False)
 class Saved:
     """The state of a run, and the rest of its deck.
 
@@ -50,7 +50,7 @@ class Saved:
     words: Mapping[Address, Word]
     exchanges: tuple[Exchange, ...]
     repairs: tuple[Repair, ...]
-    states: tuple[tuple[int, Word], ...]
+    states: tuple[tuple[Port, Word], ...]
     unplugs: tuple[Unplug, ...]
     faults: tuple[Fault, ...]
     orders: tuple[str, ...]
@@ -64,18 +64,21 @@ class Saved:
         steps, count = int(lines.need(_STEPS, "STEPS")[1]), int(lines.need(_COUNT, "COUNT")[1])
         simplex = lines.may(_SIMPLEX)
         pairs = tuple(map(int, simplex[1].split(" "))) if simplex else ()
-        copies = MappingProxyType(dict(_take_copies(lines)))
+        copies = Frozen(dict(_take_copies(lines)))
         selected = tuple(map(int, lines.need(_SELECT, "SELECT").groups()))
         cells = {place: Cell.read(it[3]) for place, it in lines.rising(_CELL, lambda it: (int(it[1]), Address.read(it[2])))}
         words = {address: Word.read(it[2]) for address, it in lines.rising(_WORD, lambda it: Address.read(it[1]))}
         exchanges, repairs = tuple(take_exchanges(lines)), tuple(take_repairs(lines))
-        states = tuple((int(it[1], 8), Word.read(it[2])) for it in lines.each(_STATE))
+        states = tuple((Port.read(it[1]), Word.read(it[2])) for it in lines.each(_STATE))
         unplugs = tuple(Unplug(int(it[1], 8), int(it[2])) for it in lines.each(_UNPLUG))
         faults, orders = tuple(_take_faults(lines)), tuple(_take_orders(lines))
         lines.need(_END, "END")
         lines.end()
-        return cls(steps, count, pairs, copies, selected, MappingProxyType(cells), MappingProxyType(words), exchanges, repairs, states,
+        return cls(steps, count, pairs, copies, selected, Frozen(cells), Frozen(words), exchanges, repairs, states,
                    unplugs, faults, orders, text)
+
+    def __repr__(self) -> str:
+        return f"<Saved after {self.steps} steps of {3 * self.count}>"
 
     def __str__(self) -> str:
         lines = ["LVDC SAVE 1", f"STEPS {self.steps}", f"COUNT {self.count}"]
@@ -85,7 +88,7 @@ class Saved:
         lines += [" ".join(["SELECT", *map(str, self.selected)])]
         lines += [f"CELL {twin} {place} {cell}" for (twin, place), cell in self.cells.items()]
         lines += [f"WORD {address} {word}" for address, word in self.words.items()]
-        lines += [*map(str, self.exchanges), *map(str, self.repairs), *(f"STATE {port:03o} {word}" for port, word in self.states)]
+        lines += [*map(str, self.exchanges), *map(str, self.repairs), *(f"STATE {port} {word}" for port, word in self.states)]
         lines += [*map(str, self.unplugs), *map(str, self.faults), *self.orders, "END"]
         return "".join(f"{it}\n" for it in lines)
 

@@ -2,10 +2,10 @@
 import re
 from collections.abc import Mapping
 from dataclasses import dataclass, field
-from types import MappingProxyType
 from typing import Self, TypeAlias
 
 from lvdc.ends import END, End, end_of
+from lvdc.frozen import Frozen
 from lvdc.lines import MODULE, NUMBER, WORD, Lines, pattern
 from lvdc.reports import PLACE, Registers, mem_line, take_words
 from lvdc.values import COPIES, LATCHES, Address, Place, Word
@@ -126,7 +126,7 @@ class Turn:
         return f"> {self.command}\n{self.answer}"
 
 
-@dataclass(frozen=True, slots=True)
+@dataclass(frozen=True, slots=True, repr=False)
 class Session:
     """The commands of a debug session with their answers."""
 
@@ -150,6 +150,9 @@ class Session:
         """The answers, in the order of the commands."""
         return tuple(it.answer for it in self.turns)
 
+    def __repr__(self) -> str:
+        return f"<Session of {len(self.turns)} commands>"
+
     def __str__(self) -> str:
         return "LVDC DEBUG\n" + "".join(map(str, self.turns))
 
@@ -170,7 +173,7 @@ def _take_answer(lines: Lines) -> Answer:
     if line.startswith("TIMES "):
         return Registers.take(lines)
     if line.startswith("MEM "):
-        words = MappingProxyType(dict(take_words(lines)))
+        words = Frozen(dict(take_words(lines)))
         return Words(words) if words else _refuse(lines)
     if (found := _COPY.fullmatch(line)) is not None:
         return _take_copies(lines, int(found[1]))
@@ -184,7 +187,7 @@ def _take_copies(lines: Lines, module: int) -> Copies:
     for copy in COPIES:
         form = pattern("COPY", str(module), str(copy), *[WORD] * len(LATCHES[module]))
         copies[copy] = tuple(map(Word.read, lines.need(form, f"COPY {module} {copy}").groups()))
-    return Copies(module, MappingProxyType(copies))
+    return Copies(module, Frozen(copies))
 
 
 def _disassembled(found: re.Match[str]) -> Disassembled:

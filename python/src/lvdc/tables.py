@@ -1,11 +1,15 @@
 """Tables of rows, for other programs: RFC 4180, with a line of headings and one column for each field."""
 import csv
+import importlib
 from collections.abc import Iterable, Iterator, Mapping, Sequence
-from typing import Any, Protocol
+from typing import TYPE_CHECKING, Any, Protocol
 
 from lvdc.ends import Admissible, Logic, Memory
 from lvdc.intervals import Share
 from lvdc.rows import Differs, Row, StudyRow
+
+if TYPE_CHECKING:
+    from pandas import DataFrame
 
 NAMED = ["name", "faults"]
 TOLD = ["verdict", "verdict_step", "verdict_module", "verdict_address", "is_same"]
@@ -38,7 +42,7 @@ def is_different(row: Row) -> bool:
 
 def record(row: Row) -> Record:
     """A row as the columns of a table."""
-    verdict, outcome, script = row.verdict, row.outcome, row.script
+    verdict, outcome, script = row.verdict, row.outcome, row.known_script
     found: Record = {"name": row.name}
     if script is not None:
         found["faults"] = "; ".join(map(str, script.faults))
@@ -59,9 +63,9 @@ def record(row: Row) -> Record:
 
 
 def column(row: Row, name: str) -> int | str:
-    """The value of a column of a row."""
-    if row.script is not None and name in row.script.about:
-        return row.script.about[name]
+    """The value of a column of a row. Raises KeyError where the row hasn't it."""
+    if row.known_script is not None and name in row.known_script.about:
+        return row.known_script.about[name]
     value = record(row).get(name)
     if isinstance(value, (int, str)):
         return value
@@ -85,11 +89,28 @@ def write_csv(file: Writable, names: Sequence[str], records: Iterable[Mapping[st
     writer.writerows({name: f"{value:.6f}" if isinstance(value, float) else value for name, value in it.items()} for it in records)
 
 
-class Counts:
-    """How many rows there are for each choice of the values of some columns, and of how many of them something holds."""
+def dataframe_of(records: Sequence[Record], names: Sequence[str]) -> "DataFrame":
+    """A table as a pandas.DataFrame; a column of whole numbers with gaps stays one, of the type Int64. Raises ImportError where pandas isn't
+    there."""
+    try:
+        pandas: Any = importlib.import_module("pandas")
+    except ImportError as error:
+        raise ImportError("a table wants pandas: pip install pandas, or apt install python3-pandas") from error
+    frame: DataFrame = pandas.DataFrame(records, columns=list(names))
+    for name in names:
+        values = [it.get(name) for it in records]
+        told = [it for it in values if it is not None]
+        if len(told) < len(values) and told and all(type(it) is int for it in told):
+            frame[name] = pandas.array(values, dtype="Int64")
+    return frame
 
-    def __init__(self, by: Sequence[str]) -> None:
-        self.by = list(by)
+
+class Counts:
+    """How many rows there are for each choice of the values of some columns, and of how many of them something holds. Of a census the shares
+    have no interval."""
+
+    def __init__(self, by: Sequence[str], is_census: bool = False) -> None:
+        self.by, self.is_census = list(by), is_census
         self._told = ["inadmissible", "different"]
         self._counts: dict[tuple[int | str, ...], list[int]] = {}
 
@@ -106,16 +127,20 @@ class Counts:
     @property
     def names(self) -> list[str]:
         """The columns of the table."""
-        return [*self.by, "scripts", *(name + part for name in self._told for part in ("", "_share", "_low", "_high"))]
+        parts = ("", "_share") if self.is_census else ("", "_share", "_low", "_high")
+        return [*self.by, "scripts", *(name + part for name in self._told for part in parts)]
 
     def records(self) -> Iterator[Record]:
-        """A record for each choice, in the order of the values: counts, and beside them their shares with Wilson's interval at 95 %."""
+        """A record for each choice, in the order of the values: counts, and beside them their shares, of a sample with Wilson's interval at
+        95 %."""
         for values in sorted(self._counts, key=lambda it: [(isinstance(value, str), value) for value in it]):
             total, *counts = self._counts[values]
             found: Record = {**dict(zip(self.by, values)), "scripts": total}
             for name, count in zip(self._told, counts):
                 share = Share(count, total)
-                found |= {name: count, f"{name}_share": share.share, f"{name}_low": share.low, f"{name}_high": share.high}
+                found |= {name: count, f"{name}_share": share.share}
+                if not self.is_census:
+                    found |= {f"{name}_low": share.low, f"{name}_high": share.high}
             yield found
 
 

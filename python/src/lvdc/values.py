@@ -10,34 +10,60 @@ COPIES = range(1, 4)
 TWINS = range(2)
 PAIRS = range(4)
 STEPS_A_TIME = 3
+_OF_NUMBERS = tuple("bcdeEfFgGnoxX%")
 
-# The latches of each module by index, as docs/MACHINE.md names them.
-LATCHES: dict[int, tuple[str, ...]] = {
-    1: ("PHASE", "HOLD"), 2: ("PLACE", "SAVER"), 3: ("INSTR",), 4: ("DATA",), 5: ("A", "OPERAND"),
-    6: ("PQ", "CONTROL", "M", "H", "Q"), 7: ("STOP", "REQUEST")}
+# The latches of each module by index, as docs/MACHINE.md names them, and of the 26 bits of each those that are used: that some row there
+# looks at. Whatever stands in the others, nothing comes of it.
+_LATCHES: dict[int, tuple[tuple[str, int], ...]] = {
+    1: (("PHASE", 0o3), ("HOLD", 0o7)), 2: (("PLACE", 0o377776004), ("SAVER", 0o377777777)), 3: (("INSTR", 0o17777),), 4: (("DATA", 0o1772),),
+    5: (("A", 0o377777777), ("OPERAND", 0o377777777)),
+    6: (("PQ", 0o377777777), ("CONTROL", 0o777), ("M", 0o377777777), ("H", 0o377777777), ("Q", 0o77777777)),
+    7: (("STOP", 0o3), ("REQUEST", 0o777777))}
+LATCHES: dict[int, tuple[str, ...]] = {module: tuple(name for name, _ in latches) for module, latches in _LATCHES.items()}
+USED: dict[int, tuple[int, ...]] = {module: tuple(mask for _, mask in latches) for module, latches in _LATCHES.items()}
 NAMES = {1: "timer", 2: "locator", 3: "decoder", 4: "selector", 5: "accumulator", 6: "multiplier", 7: "exchange"}
 
 
+def check_whole(what: str, value: int) -> None:
+    """Wants a whole number: an int, or what stands for one, and no bool."""
+    if type(value) is not int and (isinstance(value, bool) or not hasattr(value, "__index__")):
+        raise TypeError(f"{what} is a whole number, not {value!r}")
+
+
 def check(what: str, value: int, end: int, first: int = 0) -> None:
-    """Wants a number from `first` on and below `end`."""
+    """Wants a whole number from `first` on and below `end`. Raises TypeError or ValueError."""
+    check_whole(what, value)
     if not first <= value < end:
         raise ValueError(f"{what} is {first} to {end - 1}, not {value}")
 
 
 class Word(int):
-    """A data word: 26 bits, as a number below 2^26. It is printed in nine octal digits."""
+    """A data word: 26 bits, as a number below 2^26. It is printed in nine octal digits, under each format but those of a number.
+
+    Raises ValueError where a number isn't one of so many bits, TypeError where it is no whole number.
+
+    >>> from lvdc import Word
+    >>> print(Word(15), f"{Word(15):>12}", f"{Word(15):d}", Word.of_signed(-1), Word(0o377777777).signed)
+    000000017    000000017 15 377777777 -1
+    """
 
     __slots__ = ()
     BITS, DIGITS = 26, 9
 
     def __new__(cls, value: int = 0) -> Self:
+        check_whole(f"a {cls.__name__}", value)
         if not 0 <= value < 1 << cls.BITS:
             raise ValueError(f"a {cls.__name__} has {cls.BITS} bits: {value} is none")
         return super().__new__(cls, value)
 
+    def __format__(self, form: str) -> str:
+        return int.__format__(self, form) if form[-1:] in _OF_NUMBERS else format(str(self), form)
+
     @classmethod
     def read(cls, digits: str) -> Self:
-        """A word from its octal digits."""
+        """A word from its octal digits. Raises ValueError where they are none."""
+        if not isinstance(digits, str):
+            raise TypeError(f"a {cls.__name__} is read from octal digits, as '000000017', not {digits!r}: a number is {cls.__name__}(..)")
         return cls(int(digits, 8))
 
     @classmethod
@@ -58,6 +84,13 @@ class Word(int):
         return f"{type(self).__name__}(0o{self})"
 
 
+class Port(Word):
+    """A port: 8 bits, printed in three octal digits."""
+
+    __slots__ = ()
+    BITS, DIGITS = 8, 3
+
+
 class Cell(Word):
     """What memory stores of a word, or a mask over it: 28 bits, two syllables of 13 bits with a parity bit above each. It is printed in
     ten octal digits, and has no signed value of its own."""
@@ -68,7 +101,12 @@ class Cell(Word):
 
 @dataclass(frozen=True, slots=True, order=True)
 class Address:
-    """A word of memory: bank 0 to 7, sector 0 to 15, location 0 to 255. Printed `p ss lll`, in octal."""
+    """A word of memory: bank 0 to 7, sector 0 to 15, location 0 to 255. Printed `p ss lll`, in octal. Raises ValueError where one is another.
+
+    >>> from lvdc import Address
+    >>> print(Address(0, 1, 0o100), Address.read("0 17 377"))
+    0 01 100 0 17 377
+    """
 
     bank: int
     sector: int
@@ -81,7 +119,7 @@ class Address:
 
     @staticmethod
     def read(text: str) -> "Address":
-        """An address from its three octal numbers."""
+        """An address from its three octal numbers, as `0 01 000`. Raises ValueError where they are none."""
         return _read_address(text)
 
     def __str__(self) -> str:
