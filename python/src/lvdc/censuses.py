@@ -49,7 +49,8 @@ class Census(Sequence[StudyRow]):
     >>> deck = lvdc.Deck(lvdc.Image({lvdc.Address(0, 0, 0): 0o17000, lvdc.Address(0, 0, 1): 0o10001, lvdc.Address(0, 1, 0): 5}), count=9)
     >>> pairs = lvdc.scripts.pairs(deck)
     >>> found = lvdc.census(deck, pairs)
-    >>> print(found.share(lvdc.is_different), f"of which {found.asked} were run")
+    >>> print(found.share(lvdc.is_different), "by", found.asked, "runs")
+    6708 of all 20412, 32.9% by 935 runs
     >>> list(found) == list(lvdc.study(deck, pairs))
     True
     """

@@ -162,7 +162,7 @@ def debug(deck: Given, commands: Sequence[str] | None = None, *, worker: Asker |
 
     >>> import lvdc
     >>> print(lvdc.debug("IMAGE\\nLVDC 1\\nEND\\nRUN 2\\n", ["STEP 1"]).answers[0], end="")
-    AT 1 0 00 0 001
+    AT 1 0 00 0 000
     """
     text = _deck(deck)
     if commands is not None:

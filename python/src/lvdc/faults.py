@@ -200,7 +200,12 @@ _FORMS: dict[str, tuple[Callable[..., Fault], list[tuple[str, int]]]] = {
 
 
 def read_fault(line: str) -> Fault:
-    """The event of a fault line, with whatever blanks. Raises ValueError where the line is none."""
+    """The event of a fault line, with whatever blanks. Raises ValueError where the line is none.
+
+    >>> from lvdc import read_fault
+    >>> read_fault("LAG 5 1 0 3")
+    Lag(module=5, copy=1, first=0, last=3)
+    """
     word, *fields = tokens(line) or [""]
     if word not in _FORMS or len(fields) != len(_FORMS[word][1]):
         raise ValueError(f"{line!r} is no fault line")

@@ -39,20 +39,20 @@ def share(findings: AnyFindings | Mapping[str, AnyFindings], by: str = "distance
     'step'
     """
     labelled: Mapping[str, AnyFindings] = {"": findings} if isinstance(findings, Findings) else findings
-    axes = _axes(ax)
+    drawn = _axes(ax)
     for label, found in labelled.items():
         shares = found.shares(by, of)
         values = list(shares)
-        lines = axes.plot(values, [it.share for it in shares.values()], marker="o", markersize=3, label=label)
+        lines = drawn.plot(values, [it.share for it in shares.values()], marker="o", markersize=3, label=label)
         if not found.is_census:
-            axes.fill_between(values, [it.low for it in shares.values()], [it.high for it in shares.values()], alpha=0.2,
+            drawn.fill_between(values, [it.low for it in shares.values()], [it.high for it in shares.values()], alpha=0.2,
                               color=lines[0].get_color())
     holds = what or WHAT.get(of) or getattr(of, "__name__", "of which it holds")
-    axes.set(xlabel=by, ylabel=f"share of runs that {holds}", ylim=(-0.02, 1.02))
-    axes.set_title(_drawn([it for found in labelled.values() for it in found.populations]), fontsize="small")
+    drawn.set(xlabel=by, ylabel=f"share of runs that {holds}", ylim=(-0.02, 1.02))
+    drawn.set_title(_drawn([it for found in labelled.values() for it in found.populations]), fontsize="small")
     if any(labelled):
-        axes.legend(loc="center right")
-    return _figure(axes)
+        drawn.legend(loc="center right")
+    return _figure(drawn)
 
 
 def failures(findings: AnyFindings, by: str | None = "kind", *, ax: "Axes | None" = None) -> "Figure":
@@ -72,20 +72,20 @@ def failures(findings: AnyFindings, by: str | None = "kind", *, ax: "Axes | None
         if not isinstance(row.verdict, Admissible):
             where = NAMES[row.verdict.module] if isinstance(row.verdict, Logic) else MEMORY
             counts[where, _part(row, by)] += 1
-    axes = _axes(ax)
+    drawn = _axes(ax)
     places = [*(NAMES[it] for it in MODULES), MEMORY]
     below = [0] * len(places)
     for part in sorted({it for _, it in counts}):
         heights = [counts[place, part] for place in places]
-        axes.bar(places, heights, bottom=below, label=part)
+        drawn.bar(places, heights, bottom=below, label=part)
         below = [low + height for low, height in zip(below, heights)]
-    axes.set(ylabel="inadmissible runs")
-    axes.set_title(_drawn(findings.populations), fontsize="small")
-    axes.tick_params(axis="x", rotation=30)
+    drawn.set(ylabel="inadmissible runs")
+    drawn.set_title(_drawn(findings.populations), fontsize="small")
+    drawn.tick_params(axis="x", rotation=30)
     if counts:
-        axes.set_ylim(0, 1.05 * max(below))
-        axes.legend()
-    return _figure(axes)
+        drawn.set_ylim(0, 1.05 * max(below))
+        drawn.legend()
+    return _figure(drawn)
 
 
 def propagation(wrong: Trace, right: Trace, *, ax: "Axes | None" = None) -> "Figure":
@@ -98,7 +98,7 @@ def propagation(wrong: Trace, right: Trace, *, ax: "Axes | None" = None) -> "Fig
     >>> lvdc.plots.propagation(lvdc.trace(hurt, through=True), lvdc.trace(deck)).axes[0].get_xlabel()
     'step'
     """
-    axes = _axes(ax)
+    drawn = _axes(ax)
     differences = list(wrong.diff(right))
     words = sorted({at for it in differences for at in it.words})
     rows = [f"{NAMES[module]} {copy}" for module in MODULES for copy in COPIES if any((module, copy) in it.differing for it in wrong)]
@@ -108,19 +108,19 @@ def propagation(wrong: Trace, right: Trace, *, ax: "Axes | None" = None) -> "Fig
              "words that differ": [(it.number, rows.index(f"word {at}")) for it in differences for at in it.words]}
     for (label, places), color in zip(marks.items(), ("tab:orange", "tab:red", "tab:purple")):
         if places:
-            axes.scatter([step for step, _ in places], [row for _, row in places], marker="s", s=40, label=label, color=color)
+            drawn.scatter([step for step, _ in places], [row for _, row in places], marker="s", s=40, label=label, color=color)
     numbers = [it.number for it in wrong]
     if numbers:
-        axes.set_xlim(numbers[0] - 0.7, numbers[-1] + 0.7)
+        drawn.set_xlim(numbers[0] - 0.7, numbers[-1] + 0.7)
     if len(numbers) <= MOST_TICKS:
-        axes.set_xticks(numbers)
-    axes.set_yticks(range(len(rows)), rows)
-    axes.set_ylim(len(rows) - 0.5, -0.5)
-    axes.set(xlabel="step")
-    axes.grid(axis="x", alpha=0.2)
+        drawn.set_xticks(numbers)
+    drawn.set_yticks(range(len(rows)), rows)
+    drawn.set_ylim(len(rows) - 0.5, -0.5)
+    drawn.set(xlabel="step")
+    drawn.grid(axis="x", alpha=0.2)
     if rows:
-        axes.legend(loc="upper left", bbox_to_anchor=(1.0, 1.0))
-    return _figure(axes)
+        drawn.legend(loc="upper left", bbox_to_anchor=(1.0, 1.0))
+    return _figure(drawn)
 
 
 def _part(row: Row, by: str | None) -> str:
@@ -135,10 +135,13 @@ def _drawn(populations: Sequence[Population]) -> str:
     return "\n".join(f"each run: {it}, drawn evenly" for it in dict.fromkeys(it.each for it in populations))
 
 
-def _axes(ax: "Axes | None") -> "Axes":
-    """The axes that are there, or those of a new figure, which needs no screen and shows itself in a notebook."""
-    if ax is not None:
-        return ax
+def axes() -> "Axes":
+    """Axes of a new figure, for a picture of one's own: `axes().figure` needs no screen, and is shown where it is a cell's last line.
+
+    >>> import lvdc
+    >>> lvdc.plots.axes().figure.get_size_inches().tolist()
+    [7.0, 4.0]
+    """
     try:
         figure: Any = importlib.import_module("matplotlib.figure").Figure
     except ImportError as error:
@@ -147,9 +150,14 @@ def _axes(ax: "Axes | None") -> "Axes":
     return found
 
 
-def _figure(axes: "Axes") -> "Figure":
+def _axes(ax: "Axes | None") -> "Axes":
+    """The axes that are there, or new ones."""
+    return axes() if ax is None else ax
+
+
+def _figure(drawn: "Axes") -> "Figure":
     """The figure of axes."""
-    found: Any = axes.figure
+    found: Any = drawn.figure
     figure: Figure = found
     return figure
 
