@@ -49,7 +49,7 @@ def metadata(named: str, tag: str) -> Parts:
             + (HERE / "README.md").read_text(encoding="utf-8"))
     wheel = f"Wheel-Version: 1.0\nGenerator: lvdc\nRoot-Is-Purelib: {'true' if tag == WITHOUT else 'false'}\nTag: {tag}\n"
     return {f"{folder}/METADATA": (text.encode(), 0o644), f"{folder}/WHEEL": (wheel.encode(), 0o644),
-            f"{folder}/entry_points.txt": (b"[console_scripts]\nlvdb = lvdc.lvdb.main:main\n", 0o644)}
+            f"{folder}/entry_points.txt": (b"[console_scripts]\nlvdb = lvdc.lvdb.main:main\nlvdc-check = lvdc.check.main:main\n", 0o644)}
 
 
 def write(folder: pathlib.Path, named: str, tag: str, parts: Parts) -> str:

@@ -69,5 +69,6 @@ def program(tmp_path: Path, monkeypatch: pytest.MonkeyPatch) -> Path:
 
 
 def pytest_addoption(parser: pytest.Parser) -> None:
-    """How many random sequences of commands lvdb is given."""
+    """How many random sequences of commands lvdb is given, and for how many seconds of a processor random input."""
+    parser.addoption("--seconds", default="3", help="how long lvdb is given random input")
     parser.addoption("--sequences", default="60", help="how many sequences of commands lvdb is given")

@@ -46,7 +46,7 @@ def told(console: Console, *lines: str) -> str:
 def all_of(console: Console) -> tuple[object, ...]:
     """What a command may change."""
     debugger = console.debugger
-    return debugger.position, debugger.is_through, debugger.injected, dict(debugger.breakpoints), dict(console.displays)
+    return debugger.position, debugger.is_through, debugger.injected, debugger.breakpoints.values(), dict(console.displays)
 
 
 # A line with wrong arguments of each command, and a part of what is right.
@@ -56,7 +56,8 @@ WRONG = [
     ("finish", "no HOP has called"), ("back x", "usage: back [N]"), ("back", "nothing to go back to"), ("reverse-continue", "nothing to go back to"),
     ("reverse-continue 3", "usage: reverse-continue"), ("goto", "usage: goto TIME [A|B|C]"), ("goto -1", "is no time"), ("goto 3 D", "is no time"),
     ("goto 010", "is no time"), ("break LIST", "is a word and no line of code"), ("break 9999", "no line from 9999 on"),
-    ("break 9,00,0,000", "is no place"), ("break 0,77,0,000", "in octal"), ("tbreak NOBODY", "is no place"), ("watch", "usage: watch NAME|ADDRESS"),
+    ("break 9,00,0,000", "is no place"), ("break 0,77,0,000", "in octal"), ("tbreak NOBODY", "is no place"),
+    ("watch", "usage: watch WORD|A|PQ|SAVER"),
     ("watch NOBODY", "is no word"), ("watch 0,01", "is no word"), ("delete 7", "there is no breakpoint 7"), ("delete x", "usage: delete"),
     ("info", "say of what"), ("info c", "may be copies, calls"), ("info weather", "registers|breakpoints|copies"), ("copies 5", "usage: copies"),
     ("faults 1", "usage: faults"), ("backtrace 1", "usage: backtrace"), ("print", "the expression is missing"), ("print /z LIST", "is no format"),
@@ -76,10 +77,23 @@ WRONG = [
     ("undo", "nothing was put in"), ("undo 1", "usage: undo"), ("judge now", "usage: judge"), ("through 1", "usage: through"),
     ("guarded 1", "usage: guarded"), ("save", "the name of a file"), ("save /nowhere/at/all", "can't be written"),
     ("help fly", "there is no command"),
-    ("quit now", "usage: quit"), ("fly", "there is no command 'fly'"), ("f", "may be finish, faults"), ("u1", "there is no command")]
+    ("quit now", "usage: quit"), ("fly", "there is no command 'fly'"), ("f", "may be faults, finish"), ("u1", "there is no command"),
+    ("run 1", "usage: run"), ("next x", "usage: next [N]"), ("reload now", "usage: reload"),
+    ("print LIST + 1", "LIST+1 is the word so many locations behind LIST, (LIST) + 1 the word at LIST and 1 more"),
+    ("print " + "(" * 150 + "1" + ")" * 150, "at most 32 parentheses"), ("print =D99999999999999", "is no expression"),
+    ("print " + "~" * 2000, "1000 characters"),
+    ("break LIST if 1", "is a word"), ("break if", "a part is missing"), ("break LESS if 1 +", "a part is missing"),
+    ("tbreak if NOBODY", "is no word"),
+    ("watch if 1", "usage: watch"), ("rwatch", "usage: rwatch"), ("awatch NOBODY", "is no word"), ("rwatch PQ", "`watch PQ` stops where it changes"),
+    ("catch flies", "usage: catch [KIND ..]"), ("condition", "the number is missing"), ("condition 3 1", "there is no breakpoint 3"),
+    ("ignore 3", "there is no breakpoint 3"), ("last", "usage: last WORD"), ("last NOBODY", "is no word"), ("writes", "usage: writes"),
+    ("reads", "usage: reads"), ("reads A", "`writes A` shows its changes"), ("mistakes of mine", "usage: mistakes"), ("diff 1", "usage: diff"),
+    ("diff", "has no fault"), ("why not", "usage: why"), ("why", "hasn't ended"), ("macro x", "usage: macro"), ("macro", "no line that calls"),
+    ("x/0cells LIST", "is no format"), ("disassemble/q", "is no format"), ("disassemble/s LESS", "nothing stands behind"),
+    ("damage LIST 0 1 2", "usage: damage"), ("step " + "1" * 1000, "a line has at most 1000 characters")]
 
 
-@pytest.mark.parametrize("line, right", WRONG, ids=[line.replace("/", "_") for line, _ in WRONG])
+@pytest.mark.parametrize("line, right", WRONG, ids=[line.replace("/", "_")[:40] for line, _ in WRONG])
 def test_wrong_arguments_are_told_what_is_right(sort: Console, line: str, right: str) -> None:
     before = all_of(sort)
     with pytest.raises(CommandError) as caught:
@@ -104,7 +118,8 @@ def test_what_is_wrong_at_the_end_changes_nothing(sum_: Console) -> None:
 def test_short_forms_and_beginnings_are_the_commands() -> None:
     names = {"s": "step", "c": "continue", "b": "break", "tb": "tbreak", "d": "delete", "p": "print", "i": "info", "x": "x", "l": "list",
              "u": "until", "fin": "finish", "rc": "reverse-continue", "rs": "back", "bt": "backtrace", "h": "help", "q": "quit",
-             "disas": "disassemble", "unti": "until", "cont": "continue", "wat": "watch", "n": "step", "si": "phase", "undi": "undisplay"}
+             "disas": "disassemble", "unti": "until", "cont": "continue", "wat": "watch", "n": "next", "r": "run", "la": "last", "mi": "mistakes",
+             "si": "phase", "undi": "undisplay"}
     for short, name in names.items():
         assert find(short).name == name
     shorts = [it for command in COMMANDS.values() for it in (command.name, *command.shorts)]
@@ -126,19 +141,19 @@ def test_within_a_time_the_fetch_is_shown_too(sum_: Console) -> None:
 
 
 def test_an_instruction_that_the_program_has_changed_is_shown_beside_its_line(sort: Console) -> None:
-    assert "memory has CLA 063 here now" in told(sort, "tbreak GET1", "continue", "step", "until GET1")
+    assert "memory has CLA LIST+1 here now, written at time 30 by line 31: STO GET1" in told(sort, "tbreak GET1", "continue", "step", "until GET1")
 
 
 def test_words_are_printed_in_all_forms(sort: Console) -> None:
     assert told(sort, "print LIST") == "LIST = 000000003  3  0.00000009"
     assert told(sort, "print/d LIST+1") == "LIST+1 = -33554432"
     assert told(sort, "p/f LIST+1") == "LIST+1 = -1.00000000"
-    assert told(sort, "print LIST + 1") == "LIST + 1 = 000000004  4  0.00000012"
-    assert told(sort, "print GET1").split("\n")[1] == "  the instruction there is CLA 062"
+    assert told(sort, "print (LIST) + 1") == "(LIST) + 1 = 000000004  4  0.00000012"
+    assert told(sort, "print GET1").split("\n")[1] == "  the instruction there is CLA LIST"
     assert told(sort, "print 0 01 062") == "0 01 062 = 000000003  3  0.00000009"
     assert told(sort, "x/2o LIST") == "0 01 062  LIST       000000003\n0 01 063  LIST+1     200000000"
     assert told(sort, "x/1h 0,01,073").endswith("000000016  to 0 00 0 000, data 0 01")
-    assert told(sort, "x/2i GET1").split("\n")[0].split() == ["0", "01", "0", "014", "17062", "CLA", "062", "GET1"]
+    assert told(sort, "x/2i GET1").split("\n")[0].split()[:8] == ["0", "01", "0", "014", "17062", "CLA", "LIST", "GET1"]
 
 
 @pytest.mark.parametrize("text, value", [
@@ -152,7 +167,8 @@ def test_lists_and_disassemblies_mark_the_place(sort: Console) -> None:
     assert told(sort, "list").split("\n")[5] == "    6=>BEGIN   CLA   =D-7"
     assert told(sort, "list").split("\n")[0].startswith("   11  ")
     assert told(sort, "list LESS").split("\n")[5].startswith("   56  LESS    STO   776")
-    assert told(sort, "disassemble BEGIN 2").split("\n") == ["=> 0 01 0 000  17072 CLA 072  BEGIN", "   0 01 0 001  13060 STO 060  BEGIN+1"]
+    assert told(sort, "disassemble BEGIN 2").split("\n") == ["=> 0 01 0 000  17072  CLA =D-7           BEGIN          6  BEGIN   CLA   =D-7",
+                                                            "   0 01 0 001  13060  STO PASSES         BEGIN+1        7          STO   PASSES"]
     assert len(told(sort, "disassemble LESS").split("\n")) == 8
 
 
@@ -238,7 +254,7 @@ def test_what_is_asked_of_all_is_shown(sum_: Console, sort: Console) -> None:
     assert told(sum_, "info calls") == "#0  0 00 0 000"
     assert "of them code of the source" in told(sort, "info memory")
     assert all(it in told(sort, "help") for it in COMMANDS)
-    assert told(sort, "help st") == "step [N]\n  makes N instruction times, or one; short s, next, n"
+    assert told(sort, "help st") == "step [N]\n  makes N instruction times, or one; short s"
 
 
 def test_words_are_completed(sort: Console) -> None:
@@ -259,8 +275,10 @@ def test_an_image_and_a_deck_with_macros_are_loaded(worker: Worker, tmp_path: Pa
     deck = tmp_path / "macros.deck"
     deck.write_text("SOURCE\n" + (TOP / "examples" / "five-threes.macros").read_text() + "RUN 100\n")
     program = load(deck, Options(), worker)
-    assert program.is_written_out and program.deck.count == 100
-    assert "".join(f"{it}\n" for it in program.lines) == (TOP / "examples" / "five-threes.expansion").read_text()
+    assert program.has_macros and program.deck.count == 100
+    assert "".join(f"{it}\n" for it in program.lines) == deck.read_text()
+    written = [program.line_at(program.number_of(it)) for it in program.rows.values() if program.is_written_out(it)]
+    assert written == ["        TIMES N,X,SUM"] * 8
 
 
 def test_a_refusal_of_a_source_with_macros_names_its_own_line(worker: Worker, tmp_path: Path) -> None:

@@ -1,4 +1,5 @@
 """A client of the Debug Adapter Protocol goes through whole sessions with lvdb."""
+import base64
 from collections.abc import Iterator
 from pathlib import Path
 
@@ -57,8 +58,8 @@ def test_a_session_from_initialize_to_disconnect(client: Client) -> None:
     client.ask("stepBack", threadId=1)
     client.event("stopped")
     assert client.variables(scopes["Registers"])["TIME"] == f"{time - 1}, phase A"
-    for command in ("next", "stepIn"):
-        client.ask(command, threadId=1)
+    for _ in range(2):
+        client.ask("stepIn", threadId=1)
         client.event("stopped")
     assert frames(client)[0] == ("LESS+1", less + 1)
     client.ask("stepOut", threadId=1)
@@ -103,7 +104,7 @@ def test_words_and_names_are_watched(client: Client) -> None:
     launched(client, SORT, [])
     client.event("stopped")
     found = client.ask("dataBreakpointInfo", name="OTHER")
-    assert found["accessTypes"] == ["write"] and client.ask("dataBreakpointInfo", name="NOBODY")["dataId"] is None
+    assert found["accessTypes"] == ["write", "read", "readWrite"] and client.ask("dataBreakpointInfo", name="NOBODY")["dataId"] is None
     client.ask("setDataBreakpoints", breakpoints=[{"dataId": found["dataId"]}])
     client.ask("continue", threadId=1)
     assert client.event("stopped")["reason"] == "data breakpoint"
@@ -115,19 +116,92 @@ def test_words_and_names_are_watched(client: Client) -> None:
     assert frames(client)[0][0] == "STOP"
 
 
-def test_a_source_with_macros_is_shown_as_it_is_written_out(client: Client) -> None:
-    assert not launched(client, FIVE_THREES, [5], times=200)[0]["verified"]
+def test_a_source_with_macros_has_its_own_lines(client: Client) -> None:
+    found = launched(client, FIVE_THREES, [18, 19], times=200)
+    assert [it["line"] for it in found] == [18, 19]
     client.event("stopped")
     frame = client.ask("stackTrace", threadId=1)["stackFrames"][0]
-    assert frame["line"] == 5 and "path" not in frame["source"]
-    shown = client.ask("source", sourceReference=frame["source"]["sourceReference"])["content"]
-    assert shown == (TOP / "examples" / "five-threes.expansion").read_text()
-    found = client.ask("setBreakpoints", source=frame["source"], breakpoints=[{"line": 13}])["breakpoints"]
-    assert found == [{"id": 1, "verified": True, "line": 13}]
+    assert frame["line"] == 18 and frame["source"]["path"] == FIVE_THREES
     assert not client.ask("setBreakpoints", source={"path": "/another.source"}, breakpoints=[{"line": 1}])["breakpoints"][0]["verified"]
+    client.ask("setBreakpoints", source={"path": FIVE_THREES}, breakpoints=[{"line": 19}])
     client.ask("continue", threadId=1)
     assert client.event("stopped")["reason"] == "breakpoint"
-    assert frames(client)[0] == ("STOP", 13)
+    assert frames(client)[0] == ("STOP", 19)
+
+
+def test_breakpoints_have_conditions_and_counts(client: Client) -> None:
+    launched(client, SORT, [])
+    client.event("stopped")
+    asked = [{"name": "LESS", "condition": "(ONE < 0) & (OTHER > 0)"},
+             {"name": "STOP", "condition": "1 +"}, {"name": "CHANGE", "hitCondition": "many"}]
+    found = client.ask("setFunctionBreakpoints", breakpoints=asked)["breakpoints"]
+    assert [it["verified"] for it in found] == [True, False, False] and "a part is missing" in found[1]["message"]
+    client.ask("continue", threadId=1)
+    client.event("stopped")
+    memory = client.variables(2)
+    assert frames(client)[0][0] == "LESS" and int(memory["ONE"].split()[1]) < 0 < int(memory["OTHER"].split()[1])
+    client.ask("setFunctionBreakpoints", breakpoints=[{"name": "PASS", "hitCondition": "3"}])
+    client.ask("reverseContinue", threadId=1)
+    client.event("stopped")
+    client.ask("evaluate", expression="goto 0", context="repl")
+    client.event("stopped")
+    client.ask("continue", threadId=1)
+    client.event("stopped")
+    assert client.variables(2)["PASSES"].split()[1] == "-5"
+
+
+def test_tables_open_and_memory_is_octal_words(client: Client) -> None:
+    launched(client, SORT, [])
+    client.event("stopped")
+    table = next(it for it in client.ask("variables", variablesReference=2)["variables"] if it["name"] == "LIST")
+    assert table["value"].startswith("8 words: 000000003")
+    words = client.variables(table["variablesReference"])
+    assert list(words)[:2] == ["LIST", "LIST+1"] and words["LIST+1"].split()[1] == "-33554432" and len(words) == 8
+    read = client.ask("readMemory", memoryReference=table["memoryReference"], count=20)
+    assert base64.b64decode(read["data"]) == b"000000003 200000000 " and read["unreadableBytes"] == 0
+    part = client.ask("readMemory", memoryReference=read["address"], offset=11, count=5)
+    assert base64.b64decode(part["data"]) == b"00000"
+    frame = client.ask("stackTrace", threadId=1)["stackFrames"][0]
+    rows = client.ask("disassemble", memoryReference=frame["instructionPointerReference"], instructionOffset=-1, instructionCount=3)["instructions"]
+    assert [it["instruction"] for it in rows] == ["HOP BEGIN", "CLA =D-7", "STO PASSES"]
+    assert rows[1]["address"] == frame["instructionPointerReference"] and rows[2]["line"] == 7 and rows[1]["symbol"] == "BEGIN"
+
+
+def test_the_console_completes_and_what_it_changes_is_told(client: Client) -> None:
+    client.ask("initialize", adapterID="lvdb", supportsInvalidatedEvent=True)
+    launched(client, SORT, [])
+    client.event("stopped")
+    assert client.ask("completions", text="unt", column=4)["targets"] == [{"label": "until", "start": 0, "length": 3}]
+    assert [it["label"] for it in client.ask("completions", text="break GE", column=9)["targets"]] == ["GET1", "GET2"]
+    client.ask("evaluate", expression="hurt 5 2 for 3 flip 1", context="repl")
+    assert client.event("invalidated")["areas"] == ["all"]
+    client.ask("evaluate", expression="undo", context="repl")
+    assert client.event("invalidated")["areas"] == ["all"]
+
+
+def test_a_mistake_is_an_exception(client: Client) -> None:
+    filters = client.ask("initialize", adapterID="lvdb")["exceptionBreakpointFilters"]
+    assert "early" in [it["filter"] for it in filters]
+    launched(client, str(TOP / "examples" / "multiply.deck"), [])
+    client.event("stopped")
+    client.ask("setExceptionBreakpoints", filters=["early"])
+    client.ask("continue", threadId=1)
+    stopped = client.event("stopped")
+    assert stopped["reason"] == "exception" and "reads PQ" in stopped["description"]
+
+
+def test_arguments_of_another_form_are_answered(client: Client) -> None:
+    launched(client, SORT, [])
+    client.event("stopped")
+    asked: list[tuple[str, dict[str, object]]] = [
+        ("variables", {"variablesReference": -1}), ("variables", {"variablesReference": 999}), ("variables", {"variablesReference": float("inf")}),
+        ("setBreakpoints", {"source": [1], "breakpoints": [1]}), ("setFunctionBreakpoints", {"breakpoints": [[]]}),
+        ("disassemble", {"memoryReference": 5}), ("readMemory", {"memoryReference": "0x0", "offset": -1, "count": 10**9}),
+        ("completions", {"text": [], "column": "x"}), ("evaluate", {"expression": "(" * 900}),
+        ("setDataBreakpoints", {"breakpoints": [{"dataId": ""}]})]
+    for name, arguments in asked:
+        assert isinstance(client.response(client.send(name, **arguments))["success"], bool)
+    assert client.ask("threads")["threads"]
 
 
 def test_a_launch_says_tapes_times_and_mode(client: Client, tmp_path: Path) -> None:
@@ -143,7 +217,8 @@ def test_a_launch_says_tapes_times_and_mode(client: Client, tmp_path: Path) -> N
 
 
 @pytest.mark.parametrize("garbage", [b"GET / HTTP/1.1\r\n\r\n", b"Content-Length: 3\r\n\r\n{]}", b"Content-Length: 2\r\n\r\n[]",
-                                     b"Content-Length: 99\r\n\r\n{}"])
+                                     b"Content-Length: 99\r\n\r\n{}", b"Content-Length: 999999999\r\n\r\n{}",
+                                     b"Content-Length: 200000\r\n\r\n" + b"[" * 200_000], ids=range(6))
 def test_what_is_no_message_ends_the_session(client: Client, garbage: bytes) -> None:
     assert client.process.stdin is not None
     client.process.stdin.write(garbage)

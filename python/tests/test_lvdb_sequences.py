@@ -142,7 +142,7 @@ class Sitting:
         assert debugger.position == at, typed
         assert dict(debugger.state.votes) == self.model.votes[at], typed
         assert dict(debugger.state.differing) == dict(self.model.differing(at)), typed
-        assert {number: it.at for number, it in debugger.breakpoints.items()} == self.breaks, typed
+        assert {it.number: it.at for it in debugger.breakpoints.values()} == self.breaks, typed
         assert (debugger.end is not None) == (at == self.model.end), typed
         assert str(debugger.end) == (str(self.model.trace.end) if at == self.model.end else "None"), typed
         address = self.draw.choice(self.addresses)

@@ -155,8 +155,8 @@ def test_a_tape_is_supplied_by_the_command_line(worker: Worker, tmp_path: Path) 
 
 
 def test_a_source_with_macros_says_whose_lines_are_shown(worker: Worker) -> None:
-    _, told, _ = script("list 1\n", "examples/five-threes.macros")
-    assert "lines are those of its expansion" in told and "L001     CLA   N" in told
+    _, told, _ = script("list\nmacro 18\n", "examples/five-threes.macros")
+    assert "The source has macros" in told and "   18=>        TIMES N,X,SUM" in told and "L001     CLA   N" in told
 
 
 @pytest.mark.parametrize("words, sentence", [
@@ -167,3 +167,25 @@ def test_a_source_with_macros_says_whose_lines_are_shown(worker: Worker) -> None
 def test_a_file_that_cant_be_debugged_is_refused(worker: Worker, words: list[str], sentence: str) -> None:
     status, told, errors = script("", *words)
     assert (status, told) == (1, "") and sentence in errors
+
+
+@pytest.mark.parametrize("words, redirected", [
+    *(("examples/sum-that-wraps.deck", it) for it in [">/dev/full", ">&-", "<&-", "2>&-", ">&- 2>&- <&-", "2>/dev/full", ">/dev/full 2>/dev/full"]),
+    ("--dap", ">/dev/full"), ("--dap", "<&- >&-"), ("/nowhere/at.all", "2>/dev/full")])
+def test_streams_that_are_full_or_closed_end_without_a_traceback(worker: Worker, words: str, redirected: str) -> None:
+    line = f"printf 'step\\nfly\\n' | {sys.executable} -m lvdc.lvdb {words} {redirected}"
+    found = subprocess.run(["bash", "-c", line], capture_output=True, text=True, cwd=TOP, timeout=60, check=False,
+                           env={**os.environ, "PYTHONPATH": str(SOURCES), "PYTHONDONTWRITEBYTECODE": "1"})
+    assert "Traceback" not in found.stderr and "Exception ignored" not in found.stderr
+    assert found.returncode in (0, 1)
+
+
+def test_what_is_too_long_is_refused_before_it_is_read(worker: Worker, tmp_path: Path) -> None:
+    large = tmp_path / "large.deck"
+    with large.open("wb") as file:
+        file.truncate(300_000_000)
+    status, told, errors = script("", str(large))
+    assert (status, told) == (1, "") and "more than 1048576 bytes" in errors
+    assert script("", "/dev/zero")[2] == errors.replace(str(large), "/dev/zero")
+    status, _, errors = script("print " + "1" * 3_000_000 + "\nstep\n", "examples/sum-that-wraps.deck")
+    assert status == 1 and errors == "a line has at most 1000 characters\n"

@@ -1,16 +1,20 @@
 """Calls of subroutines, as far as the HOP saver tells: each HOP loads it with the way back, and a HOP that goes to the way back of a call
 ends that call and those inside of it."""
-from collections.abc import Iterator
+from collections.abc import Collection, Iterator
 from dataclasses import dataclass
 
+from lvdc.lvdb.made import HOP, OF_SAVER, STO, made_between
 from lvdc.lvdb.places import place_of
 from lvdc.lvdb.replays import LONG, SHORT, Replay
+from lvdc.lvdb.searches import Arrivals, onward_to
+from lvdc.lvdb.states import INSTR
 from lvdc.lvdb.windows import Window
 from lvdc.values import STEPS_A_TIME, Place
 
 _MOST_CALLS = 64
 _PLACE, _INSTRUCTION, _HOP = "\nVOTE 2 ", "\nVOTE 3 ", "\nVOTE 3 000000"
 _GROWTH = 8
+_BITS_OF_ADDRESS, _CODES = 9, 15
 
 
 @dataclass(frozen=True, slots=True)
@@ -78,3 +82,26 @@ def _make(calls: list[Call], time: int, caller: Place, entry: Place, back: Place
             return
     calls.append(Call(time, caller, entry, back))
     del calls[:-_MOST_CALLS]
+
+
+def came_by_hop(replay: Replay, position: int) -> bool:
+    """Whether the instruction that was made last is a HOP."""
+    return int(replay.state(position).latch(INSTR)) >> _BITS_OF_ADDRESS & _CODES == HOP
+
+
+def returned(replay: Replay, time: int, simplex: Collection[int]) -> int | None:
+    """Where the subroutine that an instruction calls has returned, as a position; None where it calls none, or that doesn't return.
+
+    A HOP that isn't a return is a call, and a transfer is one where the instruction that it goes to keeps the way back."""
+    made = list(made_between(replay, time, time + 2))
+    if not made or not made[0].is_transfer:
+        return None
+    back = place_of(made[0].after.saver, simplex)
+    if made[0].code == HOP:
+        entry = place_of(made[0].after.place, simplex)
+        is_call = all(it.back != entry for it in stack_at(replay, STEPS_A_TIME * time).calls)
+    else:
+        is_call = len(made) == 2 and made[1].code == STO and made[1].bits in OF_SAVER
+    if not is_call:
+        return None
+    return onward_to(replay, STEPS_A_TIME * (time + 1), Arrivals.at(frozenset([back]), replay), lambda it: came_by_hop(replay, it))

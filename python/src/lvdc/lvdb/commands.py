@@ -2,15 +2,17 @@
 from collections.abc import Iterator
 from pathlib import Path
 
-from lvdc.lvdb import moving, stopping, looking, hurting
+from lvdc.lvdb import asking, hurting, looking, moving, stopping
 from lvdc.lvdb.console import Console, Leave
 from lvdc.lvdb.errors import CommandError
 from lvdc.lvdb.registry import COMMANDS, Told, carry_out, command, find, split, want_nothing
 
 __all__ = ["COMMANDS", "GROUPS", "carry_out", "find", "split"]
 
-# What these modules define is added to the commands where they are imported.
-GROUPS = (moving, stopping, looking, hurting)
+# What these modules define is added to the commands where they are imported; `help` shows them in this order.
+GROUPS = (moving, stopping, looking, asking, hurting)
+
+_WIDTH = 34
 
 
 @command("", "isn't there, since the machine's state comes from its deck alone")
@@ -28,8 +30,9 @@ def save(console: Console, words: list[str]) -> Iterator[str]:
     try:
         with Path(words[0]).open("xb") as file:
             file.write(str(console.debugger.deck).encode("utf-8", "surrogateescape"))
-    except OSError as error:
-        raise CommandError(f"{words[0]} can't be written: {error.strerror}; name another file") from error
+    except (OSError, ValueError) as error:
+        told = error.strerror if isinstance(error, OSError) else error
+        raise CommandError(f"{words[0]} can't be written: {told}; name another file") from error
     yield f"{words[0]} is the deck with {len(console.debugger.deck.faults)} fault lines"
 
 
@@ -41,8 +44,13 @@ def help_(console: Console, words: list[str]) -> Iterator[str]:
         yield f"{found.name} {found.usage}".strip()
         yield f"  {found.help}" + (f"; short {', '.join(found.shorts)}" if found.shorts else "")
         return
-    for it in COMMANDS.values():
-        yield f"  {f'{it.name} {it.usage}'.strip()[:40]:40} {it.help.split(';')[0].split(':')[0]}"
+    names = [it.__name__ for it in GROUPS]
+    for it in sorted(COMMANDS.values(), key=lambda it: names.index(it.run.__module__) if it.run.__module__ in names else len(names)):
+        called = f"{it.name} {it.usage}".strip()
+        if len(called) > _WIDTH:
+            yield f"  {called}"
+            called = ""
+        yield f"  {called:{_WIDTH}} {it.help.split(';')[0].split(':')[0]}"
     yield "A beginning of a name is enough where no other has it. Words and addresses are octal, times, counts and lines decimal."
 
 

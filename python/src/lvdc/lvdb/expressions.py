@@ -4,16 +4,20 @@ from collections.abc import Callable
 from dataclasses import dataclass
 
 from lvdc.lvdb.errors import CommandError
+from lvdc.limits import MOST_CHARACTERS
 from lvdc.lvdb.program import Program
 from lvdc.lvdb.states import A, DATA, PLACE, PQ, SAVER
 from lvdc.values import Address, Word
 
 REGISTERS = {"A": A, "PQ": PQ, "SAVER": SAVER, "PLACE": PLACE, "DATA": DATA}
-FORMS = ("a name, name+3, an address as 0,01,002, a register as $A, an octal number, =D-7, or these with + - * & | ^ ~ and parentheses, "
-         "blanks around + behind a name")
-_TOKEN = re.compile(r"\s*(?:(=[OD][+-]?[0-9]+)|\$([A-Z]+)|([0-7]+(?:,[0-7]+)+)|([A-Z][A-Z0-9]*(?:\+[0-9]+)?)|([0-7]+)(?![0-9,])|([-+*&|^~()]))")
+FORMS = ("a name, name+3, an address as 0,01,002, a register as $A, an octal number, =D-7, or these with + - * & | ^ ~, compared by "
+         "== != < <= > >=, and parentheses")
+_MOST_DEEP = 32
+_TOKEN = re.compile(r"\s*(?:(=[OD][+-]?[0-9]{1,12})(?![0-9])|\$([A-Z]+)|([0-7]+(?:,[0-7]+)+)|([A-Z][A-Z0-9]*(?:\+[0-9]+)?)|([0-7]+)(?![0-9,])"
+                    r"|([=!<>]=|[-+*&|^~()<>]))")
 _KINDS = ["literal", "register", "address", "name", "number", "sign"]
-_LEVELS = ["|", "^", "&", "+-", "*"]
+# the signs of two sides, those that bind least first
+_LEVELS: list[list[str]] = [["|"], ["^"], ["&"], ["==", "!=", "<", "<=", ">", ">="], ["+", "-"], ["*"]]
 _MODULUS = 1 << Word.BITS
 
 Token = tuple[str, str]
@@ -31,7 +35,9 @@ class Words:
 
 def evaluate(text: str, words: Words) -> Word | None:
     """The word that an expression comes to; None where a word in it can't be recovered."""
-    reader = _Reader(_tokens(text), words)
+    tokens = _tokens(text)
+    _refuse_two_readings(tokens, words.program)
+    reader = _Reader(tokens, words)
     value = reader.binary(0)
     if reader.peek() != ("", ""):
         raise _refusal(text)
@@ -50,6 +56,8 @@ def _refusal(text: str) -> CommandError:
 
 def _tokens(text: str) -> list[Token]:
     """The parts of an expression."""
+    if len(text) > MOST_CHARACTERS:
+        raise CommandError(f"an expression has at most {MOST_CHARACTERS} characters")
     found: list[Token] = []
     at = 0
     while text[at:].strip():
@@ -61,19 +69,30 @@ def _tokens(text: str) -> list[Token]:
     return found
 
 
+def _refuse_two_readings(tokens: list[Token], program: Program) -> None:
+    """`NAME + 1` might be the word one location behind NAME, or the word at NAME and 1 more: which, has to be said."""
+    for (kind, name), sign, number in zip(tokens, tokens[1:], tokens[2:]):
+        if kind == "name" and name in program.names and sign == ("sign", "+") and number[0] == "number":
+            raise CommandError(f"{name} + {number[1]} has two readings: {name}+{int(number[1], 8)} is the word so many locations behind {name}, "
+                               f"({name}) + {number[1]} the word at {name} and {number[1]} more")
+
+
 class _Reader:
     """Reads an expression by the levels of its signs; those of one level go from left to right."""
 
     def __init__(self, tokens: list[Token], words: Words) -> None:
         self._tokens, self._words = tokens, words
+        self._next = self._depth = 0
 
     def peek(self) -> Token:
         """The next part."""
-        return self._tokens[0] if self._tokens else ("", "")
+        return self._tokens[self._next] if self._next < len(self._tokens) else ("", "")
 
     def take(self) -> Token:
         """The next part, which is taken."""
-        return self._tokens.pop(0) if self._tokens else ("", "")
+        found = self.peek()
+        self._next += 1
+        return found
 
     def binary(self, level: int) -> Value:
         """A chain of parts with signs of a level or a higher one."""
@@ -87,18 +106,29 @@ class _Reader:
 
     def unary(self) -> Value:
         """A part with the signs before it."""
+        signs = []
+        while self.peek() in (("sign", "-"), ("sign", "~")):
+            signs.append(self.take()[1])
+        value = self.part()
+        for sign in reversed(signs):
+            value = None if value is None else -value if sign == "-" else ~value % _MODULUS
+        return value
+
+    def part(self) -> Value:
+        """A part without a sign before it, or an expression in parentheses."""
         kind, text = self.take()
         if kind != "sign":
             return self.atom(kind, text)
-        if text == "(":
-            value = self.binary(0)
-            if self.take() != ("sign", ")"):
-                raise CommandError("a closing parenthesis is missing")
-            return value
-        if text not in "-~":
+        if text != "(":
             raise CommandError(f"{text!r} has nothing before it: an expression is {FORMS}")
-        value = self.unary()
-        return None if value is None else -value if text == "-" else ~value % _MODULUS
+        self._depth += 1
+        if self._depth > _MOST_DEEP:
+            raise CommandError(f"an expression has at most {_MOST_DEEP} parentheses within each other")
+        value = self.binary(0)
+        if self.take() != ("sign", ")"):
+            raise CommandError("a closing parenthesis is missing")
+        self._depth -= 1
+        return value
 
     def atom(self, kind: str, text: str) -> Value:
         """A number, a register or a word."""
@@ -130,7 +160,7 @@ def _in_range(text: str, value: int, least: int) -> int:
 
 
 def _combined(sign: str, left: Value, right: Value) -> Value:
-    """What two words come to."""
+    """What two words come to; a comparison, which is one of signed numbers, to 1 or 0."""
     if left is None or right is None:
         return None
     match sign:
@@ -140,8 +170,11 @@ def _combined(sign: str, left: Value, right: Value) -> Value:
             return left - right
         case "*":
             return left * right
-    left, right = left % _MODULUS, right % _MODULUS
-    return left | right if sign == "|" else left ^ right if sign == "^" else left & right
+        case "|" | "^" | "&":
+            left, right = left % _MODULUS, right % _MODULUS
+            return left | right if sign == "|" else left ^ right if sign == "^" else left & right
+    one, other = (Word(it % _MODULUS).signed for it in (left, right))
+    return int({"==": one == other, "!=": one != other, "<": one < other, "<=": one <= other, ">": one > other, ">=": one >= other}[sign])
 
 
 def in_all_forms(word: Word | None) -> str:

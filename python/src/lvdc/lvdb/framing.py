@@ -7,7 +7,7 @@ from lvdc.errors import Error
 
 Message: TypeAlias = dict[str, Any]
 _LENGTH = re.compile(rb"Content-Length: *([0-9]{1,9})\r\n", re.IGNORECASE)
-_MOST_HEADERS = 32
+_MOST_HEADERS, _MOST_BYTES = 32, 1 << 24
 
 
 class Incoming(Protocol):
@@ -37,12 +37,14 @@ def read_message(stream: Incoming) -> Message | None:
         length = int(found[1]) if found is not None else length
     if length is None:
         raise BadMessage("a message begins with a line Content-Length")
-    text = b""
+    if length > _MOST_BYTES:
+        raise BadMessage(f"a message has at most {_MOST_BYTES} bytes")
+    text = bytearray()
     while len(text) < length and (more := stream.read(length - len(text))):
         text += more
     try:
         message = json.loads(text)
-    except ValueError as error:
+    except (ValueError, RecursionError) as error:
         raise BadMessage(f"the message is no JSON: {error}") from error
     if not isinstance(message, dict):
         raise BadMessage("the message is no object")

@@ -22,6 +22,8 @@ def _at_most(lines: list[str], what: str) -> Iterator[str]:
 def registers(console: Console) -> Iterator[str]:
     """All registers."""
     state = console.debugger.state
+    if state.pending is not None:
+        yield str(state.pending)
     for name, text in state.registers().items():
         word = f"  {Word.read(text).signed}" if name in ("A", "PQ") else ""
         where = f"  {console.debugger.program.label(state.place(console.debugger.program.simplex))}" if name == "PLACE" else ""
@@ -33,9 +35,7 @@ def breakpoints(console: Console) -> Iterator[str]:
     found = console.debugger.breakpoints.values()
     if not found:
         yield "there are no breakpoints"
-    for it in found:
-        kind = "watch" if isinstance(it.at, Address) else "break for one stop" if it.is_temporary else "break"
-        yield f"{it.number}  {kind}  {it.text}"
+    yield from map(str, found)
 
 
 def copies(console: Console) -> Iterable[str]:

@@ -2,7 +2,10 @@
 import re
 from collections.abc import Iterator
 
+from lvdc.listings import Instruction
+from lvdc.lvdb.cells import cell_lines, twins_at
 from lvdc.lvdb.console import Console
+from lvdc.lvdb.disassembly import source_lines
 from lvdc.lvdb.errors import CommandError
 from lvdc.lvdb.expressions import fraction, in_all_forms
 from lvdc.lvdb.information import INFORMATION
@@ -10,9 +13,9 @@ from lvdc.lvdb.places import address_of, comma, hop_of, read_address, run_of
 from lvdc.lvdb.registry import COMMANDS, COUNT, Told, command, want_nothing
 from lvdc.lvdb.session import SYLLABLE
 from lvdc.lvdb.show import copies_lines
-from lvdc.values import Address, Place, Word
+from lvdc.values import STEPS_A_TIME, Address, Place, Word
 
-_FORMAT = re.compile("/([0-9]*)([odfhi]?)")
+_FORMAT = re.compile("/([0-9]*)(cells|[odfhi]?)")
 _LINES_SHOWN, _ROWS_SHOWN, _MOST_WORDS = 10, 8, 256
 
 
@@ -62,11 +65,11 @@ def print_(console: Console, words: list[str]) -> Iterator[str]:
     place = console.debugger.program.names.get(text.partition("+")[0])
     if isinstance(place, Place) and not form[1] and word is not None and len(words) == 1:
         syllable = int(word) >> 13 if place.syllable else int(word) & SYLLABLE
-        yield f"  the instruction there is {console.debugger.decoder.instruction(syllable)}"
+        yield f"  the instruction there is {console.debugger.named(syllable, place)}"
 
 
 @command("[/NF] NAME|ADDRESS", "shows N words from there on; F is o octal, d decimal, f fraction, h HOP constant, i instruction, none the first "
-         "three", repeats=True)
+         "three; /cells is what both twins store, with parity, and what a read would do", repeats=True)
 def x(console: Console, words: list[str]) -> Told:
     """Words of memory."""
     (count, form), words = _format("x", words)
@@ -81,6 +84,9 @@ def x(console: Console, words: list[str]) -> Told:
     if first.location + count > 256:
         raise COMMANDS["x"].wrong(f"from there to the end of the sector there are {256 - first.location} words")
     addresses = run_of(first, count)
+    if form == "cells":
+        twins = twins_at(debugger.replay, debugger.position, debugger.asker)
+        return (line for it in addresses for line in cell_lines(twins, it, debugger.program.name_of(it)))
     words_there = debugger.replay.words(debugger.position, addresses)
     return (_word_line(console, *it, form) for it in zip(addresses, words_there))
 
@@ -96,7 +102,15 @@ def _format(name: str, words: list[str], one: bool = False) -> tuple[tuple[int, 
     return (count, found[2]), words[1:]
 
 
-def _formed(console: Console, word: Word | None, form: str) -> str:
+def _instructions(console: Console, word: Word, address: Address | None) -> list[str]:
+    """Both instructions of a word, with names where it is known where the word stands."""
+    debugger, halves = console.debugger, [int(word) & SYLLABLE, int(word) >> 13]
+    if address is None:
+        return debugger.decoder.instructions(halves)
+    return [debugger.named(half, Place(address.bank, address.sector, it, address.location)) for it, half in enumerate(halves)]
+
+
+def _formed(console: Console, word: Word | None, form: str, address: Address | None = None) -> str:
     """A word in a format."""
     if word is None or not form:
         return in_all_forms(word)
@@ -108,7 +122,7 @@ def _formed(console: Console, word: Word | None, form: str) -> str:
         case "f":
             return fraction(word)
         case "i":
-            return " / ".join(console.debugger.decoder.instructions([int(word) & SYLLABLE, int(word) >> 13]))
+            return " / ".join(_instructions(console, word, address))
     hop = hop_of(word)
     place = Place(hop.module, hop.sector, hop.syllable, hop.location)
     return f"{word}  to {place}, data {hop.data_module:o} {hop.data_sector:02o}"
@@ -116,7 +130,7 @@ def _formed(console: Console, word: Word | None, form: str) -> str:
 
 def _word_line(console: Console, address: Address, word: Word | None, form: str) -> str:
     """A word of memory with its address and name."""
-    return f"{address}  {console.debugger.program.name_of(address):10} {_formed(console, word, form)}"
+    return f"{address}  {console.debugger.program.name_of(address):10} {_formed(console, word, form, address)}"
 
 
 @command("[LINE|NAME|PLACE]", "shows ten lines of the source, around here or there; again, the next ten", "l", repeats=True)
@@ -136,10 +150,16 @@ def list_(console: Console, words: list[str]) -> Iterator[str]:
     console.next_line = first + _LINES_SHOWN
 
 
-@command("[NAME|LINE|PLACE [N]]", "shows N instructions as memory has them now, from here or there on; eight without N", "dis", repeats=True)
+@command("[/s] [PLACE [N]]", "shows N instructions as memory has them now, beside their lines, from here or there on; eight without N; with /s "
+         "all of memory as a source that is assembled to the same words", "dis", repeats=True)
 def disassemble(console: Console, words: list[str]) -> Told:
     """Instructions."""
     debugger, count = console.debugger, _ROWS_SHOWN
+    if words[:1] == ["/s"]:
+        want_nothing("disassemble /s", words[1:])
+        return source_lines(debugger.program, debugger.replay.report(debugger.position // STEPS_A_TIME).words, debugger.decoder)
+    if words and words[0].startswith("/"):
+        raise COMMANDS["disassemble"].wrong(f"{words[0]!r} is no format")
     if len(words) in (2, 5) and COUNT.fullmatch(words[-1]):
         *words, last = words
         count = int(last)
@@ -147,15 +167,26 @@ def disassemble(console: Console, words: list[str]) -> Told:
 
 
 def _instruction_rows(console: Console, place: Place, count: int) -> Iterator[str]:
-    """Instructions as memory has them now, in one syllable of rising locations."""
+    """Instructions as memory has them now, in one syllable of rising locations; the line of one that was changed has a mark."""
     debugger, count = console.debugger, min(count, 256 - place.location)
     found = debugger.replay.words(debugger.position, run_of(address_of(place), count))
     syllables = [0 if it is None else int(it) >> 13 if place.syllable else int(it) & SYLLABLE for it in found]
+    debugger.decoder.instructions(syllables)
     here = debugger.place
-    for at, (word, syllable, instruction) in enumerate(zip(found, syllables, debugger.decoder.instructions(syllables))):
+    for at, (word, syllable) in enumerate(zip(found, syllables)):
         row = Place(place.module, place.sector, place.syllable, place.location + at)
-        told = "?" if word is None else f"{syllable:05o} {instruction}"
-        yield f"{'=>' if row == here else '  '} {row}  {told:13}  {debugger.program.label(row)}".rstrip()
+        told = "?" if word is None else f"{syllable:05o}  {debugger.named(syllable, row)}"
+        label = debugger.program.label(row)
+        yield f"{'=>' if row == here else '  '} {row}  {told:24}  {label:11}{_line_of(console, row, syllable)}".rstrip()
+
+
+def _line_of(console: Console, place: Place, syllable: int) -> str:
+    """The line of an instruction, with a mark where memory has another one."""
+    row = console.debugger.program.rows.get(place)
+    if row is None or not isinstance(row.field, Instruction):
+        return ""
+    mark = " " if row.field.syllable == syllable else "*"
+    return f"{console.debugger.program.number_of(row):5d}{mark} {row.line}"
 
 
 @command("[EXPRESSION]", "shows an expression now and at each stop; without one all of them", "disp")

@@ -1,5 +1,4 @@
 """The command lvdb: lvdb FILE [--times N] [--start NAME] [--tape PORT WORD..], or lvdb --dap."""
-import io
 import os
 import re
 import signal
@@ -8,15 +7,18 @@ from collections.abc import Sequence
 from pathlib import Path
 from typing import TextIO
 
+from lvdc.check.main import check_file
 from lvdc.decks import Tape
 from lvdc.errors import Error
-from lvdc.lines import ERRORS, tokens
+from lvdc.lines import tokens
 from lvdc.lvdb.commands import carry_out, split
 from lvdc.lvdb.console import Console, Leave
 from lvdc.lvdb.program import MOST_TIMES, Options, Program, load
 from lvdc.lvdb.prompt import Prompt, choose_prompt, plain_prompt
 from lvdc.lvdb.session import Debugger, Stop
 from lvdc.lvdb.show import Style
+from lvdc.refusals import Refused
+from lvdc.streams import complain, drop_output, open_streams
 from lvdc.values import STEPS_A_TIME
 from lvdc.workers import Asker, Worker
 
@@ -64,12 +66,12 @@ def opening_lines(program: Program) -> list[str]:
     """What is said of a program at first."""
     kind = "source" if program.listing is not None else "image"
     lines = [f"lvdb: {program.path}: {kind}, {program.deck.count} instruction times at most, {len(program.deck.faults)} fault lines"]
-    if program.is_written_out:
-        lines.append("The source has macros: it was written out, and lines are those of its expansion. `lvdc macro` shows it.")
+    if program.has_macros:
+        lines.append("The source has macros; behind a line that calls one stands the instruction of its expansion. `macro` shows all of them.")
     return lines
 
 
-def converse(console: Console, prompt: Prompt, errors: TextIO) -> int:
+def converse(console: Console, prompt: Prompt) -> int:
     """Carries out line after line until the input ends; 1 where a command of a script was refused."""
     is_script, last, status = prompt is plain_prompt, "", 0
     while True:
@@ -85,23 +87,24 @@ def converse(console: Console, prompt: Prompt, errors: TextIO) -> int:
         if not tokens(line) or line.lstrip().startswith("#"):
             continue
         try:
-            is_done = carry_out_line(console, line, errors)
+            is_done = carry_out_line(console, line)
         except Leave:
             return status
         last = line if is_done and split(line)[0].repeats else ""
         status = max(status, int(is_script and not is_done))
 
 
-def carry_out_line(console: Console, line: str, errors: TextIO) -> bool:
+def carry_out_line(console: Console, line: str) -> bool:
     """Writes what a line is answered; False where it is refused or interrupted."""
     try:
         for it in carry_out(console, line):
             print(it)
         return True
     except KeyboardInterrupt:
-        print(f"interrupted: still at time {console.debugger.position // STEPS_A_TIME}", file=errors)
+        complain(f"interrupted: still at time {console.debugger.position // STEPS_A_TIME}")
     except Error as error:
-        print(error, file=errors)
+        sys.stdout.flush()
+        complain(error)
     finally:
         sys.stdout.flush()
     return False
@@ -121,7 +124,7 @@ def debug_file(path: Path, options: Options, asker: Asker) -> int:
     for line in console.stopped(Stop(debugger.state, debugger.state)):
         print(line)
     sys.stdout.flush()
-    return converse(console, choose_prompt(console), sys.stderr)
+    return converse(console, choose_prompt(console))
 
 
 def main() -> None:
@@ -129,30 +132,46 @@ def main() -> None:
     words = sys.argv[1:]
     # a shell that starts it in the background has it ignore interrupts
     signal.signal(signal.SIGINT, signal.default_int_handler)
-    for stream in (sys.stdin, sys.stdout, sys.stderr):
-        if isinstance(stream, io.TextIOWrapper):
-            stream.reconfigure(errors=ERRORS)
+    open_streams()
+    status = 0
     try:
-        if words in (["--help"], ["-h"]):
-            print(USAGE, end="")
-            return
-        if words == ["--dap"]:
-            from lvdc.lvdb.protocol import serve
-            # without a buffer, since a thread waits in it when the process ends
-            with open(sys.stdin.fileno(), "rb", buffering=0, closefd=False) as incoming:
-                serve(incoming, sys.stdout.buffer)
-            return
-        with Worker() as worker:
-            status = debug_file(*read_words(words), worker)
+        status = carry_out_words(words)
+        sys.stdout.flush()
     except Usage:
-        sys.stderr.write(USAGE)
+        complain(USAGE.rstrip("\n"))
         status = 1
     except KeyboardInterrupt:
         status = _INTERRUPTED
     except BrokenPipeError:
-        os.dup2(os.open(os.devnull, os.O_WRONLY), sys.stdout.fileno())
+        drop_output()
         status = 1
     except Error as error:
-        print(f"lvdb: {error}", file=sys.stderr)
+        complain(f"lvdb: {error}")
+        status = 1
+    except OSError as error:
+        drop_output()
+        complain(f"lvdb: what is told can't be written: {error.strerror}")
         status = 1
     sys.exit(status)
+
+
+def carry_out_words(words: Sequence[str]) -> int:
+    """Does what the command line says."""
+    if words in (["--help"], ["-h"]):
+        print(USAGE, end="")
+        return 0
+    if words == ["--dap"]:
+        from lvdc.lvdb.protocol import serve
+        # without a buffer, since a thread waits in it when the process ends
+        with open(sys.stdin.fileno(), "rb", buffering=0, closefd=False) as incoming:
+            serve(incoming, sys.stdout.buffer)
+        return 0
+    with Worker() as worker:
+        path, options = read_words(words)
+        try:
+            return debug_file(path, options, worker)
+        except Refused as refused:
+            complain(f"lvdb: {refused}")
+            for it in check_file(path, worker):
+                complain(it)
+            return 1

@@ -1,17 +1,26 @@
 """The commands that move: forward, back, and to a time or a place."""
 import re
+from collections.abc import Iterator
 
 from lvdc.lvdb.console import Console
 from lvdc.lvdb.registry import COMMANDS, Told, command, count_in, want_nothing
+from lvdc.lvdb.session import Stop
 from lvdc.values import STEPS_A_TIME
 
 _TIME = re.compile("0|[1-9][0-9]{0,6}")
 
 
-@command("[N]", "makes N instruction times, or one", "s", "next", "n", repeats=True)
+@command("[N]", "makes N instruction times, or one", "s", repeats=True)
 def step(console: Console, words: list[str]) -> Told:
     """Instruction times."""
     return console.stopped(console.debugger.step(count_in("step", words)))
+
+
+@command("[N]", "the same, but a subroutine that is called is made up to its return, and a product that is waited for up to its end", "n",
+         repeats=True)
+def next_(console: Console, words: list[str]) -> Told:
+    """Instructions with their calls."""
+    return console.stopped(console.debugger.next(count_in("next", words)))
 
 
 @command("[N]", "makes N phases (steps of the machine, three to an instruction time), or one", "ph", "stepi", "si", repeats=True)
@@ -20,11 +29,28 @@ def phase(console: Console, words: list[str]) -> Told:
     return console.stopped(console.debugger.phase(count_in("phase", words)))
 
 
-@command("", "goes on to a breakpoint or a change that is watched, else to the end of the run", "c", "run", "r", repeats=True)
+@command("", "goes on to a breakpoint or a change that is watched, else to the end of the run", "c", repeats=True)
 def continue_(console: Console, words: list[str]) -> Told:
     """To a breakpoint."""
     want_nothing("continue", words)
     return console.stopped(console.debugger.proceed())
+
+
+@command("", "begins anew, and goes on as `continue` does", "r")
+def run(console: Console, words: list[str]) -> Told:
+    """From the beginning."""
+    want_nothing("run", words)
+    return console.stopped(console.debugger.run())
+
+
+@command("", "reads the file anew after an edit, and stands at the beginning; breakpoints, displays and faults stay")
+def reload(console: Console, words: list[str]) -> Iterator[str]:
+    """The file anew."""
+    want_nothing("reload", words)
+    gone = console.debugger.reload()
+    yield f"{console.debugger.program.path} is read anew"
+    yield from gone
+    yield from console.stopped(Stop(console.debugger.state, console.debugger.state))
 
 
 @command("[PLACE]", "goes on to a place, whatever breakpoints are on the way; without one to a place behind this in its sector, out of a loop",

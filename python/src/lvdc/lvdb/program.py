@@ -12,7 +12,10 @@ from lvdc.images import Image
 from lvdc.lines import ADDRESS, WORD, decode, pattern, sections, tokens
 from lvdc.listings import Instruction, Listing, Room, Row
 from lvdc.lvdb.errors import CommandError
+from lvdc.lvdb.origins import written_out
 from lvdc.lvdb.places import address_of, read_address, read_place
+from lvdc.streams import read_file
+from lvdc.parts import Parts
 from lvdc.refusals import Refused
 from lvdc.values import Address, Place
 from lvdc.workers import Asker
@@ -40,15 +43,16 @@ class Options:
 
 @dataclass(frozen=True)
 class Program:
-    """A deck with the lines that it is shown by: those of its file, or of the expansion where the source has macros."""
+    """A deck with the lines of its file. `numbers` has for each row of the listing the number of its line there: of a source with macros
+    that of the outermost call."""
 
     path: str
     deck: Deck
     lines: tuple[str, ...]
     listing: Listing | None = None
-    offset: int = 0
-    is_written_out: bool = False
+    numbers: tuple[int, ...] = ()
     simplex: tuple[int, ...] = field(default=())
+    options: Options = Options()
 
     # ---- from places to lines and names
 
@@ -83,11 +87,55 @@ class Program:
         found = ((number, _IMAGE_LINE.fullmatch(line)) for number, line in enumerate(self.lines, 1))
         return {Address.read(it[1]): number for number, it in found if it is not None}
 
+    @cached_property
+    def has_macros(self) -> bool:
+        """Whether its source was written out."""
+        return self.listing is not None and any(self.is_written_out(it) for it in self.listing.rows)
+
+    def number_of(self, row: Row) -> int:
+        """The number of the line that a row comes from."""
+        return self.numbers[row.number - 1]
+
+    def line_at(self, number: int) -> str:
+        """A line by its number."""
+        return self.lines[number - 1]
+
+    def is_written_out(self, row: Row) -> bool:
+        """Whether a row isn't the line that it comes from, but one of its expansion."""
+        return self.line_at(self.number_of(row)) != row.line
+
     def line_of(self, place: Place) -> int | None:
         """The number of the line whose instruction stands there; over an image that of the word."""
         if place in self.rows:
-            return self.rows[place].number + self.offset
+            return self.number_of(self.rows[place])
         return self.image_lines.get(address_of(place))
+
+    def line_of_word(self, address: Address) -> int | None:
+        """The number of the line that gives a word its place: of a constant, of room or of an instruction."""
+        for row in () if self.listing is None else self.listing.rows:
+            if isinstance(row.field, Room) and address in _addresses_of(row.field, row.line):
+                return self.number_of(row)
+        found = (self.line_of(Place(address.bank, address.sector, it, address.location)) for it in (0, 1))
+        return next((it for it in found if it is not None), self.image_lines.get(address))
+
+    @cached_property
+    def uses(self) -> dict[Place, tuple[int, int]]:
+        """The pair and the sector that are in use at each instruction, by the last USE line above it."""
+        found: dict[Place, tuple[int, int]] = {}
+        pair, sector = 0, 1
+        for row in () if self.listing is None else self.listing.rows:
+            parts = Parts.of(row.line)
+            if isinstance(row.field, Instruction):
+                found[row.field.place] = pair, sector
+            elif parts.operation == "USE":
+                pair, sector = (int(it, 8) for it in parts.operand.split(","))
+        return found
+
+    @cached_property
+    def taken(self) -> set[Address]:
+        """The addresses that the source has something at: words, room, literals and instructions."""
+        pool = () if self.listing is None else self.listing.pool
+        return {*self._room, *(at for at, _ in pool), *map(address_of, self.rows)}
 
     def label(self, place: Place) -> str:
         """A place by the name at it or before it in its block, as PASS+2; empty where there is none."""
@@ -99,7 +147,11 @@ class Program:
         return _with_offset(name, place.location - named.location) if same else ""
 
     def name_of(self, address: Address) -> str:
-        """A word by the name at it or before it in its block; empty where there is none."""
+        """A word by the name at it or before it in its block, else by that of an instruction in it; empty where there is none."""
+        return self._name_of_word(address) or next(filter(None, (self.label(it) for it in _both_halves(address))), "")
+
+    def _name_of_word(self, address: Address) -> str:
+        """A word of data or of a literal by its name."""
         at = bisect.bisect(self._addresses, (address, "~")) - 1
         if at < 0:
             return ""
@@ -109,26 +161,44 @@ class Program:
         same = (named.bank, named.sector) == (address.bank, address.sector)
         return _with_offset(name, address.location - named.location) if same and address in self._room and name[0] != "=" else ""
 
+    def code_at(self, address: Address) -> list[Row]:
+        """The instructions that the source has in a word."""
+        return [self.rows[it] for it in _both_halves(address) if it in self.rows]
+
     @cached_property
     def _room(self) -> set[Address]:
         """The addresses that lines of words take."""
         taken: set[Address] = set()
         for row in () if self.listing is None else self.listing.rows:
             if isinstance(row.field, Room):
-                at = row.field.address
-                taken.update(Address(at.bank, at.sector, at.location + it) for it in range(_size_of(row.line)))
+                taken.update(_addresses_of(row.field, row.line))
         return taken
+
+    @cached_property
+    def tables(self) -> dict[str, list[Address]]:
+        """The words of each name: that at it, and those behind it in its block up to the next name."""
+        named = {at for at in self.names.values() if isinstance(at, Address)}
+        found: dict[str, list[Address]] = {}
+        for name, at in self.names.items():
+            if isinstance(at, Address):
+                found[name] = [at]
+                for location in range(at.location + 1, 256):
+                    behind = Address(at.bank, at.sector, location)
+                    if behind not in self._room or behind in named:
+                        break
+                    found[name].append(behind)
+        return found
 
     # ---- from what is typed to places
 
     def find_line(self, number: int) -> tuple[int, Place]:
         """The first line from one on that has an instruction, and its place; over an image the first word, and its syllable 0."""
-        lines = [(row.number + self.offset, place) for place, row in self.rows.items()]
-        lines += [(line, Place(at.bank, at.sector, 0, at.location)) for at, line in self.image_lines.items()]
+        lines = [(self.number_of(row), row.number, place) for place, row in self.rows.items()]
+        lines += [(line, 0, Place(at.bank, at.sector, 0, at.location)) for at, line in self.image_lines.items()]
         found = min((it for it in lines if it[0] >= number), default=None)
         if found is None:
             raise CommandError(f"no line from {number} on has an instruction; `list` shows the lines")
-        return found
+        return found[0], found[2]
 
     def find_place(self, words: Sequence[str]) -> Place:
         """The place of a name of code, of a line, or of the form `p,ss,s,lll`."""
@@ -169,30 +239,33 @@ def _with_offset(name: str, offset: int) -> str:
     return f"{name}+{offset}" if offset else name
 
 
-def _size_of(line: str) -> int:
-    """How many words a line of words takes: BSS says so, every other takes one."""
-    words = tokens(line)[line[0] not in " \t":]
-    return int(words[1]) if words[0] == "BSS" else 1
+def _both_halves(address: Address) -> list[Place]:
+    """The places of the two instructions of a word."""
+    return [Place(address.bank, address.sector, it, address.location) for it in (0, 1)]
+
+
+def _addresses_of(room: Room, line: str) -> list[Address]:
+    """The words that a line takes: BSS says how many, every other takes one."""
+    parts, at = Parts.of(line), room.address
+    count = int(parts.operand) if parts.operation == "BSS" else 1
+    return [Address(at.bank, at.sector, at.location + it) for it in range(count)]
 
 
 # ---- from a file to a program
 
 def load(path: Path, options: Options, asker: Asker) -> Program:
     """Reads a file: a deck, a source with macros or without, or an image."""
-    try:
-        text = decode(path.read_bytes())
-    except OSError as error:
-        raise CommandError(f"{path} can't be read: {error.strerror}") from error
+    text = decode(read_file(path))
     lines = sections(text)
     heading: list[str] = next((tokens(it) for it in lines if tokens(it) and not it.startswith("*")), [])
     if heading in (["IMAGE"], ["SOURCE"]):
         return _load_deck(path, text, options, asker)
     if heading[:1] == ["LVDC"] and heading != ["LVDC", "SAVE", "1"]:
         image = Image.read(text)
-        return _checked(Program(str(path), _deck_of(image, options), tuple(lines)), asker)
+        return _checked(Program(str(path), _deck_of(image, options), tuple(lines), options=options), asker)
     if heading == ["LVDC", "SAVE", "1"]:
         raise CommandError(f"{path} is a saved run, which has no program: give the deck that it was saved of")
-    return _load_source(path, text, options, asker)
+    return _of_source(path, text, _deck_of(Source(text), options), 0, options, asker)
 
 
 def _deck_of(program: Image | Source, options: Options) -> Deck:
@@ -212,25 +285,11 @@ def _load_deck(path: Path, text: str, options: Options, asker: Asker) -> Program
         deck = Deck.read(text)
         if not isinstance(deck.program, Source) or not _has_macros(deck.program.text, asker):
             raise
-        written = commands.expand(deck.program, worker=asker)
-        commands.assemble_image(deck.program, macros=True, worker=asker)
-        return _of_source(path, replace(deck, program=Source(written.text)), 0, written.lines, asker)
-    deck = Deck.read(text)
-    lines = sections(text)
-    offset = next(at for at, it in enumerate(lines) if tokens(it) in (["IMAGE"], ["SOURCE"])) + 1
+    deck, lines = Deck.read(text), sections(text)
     if isinstance(deck.program, Source):
-        return _of_source(path, deck, offset, tuple(lines), asker)
+        offset = next(at for at, it in enumerate(lines) if tokens(it) in (["IMAGE"], ["SOURCE"])) + 1
+        return _of_source(path, text, deck, offset, options, asker)
     return _checked(Program(str(path), deck, tuple(lines)), asker)
-
-
-def _load_source(path: Path, text: str, options: Options, asker: Asker) -> Program:
-    """A source, with macros or without."""
-    if not _has_macros(text, asker):
-        commands.assemble(text, worker=asker)
-        return _of_source(path, _deck_of(Source(text), options), 0, tuple(sections(text)), asker)
-    written = commands.expand(text, worker=asker)
-    commands.assemble_image(text, macros=True, worker=asker)
-    return _of_source(path, _deck_of(Source(written.text), options), 0, written.lines, asker)
 
 
 def _has_macros(text: str, asker: Asker) -> bool:
@@ -238,12 +297,22 @@ def _has_macros(text: str, asker: Asker) -> bool:
     return commands.expand(text, worker=asker).lines != tuple(sections(text))
 
 
-def _of_source(path: Path, deck: Deck, offset: int, lines: tuple[str, ...], asker: Asker) -> Program:
-    """The program of a deck with a source. It is written out where its lines aren't those of the file."""
+def _of_source(path: Path, text: str, deck: Deck, offset: int, options: Options, asker: Asker) -> Program:
+    """The program of a deck whose source begins behind so many lines of a text; a source with macros is written out."""
     assert isinstance(deck.program, Source)
-    listing = commands.assemble(deck.program, worker=asker)
-    is_written_out = tuple(sections(decode(path.read_bytes()))) != lines
-    return _checked(Program(str(path), deck, lines, listing, offset, is_written_out), asker)
+    source = deck.program.text
+    if not _has_macros(source, asker):
+        listing = commands.assemble(deck.program, worker=asker)
+        numbers = [offset + it.number for it in listing.rows]
+        return _checked(Program(str(path), deck, tuple(sections(text)), listing, tuple(numbers), options=options), asker)
+    commands.assemble_image(source, macros=True, worker=asker)
+    expansion, ours = commands.expand(source, worker=asker), written_out(sections(source))
+    if expansion.lines != tuple(line for line, _ in ours):
+        raise CommandError(f"{path} has macros that are written out in another way here: debug what `lvdc macro` writes of it")
+    deck = replace(deck, program=Source(expansion.text))
+    numbers = [offset + number for _, number in ours]
+    listing = commands.assemble(expansion.text, worker=asker)
+    return _checked(Program(str(path), deck, tuple(sections(text)), listing, tuple(numbers), options=options), asker)
 
 
 def _checked(program: Program, asker: Asker) -> Program:

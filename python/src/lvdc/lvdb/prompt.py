@@ -10,6 +10,7 @@ from lvdc.lvdb.commands import COMMANDS
 from lvdc.lvdb.console import Console
 from lvdc.lvdb.information import INFORMATION
 from lvdc.lvdb.states import MODULE_NAMES
+from lvdc.streams import read_line
 
 PROMPT = "(lvdb) "
 _HISTORY = Path("~/.lvdb_history")
@@ -24,10 +25,7 @@ class Prompt(Protocol):
 
 def plain_prompt() -> str:
     """A line of standard input. It is written behind the prompt, so that what is written reads as a session."""
-    line = sys.stdin.readline()
-    if not line:
-        raise EOFError
-    text = line.rstrip("\r\n")
+    text = read_line(sys.stdin)
     print(f"{PROMPT}{text}", flush=True)
     return text
 

@@ -3,6 +3,7 @@
 A client may step back and continue backwards. What has no meaning here, as setting a variable, isn't offered. A request that can't be
 carried out is answered with success false and the sentence that the prompt would show."""
 import os
+import re
 import signal
 import threading
 from collections.abc import Callable
@@ -20,17 +21,24 @@ from lvdc.lvdb.expressions import in_all_forms
 from lvdc.lvdb.framing import BadMessage, Incoming, Message, read_message, write_message
 from lvdc.lvdb.launching import read_launch
 from lvdc.lvdb.program import load
-from lvdc.lvdb.scopes import SCOPES
+from lvdc.lvdb.memory_views import disassembled, number_of_place, read_bytes
+from lvdc.lvdb.mistakes import KINDS
+from lvdc.lvdb.prompt import completions
+from lvdc.lvdb.scopes import SCOPES, variables
 from lvdc.lvdb.session import Debugger, Stop
 from lvdc.lvdb.show import place_text
-from lvdc.values import Address, Place
+from lvdc.lvdb.stopping import watched
+from lvdc.values import Place
 from lvdc.workers import Asker, Worker
 
 THREAD = 1
-CAPABILITIES = {
-    "supportsConfigurationDoneRequest": True, "supportsFunctionBreakpoints": True, "supportsEvaluateForHovers": True, "supportsStepBack": True,
-    "supportsTerminateRequest": True, "supportsDataBreakpoints": True}
-_TEXT_OF_PROGRAM = 1
+_ABILITIES = ["ConfigurationDoneRequest", "FunctionBreakpoints", "EvaluateForHovers", "StepBack", "TerminateRequest", "DataBreakpoints",
+              "ConditionalBreakpoints", "HitConditionalBreakpoints", "DisassembleRequest", "ReadMemoryRequest", "CompletionsRequest"]
+CAPABILITIES: Message = {
+    **{f"supports{it}": True for it in _ABILITIES},
+    "exceptionBreakpointFilters": [{"filter": kind, "label": f"{kind}: {text}", "default": False} for kind, text in KINDS.items()]}
+_ACCESSES = {"write": "watch", "read": "rwatch", "readWrite": "awatch"}
+_HITS = re.compile("[1-9][0-9]{0,6}")
 _INTERRUPTING = ("pause", "disconnect", "terminate")
 
 
@@ -50,15 +58,17 @@ class Server:
         self._is_moving = False
         self._number, self._interrupted_before = 0, 0
         self._sequence = 0
-        self._places: dict[int, list[Place]] = {}
+        self._mine: dict[str, list[int]] = {}
+        self._tells_invalid = False
         self._requests: dict[str, Callable[[Message], Message]] = {
             "initialize": self._initialize, "launch": self._launch, "configurationDone": self._configured, "threads": self._threads,
             "setBreakpoints": self._set_breakpoints, "setFunctionBreakpoints": self._set_function_breakpoints,
-            "setExceptionBreakpoints": lambda _: {}, "dataBreakpointInfo": self._data_breakpoint_info,
+            "setExceptionBreakpoints": self._set_catches, "dataBreakpointInfo": self._data_breakpoint_info,
             "setDataBreakpoints": self._set_data_breakpoints, "stackTrace": self._stack_trace, "scopes": self._scopes,
-            "variables": self._variables, "evaluate": self._evaluate, "source": self._source, "pause": lambda _: {}}
+            "variables": self._variables, "evaluate": self._evaluate, "pause": lambda _: {}, "disassemble": self._disassemble,
+            "readMemory": self._read_memory, "completions": self._completions}
         self._moves: dict[str, tuple[str, Callable[[Debugger], Stop]]] = {
-            "continue": ("breakpoint", Debugger.proceed), "next": ("step", Debugger.step), "stepIn": ("step", Debugger.step),
+            "continue": ("breakpoint", Debugger.proceed), "next": ("step", Debugger.next), "stepIn": ("step", Debugger.step),
             "stepOut": ("step", Debugger.finish), "stepBack": ("step", Debugger.step_back), "reverseContinue": ("breakpoint", Debugger.reverse)}
 
     # ---- messages
@@ -71,7 +81,7 @@ class Server:
         try:
             while (request := queue.get()) is not None and request.get("command") not in ("disconnect", "terminate"):
                 self._number += 1
-                self._answer(request)
+                self.answer(request)
             if request is not None:
                 self._respond(request, {})
                 self._event("terminated")
@@ -115,7 +125,11 @@ class Server:
         self._send({**answer, "body": body} if not problem else {**answer, "message": problem, "body": {"error": {
             "id": 1, "format": problem.replace("{", "(").replace("}", ")"), "showUser": True}}})
 
-    def _answer(self, request: Message) -> None:
+    def sit(self, console: Console) -> None:
+        """Goes on with what is debugged already."""
+        self._console = console
+
+    def answer(self, request: Message) -> None:
         """Carries a request out."""
         name = str(request.get("command", ""))
         given = request.get("arguments")
@@ -126,7 +140,7 @@ class Server:
             if name not in self._requests:
                 raise CommandError(f"there is no request {name!r} here")
             self._respond(request, self._requests[name](given if isinstance(given, dict) else {}))
-        except (Error, KeyError, TypeError, ValueError, IndexError) as error:
+        except (Error, KeyError, TypeError, ValueError, IndexError, AttributeError, OverflowError, RecursionError) as error:
             self._respond(request, {}, str(error) if isinstance(error, Error) else f"the arguments of {name} have another form: {error!r}")
             return
         if name == "launch":
@@ -145,6 +159,7 @@ class Server:
 
     def _initialize(self, given: Message) -> Message:
         """What this server can do."""
+        self._tells_invalid = given.get("supportsInvalidatedEvent") is True
         return CAPABILITIES
 
     def _launch(self, given: Message) -> Message:
@@ -152,8 +167,6 @@ class Server:
         path, options, is_through, self._stop_on_entry = read_launch(given)
         self._console = Console(Debugger(load(path, options, self._asker), self._asker))
         self._console.debugger.is_through = is_through
-        if self._console.debugger.program.is_written_out:
-            self._event("output", category="console", output="The source has macros: lines are those of its expansion.\n")
         return {}
 
     def _configured(self, given: Message) -> Message:
@@ -202,9 +215,9 @@ class Server:
         """Tells where it stopped, and writes what the prompt would show."""
         told = "".join(f"{it}\n" for it in self._sitting.stopped(stop))
         self._event("output", category="console", output=told)
-        watched = any(it.startswith("watch ") for it in stop.reasons)
-        hit = any(it.startswith("breakpoint ") for it in stop.reasons)
-        why = "data breakpoint" if watched else reason if hit or reason != "breakpoint" else "pause"
+        kinds = {it.split(" ")[0] for it in stop.reasons}
+        why = ("data breakpoint" if kinds & set(_ACCESSES.values()) else "exception" if "catch" in kinds else
+               reason if "breakpoint" in kinds or reason != "breakpoint" else "pause")
         self._event("stopped", reason=why, threadId=THREAD, allThreadsStopped=True, description="; ".join(stop.reasons) or why)
 
     # ---- breakpoints
@@ -212,62 +225,85 @@ class Server:
     def _set_breakpoints(self, given: Message) -> Message:
         """The breakpoints by lines, in place of those of before."""
         program = self._sitting.debugger.program
-        if not self._is_shown(given["source"]):
-            refused = {"verified": False, "message": f"lines are those of {program.path}{', written out' * program.is_written_out}"}
+        if Path(str(given["source"].get("path", ""))).resolve() != Path(program.path).resolve():
+            refused = {"verified": False, "message": f"lines are those of {program.path}"}
             return {"breakpoints": [refused for _ in given.get("breakpoints", [])]}
-        shown = [self._resolve(0, str(it["line"]), lambda text: program.find_line(int(text))) for it in self._anew(0, given)]
-        return {"breakpoints": shown}
-
-    def _is_shown(self, source: Message) -> bool:
-        """Whether the lines of a source are those that are told; a client sets breakpoints of each file that it has."""
-        program = self._sitting.debugger.program
-        if program.is_written_out:
-            return source.get("sourceReference") == _TEXT_OF_PROGRAM
-        return Path(str(source.get("path", ""))).resolve() == Path(program.path).resolve()
+        return self._set_all("lines", given, lambda it: self._break(it, program.find_line(int(it["line"])), str(it["line"])))
 
     def _set_function_breakpoints(self, given: Message) -> Message:
         """The breakpoints by names or places, likewise."""
         program = self._sitting.debugger.program
-        shown = [self._resolve(1, str(it["name"]), lambda text: (0, program.find_place(tokens(text)))) for it in self._anew(1, given)]
+        return self._set_all("names", given, lambda it: self._break(it, (0, program.find_place(tokens(str(it["name"])))), str(it["name"])))
+
+    def _set_all(self, owner: str, given: Message, set_one: Callable[[Message], tuple[int, Message]]) -> Message:
+        """Sets what is asked for in place of what was asked for before; what can't be set isn't verified, and says why."""
+        breakpoints = self._sitting.debugger.breakpoints
+        for number in self._mine.pop(owner, []):
+            if number in breakpoints:
+                breakpoints.remove(number)
+        shown: list[Message] = []
+        for it in list(given.get("breakpoints", [])):
+            try:
+                number, more = set_one(it)
+                self._mine.setdefault(owner, []).append(number)
+                shown.append({"id": number, "verified": True, **more})
+            except CommandError as error:
+                shown.append({"verified": False, "message": str(error)})
         return {"breakpoints": shown}
 
-    def _anew(self, kind: int, given: Message) -> list[Message]:
-        """What is asked for; the breakpoints of this kind are taken away."""
-        places = self._places.pop(kind, [])
-        breakpoints = self._sitting.debugger.breakpoints
-        for number in [number for number, it in breakpoints.items() if it.at in places]:
-            del breakpoints[number]
-        return list(given.get("breakpoints", []))
+    def _break(self, asked: Message, found: tuple[int, Place], typed: str) -> tuple[int, Message]:
+        """Sets a breakpoint at a place, where there is none yet."""
+        debugger, (line, place) = self._sitting.debugger, found
+        known = debugger.breakpoints.at_place(place)
+        number = known[0].number if known else debugger.add_breakpoint("break", place, place_text(debugger, place), typed).number
+        self._conditioned(number, asked)
+        return number, {"line": line} if line else {}
 
-    def _resolve(self, kind: int, text: str, find: Callable[[str], tuple[int, Place]]) -> Message:
-        """Sets a breakpoint; one that can't be set isn't verified, and says why."""
-        debugger = self._sitting.debugger
+    def _conditioned(self, number: int, asked: Message) -> None:
+        """Gives a breakpoint the condition and the count that are asked for, or takes it away again where they have no meaning."""
+        debugger, hits = self._sitting.debugger, str(asked.get("hitCondition") or "1").strip()
         try:
-            line, place = find(text)
-        except CommandError as error:
-            return {"verified": False, "message": str(error)}
-        known = next((it for it in debugger.breakpoints.values() if it.at == place), None)
-        found = known or debugger.add_breakpoint(place, place_text(debugger, place))
-        self._places.setdefault(kind, []).append(place)
-        return {"id": found.number, "verified": True, **({"line": line} if line else {})}
+            debugger.set_condition(number, str(asked.get("condition") or ""))
+            if not _HITS.fullmatch(hits):
+                raise CommandError(f"{hits!r} is no count of hits: a number from 1 on says at which it stops")
+        except CommandError:
+            debugger.breakpoints.remove(number)
+            raise
+        debugger.breakpoints.change(number, left=int(hits) - 1)
+
+    def _set_catches(self, given: Message) -> Message:
+        """The kinds of mistakes at which the run is to stop."""
+        debugger = self._sitting.debugger
+        for number in self._mine.pop("mistakes", []):
+            if number in debugger.breakpoints:
+                debugger.breakpoints.remove(number)
+        kinds = [str(it) for it in given.get("filters", []) if it in KINDS]
+        if kinds:
+            text = " ".join(kinds)
+            self._mine["mistakes"] = [debugger.add_breakpoint("catch", text, text, text, set(kinds)).number]
+        return {}
 
     def _data_breakpoint_info(self, given: Message) -> Message:
-        """Whether a variable can be watched: a word of memory can."""
-        program = self._sitting.debugger.program
+        """Whether a variable can be watched: a word of memory can, and some registers."""
+        name = str(given["name"])
         try:
-            address = program.find_address(tokens(str(given["name"])))
+            at = watched(self._sitting, tokens(name) or [""])
         except CommandError as error:
             return {"dataId": None, "description": str(error)}
-        return {"dataId": str(address), "description": program.name_of(address) or str(address), "accessTypes": ["write"]}
+        return {"dataId": name, "description": name, "accessTypes": ["write"] if isinstance(at, str) else list(_ACCESSES)}
 
     def _set_data_breakpoints(self, given: Message) -> Message:
-        """The words that are watched, in place of those of before."""
-        debugger = self._sitting.debugger
-        for number in [number for number, it in debugger.breakpoints.items() if isinstance(it.at, Address)]:
-            del debugger.breakpoints[number]
-        addresses = [Address.read(str(it["dataId"])) for it in given.get("breakpoints", [])]
-        found = [debugger.add_breakpoint(it, debugger.program.name_of(it) or str(it)) for it in dict.fromkeys(addresses)]
-        return {"breakpoints": [{"id": it.number, "verified": True} for it in found]}
+        """The words and registers that are watched, in place of those of before."""
+        return self._set_all("data", given, self._watch)
+
+    def _watch(self, asked: Message) -> tuple[int, Message]:
+        """Watches a word or a register."""
+        name = str(asked["dataId"])
+        at = watched(self._sitting, tokens(name))
+        kind = "watch" if isinstance(at, str) else _ACCESSES.get(str(asked.get("accessType", "write")), "watch")
+        number = self._sitting.debugger.add_breakpoint(kind, at, name, name).number
+        self._conditioned(number, asked)
+        return number, {}
 
     # ---- looking
 
@@ -283,17 +319,12 @@ class Server:
         """A place as a frame."""
         program = self._sitting.debugger.program
         line = program.line_of(place)
-        frame = {"id": number, "name": place_text(self._sitting.debugger, place), "line": line or 0, "column": 0 if line is None else 1}
+        frame = {"id": number, "name": place_text(self._sitting.debugger, place), "line": line or 0, "column": 0 if line is None else 1,
+                 "instructionPointerReference": number_of_place(place)}
         if line is None:
             return {**frame, "presentationHint": "subtle"}
         path = Path(program.path).absolute()
-        if program.is_written_out:
-            return {**frame, "source": {"name": f"{path.name}, written out", "sourceReference": _TEXT_OF_PROGRAM}}
         return {**frame, "source": {"name": path.name, "path": str(path)}}
-
-    def _source(self, given: Message) -> Message:
-        """The text whose lines are told, where it stands in no file."""
-        return {"content": "".join(f"{it}\n" for it in self._sitting.debugger.program.lines)}
 
     def _scopes(self, given: Message) -> Message:
         """Registers, memory and copies, the same in each frame."""
@@ -301,20 +332,40 @@ class Server:
                             **({"presentationHint": "registers"} if name == "Registers" else {})} for number, name in enumerate(SCOPES, 1)]}
 
     def _variables(self, given: Message) -> Message:
-        """What a scope has."""
-        shown = list(SCOPES.values())[int(given["variablesReference"]) - 1](self._sitting.debugger)
-        return {"variables": [{"name": name, "value": value, "variablesReference": 0} for name, value in shown]}
+        """What a scope or a table has."""
+        shown = variables(self._sitting.debugger, int(given["variablesReference"]))
+        return {"variables": [{"name": it.name, "value": it.value, "variablesReference": it.table,
+                               **({"memoryReference": it.address} if it.address else {})} for it in shown]}
+
+    def _disassemble(self, given: Message) -> Message:
+        """Instructions as memory has them now."""
+        offset = int(given.get("offset") or 0) + int(given.get("instructionOffset") or 0)
+        return {"instructions": disassembled(self._sitting.debugger, str(given["memoryReference"]), offset, int(given["instructionCount"]))}
+
+    def _read_memory(self, given: Message) -> Message:
+        """Words of memory, of which each is ten bytes: nine octal digits and a space."""
+        address, data, unread = read_bytes(self._sitting.debugger, str(given["memoryReference"]), int(given.get("offset") or 0), int(given["count"]))
+        return {"address": address, "data": data, "unreadableBytes": unread}
+
+    def _completions(self, given: Message) -> Message:
+        """What the last word of a line of the console may become."""
+        text = str(given["text"])[:max(0, int(given["column"]) - 1)]
+        length = len(text.split(" ")[-1])
+        return {"targets": [{"label": it, "start": len(text) - length, "length": length} for it in completions(self._sitting, text)]}
 
     def _evaluate(self, given: Message) -> Message:
         """An expression; in the client's console a command of the prompt."""
         console, text = self._sitting, str(given["expression"])
         if given.get("context") != "repl":
             return {"result": in_all_forms(console.value(text)), "variablesReference": 0}
-        before = console.debugger.position
+        before = console.debugger.position, console.debugger.deck, console.debugger.is_through, console.debugger.program
         try:
             told = carry_out(console, text) if tokens(text) else []
         except Leave:
             raise CommandError("the client's own command ends the session") from None
-        if console.debugger.position != before:
+        now = console.debugger.position, console.debugger.deck, console.debugger.is_through, console.debugger.program
+        if now[0] != before[0] or now != before and not self._tells_invalid:
             self._event("stopped", reason="goto", threadId=THREAD, allThreadsStopped=True)
+        elif now != before:
+            self._event("invalidated", areas=["all"])
         return {"result": "\n".join(told), "variablesReference": 0}

@@ -7,6 +7,7 @@ from typing import TypeAlias
 from lvdc.lines import tokens
 from lvdc.lvdb.console import Console
 from lvdc.lvdb.errors import CommandError
+from lvdc.limits import MOST_CHARACTERS
 
 Told: TypeAlias = Iterable[str]
 Run: TypeAlias = Callable[[Console, list[str]], Told]
@@ -58,16 +59,20 @@ def find(word: str) -> Command:
 
 def split(line: str) -> tuple[Command, list[str]]:
     """The command of a line and its words; what stands behind `/` in the first is the next."""
-    first, *words = tokens(line)
+    first, *words = tokens(line) or [""]
+    if not first:
+        raise CommandError("a command is missing; `help` shows all")
     name, slash, form = first.partition("/")
     found = find(name)
-    if slash and found.name not in ("x", "print"):
+    if slash and found.name not in ("x", "print", "disassemble"):
         raise found.wrong(f"{found.name} has no format")
     return found, [slash + form, *words] if slash else words
 
 
 def carry_out(console: Console, line: str) -> list[str]:
     """What a line is answered; it has a command."""
+    if len(line) > MOST_CHARACTERS:
+        raise CommandError(f"a line has at most {MOST_CHARACTERS} characters")
     found, words = split(line)
     return list(found.run(console, words))
 
@@ -75,7 +80,7 @@ def carry_out(console: Console, line: str) -> list[str]:
 def want_nothing(name: str, words: list[str]) -> None:
     """Wants no words."""
     if words:
-        raise COMMANDS[name].wrong(f"nothing stands behind {name}")
+        raise COMMANDS[name.split(" ")[0]].wrong(f"nothing stands behind {name}")
 
 
 def count_in(name: str, words: list[str]) -> int:

@@ -1,49 +1,96 @@
-"""Where a run comes to a place, or stores another word: looked for in traces, whose pieces grow, or by a debug session, which is asked
-nothing in between."""
+"""Where a run comes to a place, or a word is stored or read: looked for in traces, whose pieces grow, or by a debug session, which is
+asked nothing in between."""
+import heapq
 from collections.abc import Callable, Iterator, Set
 from dataclasses import dataclass, field
 
 from lvdc.ends import Done
 from lvdc.lvdb.places import hop_of, place_of
 from lvdc.lvdb.replays import BANKS_OF_SESSIONS, LONG, SHORT, Replay, steps_made
-from lvdc.lvdb.states import HOLD, MOST_HELD
+from lvdc.lvdb.states import A, HOLD, MOST_HELD, PLACE, PQ, SAVER
 from lvdc.lvdb.windows import Window
 from lvdc.sessions import At, Ended, Limit, Session
 from lvdc.values import STEPS_A_TIME, Address, Hop, Place, Word
 
 MOST_BREAKS = 16
+LATCHES_WATCHED = {"A": A, "PQ": PQ, "SAVER": SAVER}
 _MOST_BYTES = 1_048_576
 _GROWTH = 8
 _FEW_GOES = 2_000
 
+Words = dict[Address, Word | None]
+
+
+@dataclass(frozen=True, slots=True)
+class Change:
+    """That another word is stored at an address, or is in a register by its name."""
+
+    at: Address | str
+
+
+@dataclass(frozen=True, slots=True)
+class Read:
+    """That an instruction takes a word as its operand."""
+
+    at: Address
+
+
+@dataclass(frozen=True, slots=True)
+class Caught:
+    """That a mistake is made, of which kind, and in words."""
+
+    kind: str
+    text: str
+
+
+What = Place | Change | Read | Caught
+
 
 @dataclass(frozen=True, slots=True)
 class Found:
-    """Where a search came to: so many steps are made. `address` is that of the word that was stored, with the word before and the word
-    that it is then."""
+    """Where a search came to: so many steps are made. `what` is the place that comes next, or what a step did, with the word before and
+    the word that it is then; None is the end of the run."""
 
     position: int
-    address: Address | None = None
+    what: What | None = None
     before: Word | None = None
     after: Word | None = None
 
 
+Met = Callable[[Found, Words, Window], bool]
+
+
 @dataclass(frozen=True)
 class Wanted:
-    """What is looked for: places of the next instruction, and words that change."""
+    """What is looked for: places of the next instruction, changes and reads, and mistakes, which were found before; and at which of them
+    the search stops: without `is_met` at each. `asked` are the words that this depends on."""
 
     places: Set[Place] = frozenset()
-    addresses: Set[Address] = frozenset()
+    changes: Set[Change] = frozenset()
+    reads: Set[Read] = frozenset()
+    caught: tuple[Found, ...] = ()
+    asked: Set[Address] = frozenset()
+    is_met: Met | None = None
 
     @property
     def is_nothing(self) -> bool:
         """Whether only the end of the run is looked for."""
-        return not self.places and not self.addresses
+        return not (self.places or self.changes or self.reads or self.caught)
 
     @property
     def fits_a_session(self) -> bool:
-        """Whether a debug session can look for it: some places, in the banks that it knows."""
-        return not self.addresses and len(self.places) <= MOST_BREAKS and all(it.module < BANKS_OF_SESSIONS for it in self.places)
+        """Whether a debug session can look for it: some places, in the banks that it knows, each of which is a stop."""
+        is_plain = not (self.changes or self.reads or self.caught or self.is_met)
+        return is_plain and len(self.places) <= MOST_BREAKS and all(it.module < BANKS_OF_SESSIONS for it in self.places)
+
+    @property
+    def known(self) -> set[Address]:
+        """The words that have to be known."""
+        return {*self.asked, *(it.at for it in self.changes if isinstance(it.at, Address))}
+
+    def stops(self, found: Found, words: Words, window: Window) -> bool:
+        """Whether the search stops there."""
+        return self.is_met is None or self.is_met(found, words, window)
 
 
 @dataclass
@@ -73,48 +120,73 @@ class Arrivals:
         return cls(is_behind)
 
 
-def spans(window: Window, arrivals: Arrivals) -> list[range]:
-    """The last steps of instruction times after which the place is one that is looked for, told by a piece."""
-    return [range(it.start + (2 - it.start) % STEPS_A_TIME, it.stop, STEPS_A_TIME) for it in window.spans(arrivals)]
+# ---- what a piece of a trace tells
 
-
-def first_arrival(window: Window, arrivals: Arrivals, above: int) -> int | None:
-    """The least position above another at which a piece shows a place that is looked for, and no hold is left."""
-    for span in spans(window, arrivals):
-        for step in span[max(0, (above - span.start) // STEPS_A_TIME):]:
-            if step + 1 > above and not _is_held(window, step):
-                return step + 1
-    return None
-
-
-def last_arrival(window: Window, arrivals: Arrivals, below: int) -> int | None:
-    """The greatest such position below another."""
-    for span in reversed(spans(window, arrivals)):
-        for step in reversed(span):
-            if step + 1 < below and not _is_held(window, step):
-                return step + 1
-    return None
+def arrivals_in(window: Window, arrivals: Arrivals) -> Iterator[int]:
+    """The positions at which a piece shows a place that is looked for, and no hold is left."""
+    for span in window.spans(arrivals):
+        for step in range(span.start + (2 - span.start) % STEPS_A_TIME, span.stop, STEPS_A_TIME):
+            if not _is_held(window, step):
+                yield step + 1
 
 
 def _is_held(window: Window, step: int) -> bool:
     """Whether a hold is left after a step."""
-    module, index = HOLD
-    return window.votes(step)[module][index] % MOST_HELD != 0
+    return window.latch(step, *HOLD) % MOST_HELD != 0
 
 
-def changes(window: Window, known: dict[Address, Word | None], first: int) -> list[Found]:
-    """What is stored at some addresses from a position on, as far as a piece tells, where it is another word than before. `known` has the
-    words that they are then, and has those after the piece in the end."""
-    stores = sorted((step, it, Word.read(line[:9])) for it in known for step, line, _ in window.told(f"STORE {it} ") if step >= first)
-    found: list[Found] = []
-    for step, address, word in stores:
-        if known[address] != word:
-            found.append(Found(step + 1, address, known[address], word))
-        known[address] = word
-    return found
+def places_in(window: Window, places: Set[Place], replay: Replay) -> Iterator[Found]:
+    """The places that the run comes to."""
+    for position in arrivals_in(window, Arrivals.at(places, replay)) if places else ():
+        yield Found(position, place_of(window.latch(position - 1, *PLACE), replay.simplex))
 
 
-def words_at(replay: Replay, position: int, addresses: Set[Address]) -> dict[Address, Word | None]:
+def stores_in(window: Window, address: Address) -> Iterator[Found]:
+    """All stores at an address, whatever the word was before."""
+    for step, line, _ in window.told(f"STORE {address} "):
+        yield Found(step + 1, Change(address), None, Word.read(line[:9]))
+
+
+def reads_in(window: Window, read: Read) -> Iterator[Found]:
+    """The reads of a word, each at the end of its instruction time, or of the run where that comes first."""
+    for step, line, _ in window.told(f"OPERAND {read.at} "):
+        yield Found(min(window.past, (step // STEPS_A_TIME + 1) * STEPS_A_TIME), read, None, Word.read(line[:9]))
+
+
+def latch_changes_in(window: Window, change: Change, before: Word | None) -> Iterator[Found]:
+    """The changes of a register; `before` is what it is before the piece."""
+    module, index = LATCHES_WATCHED[str(change.at)]
+    for step, line, _ in window.told(f"VOTE {module} "):
+        word = Word.read(line[10 * index:10 * index + 9])
+        if before is not None and word != before:
+            yield Found(step + 1, change, before, word)
+        before = word
+
+
+def events_in(replay: Replay, window: Window, wanted: Wanted, words: Words) -> Iterator[Found]:
+    """All that is looked for, in the order of the positions. `words` are those before the piece, and go on with it."""
+    stores = [stores_in(window, it) for it in sorted(words)]
+    reads = [reads_in(window, it) for it in wanted.reads]
+    latches = [latch_changes_in(window, it, _latch_before(replay, window, it)) for it in wanted.changes if isinstance(it.at, str)]
+    caught = [it for it in wanted.caught if window.first < it.position <= window.past]
+    for found in heapq.merge(*stores, *reads, *latches, caught, places_in(window, wanted.places, replay), key=lambda it: it.position):
+        what = found.what
+        if not isinstance(what, Change) or isinstance(what.at, str):
+            yield found
+            continue
+        before, words[what.at] = words[what.at], found.after
+        if what in wanted.changes and before != found.after:
+            yield Found(found.position, what, before, found.after)
+
+
+def _latch_before(replay: Replay, window: Window, change: Change) -> Word:
+    """A register before the first step of a piece."""
+    return replay.state(window.first).latch(LATCHES_WATCHED[str(change.at)])
+
+
+# ---- pieces
+
+def words_at(replay: Replay, position: int, addresses: Set[Address]) -> Words:
     """The words of some addresses."""
     rising = sorted(addresses)
     return dict(zip(rising, replay.words(position, rising))) if rising else {}
@@ -142,16 +214,18 @@ def pieces_back(replay: Replay, position: int) -> Iterator[Window]:
         yield window
 
 
+# ---- on and back
+
 def onward(replay: Replay, position: int, wanted: Wanted) -> Found:
-    """Goes on to the first place or change that is looked for, else to the end of the run."""
+    """Goes on to the first place or step that is looked for, else to the end of the run."""
     if wanted.is_nothing:
         return Found(end_of(replay))
-    arrivals, known = Arrivals.at(wanted.places, replay), words_at(replay, position, wanted.addresses)
     for number, window in enumerate(pieces_onward(replay, position)):
-        at = first_arrival(window, arrivals, position) if wanted.places else None
-        found = [*changes(window, known, position)[:1], *([] if at is None else [Found(at)])]
-        if found:
-            return min(found, key=lambda it: it.position)
+        if number == 0:
+            words = words_at(replay, window.first, wanted.known)
+        for found in events_in(replay, window, wanted, words):
+            if found.position > position and wanted.stops(found, words, window):
+                return found
         if number == 1 and window.end is None and wanted.fits_a_session and not replay.is_through:
             return Found(_go(replay, window.past, wanted.places))
     return Found(end_of(replay))
@@ -162,41 +236,40 @@ def end_of(replay: Replay) -> int:
     return replay.reach(STEPS_A_TIME * replay.deck.count)
 
 
-def onward_to(replay: Replay, position: int, arrivals: Arrivals, is_right: Callable[[int], bool] = lambda _: True) -> int:
-    """Goes on to the first place that is looked for, at a position that is right too; else to the end of the run."""
+def onward_to(replay: Replay, position: int, arrivals: Arrivals, is_right: Callable[[int], bool] = lambda _: True) -> int | None:
+    """Goes on to the first place that is looked for, at a position that is right too; None where the run ends before."""
     for window in pieces_onward(replay, position):
-        above: int | None = position
-        while above is not None:
-            above = first_arrival(window, arrivals, above)
-            if above is not None and is_right(above):
-                return above
-    return end_of(replay)
+        for at in arrivals_in(window, arrivals):
+            if at > position and is_right(at):
+                return at
+    return None
 
 
 def back(replay: Replay, position: int, wanted: Wanted) -> Found | None:
-    """Goes back to the last place that is looked for, or to the beginning of the last instruction time that changed a word; None where
-    there is none down to the beginning of the run."""
-    arrivals = Arrivals.at(wanted.places, replay)
+    """Goes back to the last place that is looked for, or to the beginning of the last instruction time that changed or read a word; None
+    where there is none down to the beginning of the run."""
     for number, window in enumerate(() if wanted.is_nothing else pieces_back(replay, position)):
-        at = last_arrival(window, arrivals, position) if wanted.places else None
-        found = [*_last_change(replay, window, wanted.addresses, position), *([] if at is None else [Found(at)])]
-        if found:
-            return max(found, key=lambda it: it.position)
+        words = words_at(replay, window.first, wanted.known)
+        found = [_before(it) for it in events_in(replay, window, wanted, words) if it.position <= position and wanted.stops(it, words, window)]
+        made = [it for it in found if it.position < position]
+        if made:
+            return max(made, key=lambda it: it.position)
         if number == 1 and window.first > 0 and wanted.fits_a_session and not replay.is_through:
             return _come(replay, window.first, wanted.places)
     return _at_the_beginning(replay, position, wanted.places)
 
 
-def _last_change(replay: Replay, window: Window, addresses: Set[Address], position: int) -> list[Found]:
-    """The last change up to a position that a piece tells, from the beginning of its instruction time."""
-    stored = {it for it in addresses if f"\nSTORE {it} " in window.text}
-    made = [it for it in changes(window, words_at(replay, window.first, stored), window.first) if it.position <= position]
-    return [Found((it.position - 1) // STEPS_A_TIME * STEPS_A_TIME, it.address, it.before, it.after) for it in made[-1:]]
+def _before(found: Found) -> Found:
+    """Where one stops going back: at a place, or at the beginning of the instruction time that did it."""
+    if isinstance(found.what, Place):
+        return found
+    return Found((found.position - 1) // STEPS_A_TIME * STEPS_A_TIME, found.what, found.before, found.after)
 
 
 def _at_the_beginning(replay: Replay, position: int, places: Set[Place]) -> Found | None:
     """The beginning, where it is above no position that is asked for and stands at one of the places."""
-    return Found(0) if position > 0 and replay.start.place(replay.simplex) in places else None
+    start = replay.start.place(replay.simplex)
+    return Found(0, start) if position > 0 and start in places else None
 
 
 def _breaks(places: Set[Place]) -> list[str]:

@@ -1,34 +1,35 @@
 """The debugger's own state: a deck with the faults that were put in, the mode, and how many steps of the run are made."""
+from collections.abc import Callable, Set
 from dataclasses import dataclass, replace
+from pathlib import Path
 
 from lvdc import commands
 from lvdc.decks import Deck
 from lvdc.ends import Done, End, Inadmissible, Logic, Stopped
 from lvdc.faults import Fault
-from lvdc.lvdb.calls import Stack, stack_at
+from lvdc.listings import Instruction
+from lvdc.lvdb.breakpoints import Breakpoint, Breakpoints, find_again
+from lvdc.lvdb.calls import Stack, came_by_hop, returned, stack_at
 from lvdc.lvdb.errors import CommandError
-from lvdc.lvdb.places import hop_of
-from lvdc.lvdb.program import Program
+from lvdc.lvdb.expressions import Words as Given
+from lvdc.lvdb.expressions import addresses_in, evaluate
+from lvdc.lvdb.made import Made
+from lvdc.lvdb.mistakes import Looked, look_for_mistakes
+from lvdc.lvdb.operands import named
+from lvdc.lvdb.places import bank_of, hop_of
+from lvdc.lvdb.program import Program, load
 from lvdc.lvdb.replays import Decoder, Replay
-from lvdc.lvdb.searches import Arrivals, Found, Wanted, back, onward, onward_to
-from lvdc.lvdb.states import INSTR, PLACE, State
+from lvdc.lvdb.searches import Arrivals, Caught, Change, Found, Read, Wanted, Words, back, end_of, onward, onward_to
+from lvdc.lvdb.states import DATA, INSTR, PLACE, State
+from lvdc.lvdb.windows import Window
+from lvdc.parts import Parts
 from lvdc.refusals import NoAnswer
 from lvdc.traces import Form
-from lvdc.values import NAMES, STEPS_A_TIME, Address, Place
+from lvdc.values import NAMES, STEPS_A_TIME, Address, Hop, Place, Word
 from lvdc.workers import Asker
 
 _KEPT_REPLAYS = 4
 SYLLABLE = (1 << 13) - 1
-
-
-@dataclass(frozen=True, slots=True)
-class Breakpoint:
-    """Where a run is to stop: at a place, or where the word at an address changes. `text` is what was typed."""
-
-    number: int
-    at: Place | Address
-    text: str
-    is_temporary: bool = False
 
 
 @dataclass(frozen=True, slots=True)
@@ -45,13 +46,13 @@ class Debugger:
     changed."""
 
     def __init__(self, program: Program, asker: Asker) -> None:
-        self.program, self._asker = program, asker
+        self.program, self.asker = program, asker
         self.position = 0
         self.is_through = False
         self.injected: tuple[Fault, ...] = ()
-        self.breakpoints: dict[int, Breakpoint] = {}
+        self.breakpoints = Breakpoints()
         self.decoder = Decoder(asker)
-        self._last_number = 0
+        self._mistakes: dict[tuple[tuple[Fault, ...], bool], Looked] = {}
         self._replays: dict[tuple[tuple[Fault, ...], bool], Replay] = {}
 
     # ---- what there is
@@ -73,7 +74,7 @@ class Debugger:
     def _replay_of(self, injected: tuple[Fault, ...], is_through: bool) -> Replay:
         """A run with these faults; those that were asked last are kept."""
         key = injected, is_through
-        found = self._replays.pop(key, None) or Replay(self._deck_with(injected), is_through, self._asker, self.program.simplex)
+        found = self._replays.pop(key, None) or Replay(self._deck_with(injected), is_through, self.asker, self.program.simplex)
         self._replays[key] = found
         while len(self._replays) > _KEPT_REPLAYS:
             del self._replays[next(iter(self._replays))]
@@ -88,6 +89,12 @@ class Debugger:
     def place(self) -> Place:
         """Where the next instruction stands; within an instruction time, where its instruction stands."""
         return self.state.place(self.program.simplex)
+
+    @property
+    def data(self) -> tuple[int, int]:
+        """The bank and the sector from which the machine takes its data."""
+        hop = hop_of(self.state.latch(DATA))
+        return bank_of(hop.data_module, self.program.simplex), hop.data_sector
 
     @property
     def end(self) -> End | None:
@@ -130,15 +137,52 @@ class Debugger:
         return self.go_to((-(-self.position // STEPS_A_TIME) - count) * STEPS_A_TIME)
 
     def proceed(self) -> Stop:
-        """Goes on to a breakpoint or a change that is watched, else to the end."""
+        """Goes on to a breakpoint or to what is watched, else to the end."""
         self._need_future()
-        return self._arrive(onward(self.replay, self.position, self._wanted()))
+        return self._proceed_from(self.position, self.breakpoints.copy())
+
+    def run(self) -> Stop:
+        """Begins anew, and goes on likewise; a breakpoint where the run begins is met at once."""
+        counted, start = self.breakpoints.copy(), self.replay.start
+        met = [it for it in counted.at_place(start.place(self.program.simplex)) if self._holds(it.condition, self._loaded, start.latch)]
+        return self._arrive(Found(0), counted) if counted.pass_over(met) else self._proceed_from(0, counted)
+
+    def _loaded(self, address: Address) -> Word | None:
+        """A word as it is where the run begins."""
+        return self.replay.words(0, [address])[0]
+
+    def _proceed_from(self, position: int, counted: Breakpoints) -> Stop:
+        """Goes on from a position."""
+        return self._arrive(onward(self.replay, position, self._wanted(counted)), counted)
 
     def reverse(self) -> Stop:
-        """Goes back to a breakpoint or before a change that is watched, else to the beginning."""
+        """Goes back to a breakpoint or before what is watched, else to the beginning. Hits aren't counted going back."""
         self._need_past()
-        found = back(self.replay, self.position, self._wanted())
-        return self._move(0, "the run begins here") if found is None else self._arrive(found)
+        found = back(self.replay, self.position, self._wanted(self.breakpoints.without_counts()))
+        return self._move(0, "the run begins here") if found is None else self._arrive(found, self.breakpoints)
+
+    def next(self, count: int = 1) -> Stop:
+        """Makes instructions as `step` does, but a call of a subroutine up to its return, and a product that is waited for up to its end."""
+        self._need_future()
+        before, position = self.state, self.position
+        for _ in range(count):
+            position, reasons = self._next_from(position)
+            if reasons is not None or self.replay.end_at(position) is not None:
+                break
+        stop = self._move(position) if reasons is None else self._arrive(*reasons)
+        return replace(stop, before=before)
+
+    def _next_from(self, position: int) -> tuple[int, tuple[Found, Breakpoints] | None]:
+        """Where the instruction at a position is done, with its call; or the breakpoint that comes before."""
+        time = position // STEPS_A_TIME
+        after = self.replay.reach((time + 1) * STEPS_A_TIME)
+        back_at = returned(self.replay, time, self.program.simplex) if position % STEPS_A_TIME == 0 else None
+        if back_at is None:
+            return self.replay.reach(after + STEPS_A_TIME * self.replay.state(after).hold), None
+        counted = self.breakpoints.copy()
+        wanted = self._wanted(counted)
+        found = Found(back_at) if wanted.is_nothing else onward(self.replay, after - 1, wanted)
+        return (back_at, None) if found.position >= back_at else (found.position, (found, counted))
 
     def run_to(self, place: Place) -> Stop:
         """Goes on to a place, whatever breakpoints there are on the way."""
@@ -148,7 +192,7 @@ class Debugger:
     def run_behind(self) -> Stop:
         """Goes on to a place behind this one in its sector, so out of a loop that ends here."""
         self._need_future()
-        return self._move(onward_to(self.replay, self.position, Arrivals.behind(hop_of(self.state.latch(PLACE)))))
+        return self._move(self._or_end(onward_to(self.replay, self.position, Arrivals.behind(hop_of(self.state.latch(PLACE))))))
 
     def finish(self) -> Stop:
         """Goes on until the innermost call has returned by a HOP."""
@@ -159,33 +203,38 @@ class Debugger:
             raise CommandError(f"no HOP has called a subroutine that hasn't returned{since}; `until PLACE` goes on to a place")
         innermost = stack.calls[-1]
         arrivals = Arrivals.at(frozenset([innermost.back]), self.replay)
-        return self._move(onward_to(self.replay, self.position, arrivals, self._came_by_hop))
+        return self._move(self._or_end(onward_to(self.replay, self.position, arrivals, lambda it: came_by_hop(self.replay, it))))
 
-    def _came_by_hop(self, position: int) -> bool:
-        """Whether the instruction that was made last is a HOP."""
-        syllable = self.replay.state(position).latch(INSTR) & SYLLABLE
-        return self.decoder.instruction(syllable).startswith("HOP ")
+    def _or_end(self, position: int | None) -> int:
+        """A position, or the end of the run where there is none."""
+        return end_of(self.replay) if position is None else position
 
     def _advance(self, position: int) -> Stop:
         """Goes on to where so many steps are made."""
         self._need_future()
         return self._move(self.replay.reach(position))
 
-    def _arrive(self, found: Found) -> Stop:
-        """Stops where a search came to; a breakpoint for one time is used up."""
-        reasons = []
-        if found.address is not None:
-            watched = next(it for it in self.breakpoints.values() if it.at == found.address)
-            words = ["?" if it is None else str(it) for it in (found.before, found.after)]
-            reasons.append(f"watch {watched.number}: {watched.text} {words[0]} -> {words[1]}")
+    def _arrive(self, found: Found, counted: Breakpoints) -> Stop:
+        """Stops where a search came to; the hits were counted, and a breakpoint for one time is used up."""
+        met = [it for it in counted.values() if it.meets(found.what)] if isinstance(found.what, Change | Read | Caught) else []
+        reasons = [it.reason(found, self._instructions) for it in met]
         stop = self._move(found.position)
         if found.position % STEPS_A_TIME == 0 and not stop.now.hold:
-            here = self.place
-            for it in [it for it in self.breakpoints.values() if it.at == here]:
-                reasons.append(f"breakpoint {it.number}: {it.text}")
-                if it.is_temporary:
-                    del self.breakpoints[it.number]
+            here = [it for it in counted.at_place(self.place) if it.left == 0 and self._holds(it.condition, self.word_now, self.state.latch)]
+            reasons += [f"breakpoint {it.number}: {it.text}" for it in here]
+            met += here
+        self.breakpoints = counted.hit(met)
         return replace(stop, reasons=tuple(reasons))
+
+    def _instructions(self, address: Address, words: tuple[Word | None, Word | None]) -> str:
+        """What the instruction in a word was, and what it is; empty where the source has none there."""
+        told = []
+        for row in self.program.code_at(address):
+            assert isinstance(row.field, Instruction)
+            place = row.field.place
+            halves = [0 if it is None else int(it) >> 13 if place.syllable else int(it) & SYLLABLE for it in words]
+            told.append(" -> ".join(self.named(it, place) for it in halves))
+        return f", {'; '.join(told)}" if told else ""
 
     def _move(self, position: int, *reasons: str) -> Stop:
         """Stands at a position that the run comes to."""
@@ -193,10 +242,27 @@ class Debugger:
         self.position = position
         return Stop(before, now, reasons)
 
-    def _wanted(self) -> Wanted:
-        """What breakpoints look for."""
-        at = [it.at for it in self.breakpoints.values()]
-        return Wanted(frozenset(it for it in at if isinstance(it, Place)), frozenset(it for it in at if isinstance(it, Address)))
+    def _wanted(self, counted: Breakpoints) -> Wanted:
+        """What breakpoints look for. Where one has a condition or a count, hits are counted in `counted` as they come."""
+        whats = {what for it in counted.values() for what in it.whats}
+        kinds = {kind for it in counted.values() for kind in it.kinds}
+        asked = {at for it in counted.values() for at in addresses_in(it.condition, self.program)}
+        caught = tuple(Found(it.position, Caught(it.kind, it.text)) for it in self.mistakes().found if it.kind in kinds) if kinds else ()
+
+        def is_met(found: Found, words: Words, window: Window) -> bool:
+            met = [it for it in counted.values() if it.meets(found.what) and self._holds(
+                it.condition, words.__getitem__, lambda at: window.latch(found.position - 1, *at))]
+            return counted.pass_over(met)
+        return Wanted(frozenset(it for it in whats if isinstance(it, Place)), frozenset(it for it in whats if isinstance(it, Change)),
+                      frozenset(it for it in whats if isinstance(it, Read)), caught, asked, is_met if counted.are_counted else None)
+
+    def _holds(self, condition: str, word: Callable[[Address], Word | None], latch: Callable[[tuple[int, int]], Word]) -> bool:
+        """Whether a condition isn't 0; one of a word that can't be recovered holds, so that it is seen."""
+        return not condition or evaluate(condition, Given(self.program, word, latch)) != 0
+
+    def word_now(self, address: Address) -> Word | None:
+        """A word of memory now."""
+        return self.replay.words(self.position, [address])[0]
 
     def _need_future(self) -> None:
         """Wants that a step is left."""
@@ -211,13 +277,68 @@ class Debugger:
 
     # ---- breakpoints
 
-    def add_breakpoint(self, at: Place | Address, text: str, is_temporary: bool = False) -> Breakpoint:
-        """Sets a breakpoint at a place, or watches a word."""
-        if any(it.at == at for it in self.breakpoints.values()):
-            raise CommandError(f"{text} has a breakpoint already; `info breakpoints` shows them")
-        self._last_number += 1
-        self.breakpoints[self._last_number] = Breakpoint(self._last_number, at, text, is_temporary)
-        return self.breakpoints[self._last_number]
+    def add_breakpoint(self, kind: str, at: Place | Address | str, text: str, typed: str = "", kinds: Set[str] = frozenset()) -> Breakpoint:
+        """Sets a breakpoint at a place, watches a word or a register, or catches mistakes."""
+        return self.breakpoints.add(Breakpoint(self.breakpoints.last + 1, kind, at, text, typed, frozenset(kinds)))
+
+    def set_condition(self, number: int, condition: str) -> Breakpoint:
+        """Gives a breakpoint a condition, which is tried now; an empty one takes it away."""
+        self._holds(condition, self.word_now, self.state.latch)
+        return self.breakpoints.change(number, condition=condition)
+
+    def faultless(self) -> Replay:
+        """The run without any fault."""
+        return Replay(self.program.deck.with_faults(), self.is_through, self.asker, self.program.simplex)
+
+    # ---- mistakes
+
+    def mistakes(self) -> Looked:
+        """The mistakes of the run as it is now."""
+        key = self.injected, self.is_through
+        if key not in self._mistakes:
+            self._mistakes = {key: look_for_mistakes(self.program, self.replay, self.described, self.asker)}
+        return self._mistakes[key]
+
+    def described(self, made: Made) -> str:
+        """An instruction time in words."""
+        line = self.program.line_of(made.place)
+        where = f"line {line}" if line is not None else str(made.place)
+        return f"time {made.time}, {self.named(made.syllable, made.place, hop_of(made.before.data))} ({where})"
+
+    def named(self, syllable: int, place: Place, data: Hop | None = None) -> str:
+        """An instruction with the name of its operand; where it is that of its line, as it stands there."""
+        row = self.program.rows.get(place)
+        if row is not None and isinstance(row.field, Instruction) and row.field.syllable == syllable:
+            parts = Parts.of(row.line)
+            return f"{parts.operation} {parts.operand}"
+        if data is None and place in self.program.uses:
+            use = self.program.uses[place]
+        else:
+            hop = hop_of(self.state.latch(DATA)) if data is None else data
+            use = bank_of(hop.data_module, self.program.simplex), hop.data_sector
+        return named(self.program, self.decoder.instruction(syllable), place, use)
+
+    # ---- an edit
+
+    def reload(self) -> list[str]:
+        """Reads the file anew, and stands at the beginning. Breakpoints and faults stay as far as they still have a meaning; those that have
+        none are told."""
+        program = load(Path(self.program.path), self.program.options, self.asker)
+        fresh = Debugger(program, self.asker)
+        fresh.is_through = self.is_through
+        told = []
+        for it in self.breakpoints.values():
+            try:
+                fresh.breakpoints.add(replace(it, **find_again(program, it)))
+            except CommandError as error:
+                told.append(f"{it.kind} {it.number} is gone: {error}")
+        for fault in self.injected:
+            try:
+                fresh.inject(fault)
+            except CommandError as error:
+                told.append(f"{fault} is out: {error}")
+        self.__dict__.update(fresh.__dict__)
+        return told
 
     # ---- faults and the mode
 
@@ -243,7 +364,7 @@ class Debugger:
         """Replays another deck, or the same in another mode, to the same step; or to its end, where that comes first."""
         replay = self._replay_of(injected, is_through)
         try:
-            commands.form(replay.text, worker=self._asker)
+            commands.form(replay.text, worker=self.asker)
         except NoAnswer as refused:
             raise CommandError(f"the deck can't have it: {refused}") from refused
         before, position = self.state, replay.reach(self.position)
@@ -253,8 +374,8 @@ class Debugger:
 
     def judge(self) -> tuple[End, int, Form]:
         """How the guarded run ends, how many instruction times it makes, and the form of its script."""
-        report = commands.run(self.deck, worker=self._asker)
-        return report.end, report.registers.times, commands.form(self.deck, worker=self._asker)
+        report = commands.run(self.deck, worker=self.asker)
+        return report.end, report.registers.times, commands.form(self.deck, worker=self.asker)
 
 
 def describe_end(end: End, count: int) -> str:

@@ -3,12 +3,14 @@ from collections.abc import Iterator
 from dataclasses import dataclass
 
 from lvdc.listings import Instruction
-from lvdc.lvdb.session import Debugger, Stop, describe_end
-from lvdc.lvdb.states import State, all_latches
+from lvdc.lvdb.history import last_access
+from lvdc.lvdb.places import address_of, hop_of
+from lvdc.lvdb.session import SYLLABLE, Debugger, Stop, describe_end
+from lvdc.lvdb.states import DATA, INSTR, State, all_latches
 from lvdc.traces import MemoryExchange, Step, StepExchange
 from lvdc.values import COPIES, LATCHES, NAMES, STEPS_A_TIME, Place, Word
 
-_MOST_COPIES = 6
+_MOST_COPIES, _PIECES_BACK = 6, 2
 _WITHOUT_CHANGE = ("PLACE",)
 
 
@@ -43,6 +45,8 @@ def stop_lines(debugger: Debugger, stop: Stop, style: Style) -> Iterator[str]:
     steps = last_steps(debugger, stop.now)
     yield from _exchange_lines(debugger, steps, stop.now)
     yield from _register_lines(stop)
+    if stop.now.pending is not None:
+        yield f"  {stop.now.pending}"
     yield from (style.alarm(it) for it in _fault_lines(steps, stop.now))
     end = debugger.end
     if end is not None:
@@ -63,15 +67,35 @@ def place_text(debugger: Debugger, place: Place) -> str:
 
 
 def instruction_lines(debugger: Debugger) -> Iterator[str]:
-    """The line of the source at hand, and the instruction in memory where there is no line or it is another one."""
-    place, syllable = debugger.place, debugger.syllable()
-    row = debugger.program.rows.get(place)
+    """The line of the source at hand, that of its expansion where it calls a macro, and the instruction in memory where it is another one."""
+    program, place, syllable = debugger.program, debugger.place, debugger.syllable()
+    row = program.rows.get(place)
     if row is not None:
-        yield f"{row.number + debugger.program.offset:5d}  {row.line}"
+        number = program.number_of(row)
+        yield f"{number:5d}  {program.line_at(number)}"
+        if program.is_written_out(row):
+            yield f"     =>{row.line}"
     due = row.field.syllable if row is not None and isinstance(row.field, Instruction) else None
     if syllable is not None and syllable != due:
-        instruction = debugger.decoder.instruction(syllable)
-        yield f"       {instruction}" if row is None else f"       memory has {instruction} here now"
+        instruction = debugger.named(syllable, place, hop_of(debugger.state.latch(DATA)))
+        yield f"       {instruction}" if row is None else f"       memory has {instruction} here now{_writer_of(debugger, place)}"
+
+
+def _writer_of(debugger: Debugger, place: Place) -> str:
+    """Which instruction wrote a word of code, where that is near."""
+    found = last_access(debugger.replay, debugger.position, address_of(place), pieces=_PIECES_BACK)
+    return "" if found is None else f", written at time {found.time} by {made_text(debugger, found.time)}"
+
+
+def made_text(debugger: Debugger, time: int) -> str:
+    """The instruction of an instruction time: its name, its line and what it is."""
+    replay = debugger.replay
+    state = replay.state(STEPS_A_TIME * time)
+    place = state.place(replay.simplex)
+    syllable = replay.state(STEPS_A_TIME * time + 1).latch(INSTR) & SYLLABLE
+    line = debugger.program.line_of(place)
+    where = f"line {line}: " if line is not None else f"{place}: "
+    return f"{where}{debugger.named(syllable, place, hop_of(state.latch(DATA)))}"
 
 
 def last_steps(debugger: Debugger, state: State) -> list[Step]:

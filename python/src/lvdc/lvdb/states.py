@@ -8,9 +8,29 @@ from lvdc.values import LATCHES, MODULES, STEPS_A_TIME, Place, Word
 
 # The latches that a debug session shows as registers, by their names there.
 A, PQ, SAVER, PLACE, DATA = (5, 0), (6, 0), (2, 1), (2, 0), (4, 0)
-HOLD, INSTR = (1, 1), (3, 0)
+HOLD, INSTR, CONTROL = (1, 1), (3, 0), (6, 1)
+# the kinds of what is under way in the arithmetic unit, by bits 1 and 0 of CONTROL
+_UNDER_WAY = {1: "MPY", 2: "MPH", 3: "DIV"}
 MOST_HELD = 8
 MODULE_NAMES = {"timer": 1, "locator": 2, "decoder": 3, "selector": 4, "accumulator": 5, "multiplier": 6, "exchange": 7}
+
+
+@dataclass(frozen=True, slots=True)
+class Pending:
+    """A product or quotient that is under way: of which instruction, and after how many instructions more it is there."""
+
+    name: str
+    instructions: int
+
+    def __str__(self) -> str:
+        where = "PQ and A" if self.name == "MPH" else "PQ"
+        return f"{self.name} lands in {where} in {self.instructions} instruction{'s' * (self.instructions != 1)}"
+
+
+def pending_of(control: int) -> Pending | None:
+    """What the latch CONTROL tells: a kind in bits 1 and 0, and in bits 6 to 2 the phases that are left."""
+    kind, phases = control & 3, control >> 2 & 31
+    return Pending(_UNDER_WAY[kind], -(-phases // STEPS_A_TIME)) if kind and phases else None
 
 
 @dataclass(frozen=True, slots=True)
@@ -40,6 +60,11 @@ class State:
     def hold(self) -> int:
         """How many instruction times are still held."""
         return self.latch(HOLD) % MOST_HELD
+
+    @property
+    def pending(self) -> Pending | None:
+        """The product or quotient that is under way."""
+        return pending_of(self.latch(CONTROL))
 
     @property
     def differing(self) -> Mapping[tuple[int, int], Latches]:

@@ -1,4 +1,5 @@
 """Pieces of traces, kept as text: a piece is searched by its lines, and a step of it is read where it is shown."""
+import re
 from collections.abc import Callable, Iterator
 from dataclasses import dataclass
 from functools import cached_property
@@ -6,9 +7,10 @@ from itertools import pairwise
 
 from lvdc.ends import End
 from lvdc.traces import Latches, Step, Trace
-from lvdc.values import MODULES
+from lvdc.values import MODULES, Word
 
 _TITLE = "LVDC TRACE\n"
+_STEP = re.compile("\nSTEP ")
 
 
 @dataclass(frozen=True)
@@ -39,6 +41,11 @@ class Window:
         at = self._start_of(number)
         return Trace.read(f"{_TITLE}{self.text[at:self._start_of(number + 1)]}MORE\n").steps[0]
 
+    def latch(self, number: int, module: int, index: int) -> Word:
+        """The vote over one latch after a step that it tells."""
+        at = self.text.rfind(f"\nVOTE {module} ", 0, self._start_of(number + 1)) + len("\nVOTE 1 ") + 10 * index
+        return Word.read(self.text[at:at + 9])
+
     def votes(self, number: int) -> dict[int, Latches]:
         """The votes of all modules after a step that it tells: of each module the line that was told last."""
         end = self._start_of(number + 1)
@@ -62,7 +69,12 @@ class Window:
         """Where the line of a step begins; that of the last line, where it is one more than the last step."""
         if number == self.past:
             return self.text.rfind("\n", 0, len(self.text) - 1) + 1
-        return self.text.index(f"\nSTEP {number}\n") + 1
+        return self._starts[number - self.first]
+
+    @cached_property
+    def _starts(self) -> list[int]:
+        """Where the line of each step begins."""
+        return [it.start() + 1 for it in _STEP.finditer(self.text)]
 
 
 def _last_step(text: str) -> int:

@@ -1,0 +1,92 @@
+"""Who wrote a word: all stores and reads of it that a run makes, and the instructions that a stored word came from."""
+from collections.abc import Iterator
+from dataclasses import dataclass
+
+from lvdc.lvdb.made import CLA, MPH, PIO, Made, made_between
+from lvdc.lvdb.replays import Replay
+from lvdc.lvdb.searches import pieces_back, pieces_onward
+from lvdc.lvdb.states import A, PQ, SAVER
+from lvdc.lvdb.windows import Window
+from lvdc.values import STEPS_A_TIME, Address, Place, Word
+
+# how many instruction times before a store are looked at for where its word came from
+_MOST_BEFORE = 200
+_LATCHES = {"A": A, "PQ": PQ, "SAVER": SAVER}
+
+
+@dataclass(frozen=True, slots=True)
+class Access:
+    """A store to a word, a read of it, or a change of a register: in which step, and which word it was before and then."""
+
+    step: int
+    before: Word | None
+    word: Word
+
+    @property
+    def time(self) -> int:
+        """Its instruction time."""
+        return self.step // STEPS_A_TIME
+
+
+Watched = Address | str
+
+
+def accesses(window: Window, at: Watched, is_read: bool) -> Iterator[Access]:
+    """The stores to a word that a piece tells, or the operand reads of it; of a register its changes."""
+    if isinstance(at, str):
+        yield from _changes_of(window, at)
+        return
+    kind = "OPERAND" if is_read else "STORE"
+    for step, line, _ in window.told(f"{kind} {at} "):
+        yield Access(step, None, Word.read(line[:9]))
+
+
+def _changes_of(window: Window, register: str) -> Iterator[Access]:
+    """The changes of a register's vote."""
+    module, index = _LATCHES[register]
+    before: Word | None = None
+    for step, line, _ in window.told(f"VOTE {module} "):
+        word = Word.read(line[10 * index:10 * index + 9])
+        if before is not None and word != before:
+            yield Access(step, before, word)
+        before = word
+
+
+def all_accesses(replay: Replay, at: Watched, is_read: bool) -> list[Access]:
+    """All of the whole run, in their order; each store with the word before it."""
+    found: list[Access] = []
+    for window in pieces_onward(replay, 0):
+        found += [it for it in accesses(window, at, is_read) if not found or it.step > found[-1].step]
+    if is_read or isinstance(at, str):
+        return found
+    words = [*replay.words(0, [at]), *(it.word for it in found)]
+    return [Access(it.step, before, it.word) for it, before in zip(found, words)]
+
+
+def last_access(replay: Replay, position: int, at: Watched, pieces: int | None = None) -> Access | None:
+    """The last store to a word, or change of a register, that is made before a position; None where so many pieces of the trace, or all of
+    them, have none."""
+    for number, window in enumerate(pieces_back(replay, position)):
+        if number == pieces:
+            return None
+        found = [it for it in accesses(window, at, False) if it.step < position]
+        if found:
+            before = found[-1].before if isinstance(at, str) else replay.words(found[-1].step, [at])[0]
+            return Access(found[-1].step, before, found[-1].word)
+    return None
+
+
+def place_at(replay: Replay, time: int) -> Place:
+    """Where the instruction of an instruction time stands."""
+    return replay.state(STEPS_A_TIME * time).place(replay.simplex)
+
+
+def source_of(replay: Replay, time: int) -> list[Made]:
+    """The instructions up to a time that A came from, the first of which takes nothing of an older A."""
+    found: list[Made] = []
+    for made in reversed(list(made_between(replay, max(0, time - _MOST_BEFORE), time))):
+        if made.makes_a:
+            found.insert(0, made)
+        if made.makes_a and made.code in (CLA, MPH, PIO):
+            break
+    return found
