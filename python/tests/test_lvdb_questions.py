@@ -85,6 +85,11 @@ def test_memory_is_disassembled_to_a_source_of_the_same_words(worker: Worker, pa
     assert {at: it for at, it in again.words.items() if it} == {at: it for at, it in image.words.items() if it}
 
 
+def test_an_image_is_disassembled_by_what_its_run_makes(worker: Worker) -> None:
+    console = sitting(EXAMPLES / "sum-that-wraps.deck", worker)
+    assert told(console, "disassemble/s").split("\n")[:4] == ["        ORG   0,00,0,000", "        CLA   000", "        ADD   001", "        STO   002"]
+
+
 def test_a_changed_program_is_disassembled_as_it_is(worker: Worker) -> None:
     console = sitting(EXAMPLES / "programs" / "sort.deck", worker)
     again = lvdc.assemble_image(told(console, "until STOP", "disassemble/s") + "\n", worker=worker)

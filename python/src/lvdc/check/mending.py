@@ -119,7 +119,7 @@ def findings_of(text: str, asker: Asker) -> Iterator[Finding]:
         except Refused as refused:
             found = finding_of(file, refused)
         is_mended = _mend(file, found, lost)
-        is_own = found.cause == "UndefinedName" and name_in(Parts.of(found.line).operand)[:_LONGEST_NAME] in lost
+        is_own = found.cause in ("UndefinedName", "OutOfSector") and name_in(Parts.of(found.line).operand)[:_LONGEST_NAME] in lost
         if not is_own:
             yield found if is_mended else Finding(found.cause, found.number, found.line, found.slip, True)
         if not is_mended:
@@ -164,7 +164,7 @@ def _mend(file: _File, found: Finding, lost: set[str]) -> bool:
     mended = _mended(found, parts, block_at(found.number - file.first, file.source))
     if mended is None:
         return False
-    if found.cause in ("BadLabel", "UnknownOperation") and parts.label:
+    if found.cause in ("BadLabel", "UnknownOperation", "BadDirective") and parts.label:
         lost.add(_NO_NAME.sub("", parts.label.upper())[:_LONGEST_NAME])
     file.lines[at] = mended
     return True

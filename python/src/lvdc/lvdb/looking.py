@@ -9,11 +9,13 @@ from lvdc.lvdb.disassembly import source_lines
 from lvdc.lvdb.errors import CommandError
 from lvdc.lvdb.expressions import fraction, in_all_forms
 from lvdc.lvdb.information import INFORMATION
+from lvdc.lvdb.made import made_between
+from lvdc.lvdb.mistakes import MOST_LOOKED
 from lvdc.lvdb.places import address_of, comma, hop_of, read_address, run_of
 from lvdc.lvdb.registry import COMMANDS, COUNT, Told, command, want_nothing
 from lvdc.lvdb.session import SYLLABLE
 from lvdc.lvdb.show import copies_lines
-from lvdc.values import STEPS_A_TIME, Address, Place, Word
+from lvdc.values import PAIRS, STEPS_A_TIME, Address, Place, Word
 
 _FORMAT = re.compile("/([0-9]*)(cells|[odfhi]?)")
 _LINES_SHOWN, _ROWS_SHOWN, _MOST_WORDS = 10, 8, 256
@@ -157,13 +159,21 @@ def disassemble(console: Console, words: list[str]) -> Told:
     debugger, count = console.debugger, _ROWS_SHOWN
     if words[:1] == ["/s"]:
         want_nothing("disassemble /s", words[1:])
-        return source_lines(debugger.program, debugger.replay.report(debugger.position // STEPS_A_TIME).words, debugger.decoder)
+        return _source_lines(console)
     if words and words[0].startswith("/"):
         raise COMMANDS["disassemble"].wrong(f"{words[0]!r} is no format")
     if len(words) in (2, 5) and COUNT.fullmatch(words[-1]):
         *words, last = words
         count = int(last)
     return _instruction_rows(console, debugger.program.find_place(words) if words else debugger.place, count)
+
+
+def _source_lines(console: Console) -> Iterator[str]:
+    """All of memory as a source. Instructions are those of the source; over an image those that the run makes."""
+    debugger = console.debugger
+    words = {at: it for at, it in debugger.replay.report(debugger.position // STEPS_A_TIME).words.items() if at.bank < len(PAIRS)}
+    places = set(debugger.program.rows) or {it.place for it in made_between(debugger.replay, 0, MOST_LOOKED) if not it.is_held}
+    return source_lines({it for it in places if it.module < len(PAIRS)}, words, debugger.decoder)
 
 
 def _instruction_rows(console: Console, place: Place, count: int) -> Iterator[str]:

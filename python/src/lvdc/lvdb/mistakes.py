@@ -108,7 +108,8 @@ class Finder:
         under_way = pending_of(made.before.control)
         whose = "what is under way"
         if under_way and self.issued:
-            whose = f"the {under_way.name} of time {self.issued.time}, {self._called(self.issued.place)},"
+            line = self.program.line_of(self.issued.place)
+            whose = f"the {under_way.name} of time {self.issued.time}" + (f", line {line}," if line is not None else "")
         if made.reads_pq and under_way:
             more = under_way.instructions
             yield "early", f"reads PQ, and {whose} lands in it {more} instruction{'s' * (more != 1)} later"
