@@ -88,13 +88,14 @@ void lvdc_repair(int bank, int at, int twin, int switched)
 
 // ---- What is written. printf is slow, and traces and logs are long.
 
-static void put_text(const char *text) { fputs(text, out); }
+static void put_text(const char *text) { while (*text) putc_unlocked(*text++, out); }
 
 static void put_number(uint32_t number, uint32_t base, int digits)
 {
-    char text[16], *first = text + sizeof text;
-    for (; number || digits > 0; number /= base, digits--) *--first = (char)('0' + number % base);
-    fwrite(first, 1, (size_t)(text + sizeof text - first), out);
+    char text[16];
+    int count = 0;
+    for (; number || digits > 0; number /= base, digits--) text[count++] = (char)('0' + number % base);
+    while (count > 0) putc_unlocked(text[--count], out);
 }
 
 // Puts a text in which %d is a decimal, and %1 to %9 are octal numbers of so many digits, %0 of ten.
@@ -103,11 +104,7 @@ static void put(const char *form, ...)
     va_list given;
     va_start(given, form);
     for (; *form; form++) {
-        const char *end = strchr(form, '%');
-        size_t length = end ? (size_t)(end - form) : strlen(form);
-        fwrite(form, 1, length, out);
-        form += length;
-        if (!end) break;
+        if (*form != '%') { putc_unlocked(*form, out); continue; }
         form++;
         if (*form == 'd') put_number(va_arg(given, uint32_t), 10, 1);
         else put_number(va_arg(given, uint32_t), 8, *form == '0' ? 10 : *form - '0');
