@@ -29,12 +29,12 @@ static const char *const module_names[] = {"TIMER", "LOCATOR", "DECODER", "SELEC
 static const char *const register_names[] = {"A", "PQ", "PLACE", "SAVER"};
 static const int first_latch[] = {0, 2, 4, 5, 6, 8, 13, 15};
 
-// A line: its kind and its fields.
-typedef struct { int kind, count, switched; uint32_t fields[8]; } told;
+// A line: its kind and its fields. A `-` stands for a register that isn't told.
+typedef struct { int kind, count, switched, untold; uint32_t fields[8]; } told;
 
 // What is told of a step, or after an instruction time. What isn't told is 0.
 typedef struct {
-    int number, exchanges, repairs, votes_told;
+    int number, exchanges, repairs, votes_told, untold;
     told exchange[MOST_OF_A_KIND], repair[MOST_OF_A_KIND];
     uint32_t faults, copies_told, votes[LATCHES], copies[3][LATCHES], registers[4];
 } state;
@@ -171,7 +171,10 @@ static int read_line(const char *text, told *line)
             if (module < 1 || module > MODULES) return 0;
             words = first_latch[module] - first_latch[module - 1];
         }
-        if (!read_number(&text, *form == 'd' ? 10 : 8, *form == 'd' ? 7 : *form == 'W' ? 9 : *form - '0', &line->fields[line->count])) return 0;
+        if (line->kind == TIME && line->count > 0 && text[0] == '-' && strchr(" \t", text[1])) {
+            line->untold |= 1 << (line->count - 1);
+            text++;
+        } else if (!read_number(&text, *form == 'd' ? 10 : 8, *form == 'd' ? 7 : *form == 'W' ? 9 : *form - '0', &line->fields[line->count])) return 0;
         if (*form != 'W' || --words == 0) form++;
     }
     skip_blanks(&text);
@@ -214,6 +217,7 @@ static void begin_step(steps *s, const told *line)
     held->number = (int)line->fields[0];
     held->exchanges = held->repairs = 0;
     held->faults = held->copies_told = 0;
+    held->untold = line->untold;
     if (line->kind == TIME) memcpy(held->registers, line->fields + 1, sizeof held->registers);
     s->is_held = 1;
 }
@@ -321,7 +325,9 @@ static int same_copies(const state *a, const state *b)
 static int is_same(const state *a, const state *b)
 {
     if (a->number != b->number) return 0;
-    if (kinds == REGISTERS) return memcmp(a->registers, b->registers, sizeof a->registers) == 0;
+    for (int i = 0; i < 4; i++)
+        if (kinds == REGISTERS && !(b->untold >> i & 1) && a->registers[i] != b->registers[i]) return 0;
+    if (kinds == REGISTERS) return 1;
     if (!same_lines(a->exchange, a->exchanges, b->exchange, b->exchanges)) return 0;
     if (kinds & 1 << VOTE && (a->votes_told != b->votes_told || memcmp(a->votes, b->votes, sizeof a->votes))) return 0;
     return !(kinds & 1 << COPY) || (same_lines(a->repair, a->repairs, b->repair, b->repairs) && a->faults == b->faults && same_copies(a, b));
@@ -366,7 +372,8 @@ static void add_rows(const state *shown[3])
     char cells[3][LONGEST_LINE], name[32];
     row_count = 0;
     for (int i = 0; kinds == REGISTERS && i < 4; i++) {
-        for (int k = 0; k < 3; k++) sprintf(cells[k], shown[k] ? "%09o" : "", shown[k] ? shown[k]->registers[i] : 0);
+        for (int k = 0; k < 3; k++)
+            if (shown[k] && !(shown[k]->untold >> i & 1)) sprintf(cells[k], "%09o", shown[k]->registers[i]); else cells[k][0] = 0;
         add_row(register_names[i], cells);
     }
     if (kinds == REGISTERS) return;
@@ -393,6 +400,13 @@ static void add_rows(const state *shown[3])
     }
 }
 
+// Is a row that of a register which the emulator doesn't tell?
+static int is_untold(const state *theirs, const row *r)
+{
+    for (int i = 0; theirs && i < 4; i++) if (theirs->untold >> i & 1 && strcmp(r->name, register_names[i]) == 0) return 1;
+    return 0;
+}
+
 // Shows what both had before, what the machine has and what the emulator has.
 static void show(const state *before, const state *ours, const state *theirs)
 {
@@ -406,7 +420,7 @@ static void show(const state *before, const state *ours, const state *theirs)
     }
     printf("%*s  %-*s  %-*s  %s\n", widths[0], "", widths[1], heads[0], widths[2], heads[1], heads[2]);
     for (row *r = rows; r < rows + row_count; r++)
-        printf("%s%-*s  %-*s  %-*s  %s\n", strcmp(r->cells[1], r->cells[2]) ? "> " : "  ", widths[0] - 2, r->name, widths[1], r->cells[0], widths[2],
+        printf("%s%-*s  %-*s  %-*s  %s\n", strcmp(r->cells[1], r->cells[2]) && !is_untold(theirs, r) ? "> " : "  ", widths[0] - 2, r->name, widths[1], r->cells[0], widths[2],
                r->cells[1], r->cells[2]);
 }
 

@@ -128,7 +128,7 @@ CASES = [
          "ACCUMULATOR: where MPH's product lands while an instruction is carried out, A is the product.", "resume",
          state({6: "000000000 000000016 000000000 000001000 000000000"}, ["0 00 000 000017001", "0 01 001 000000005"], 2),
          has="END DONE\nTIMES 2\nA 000000100\nPQ 000000100"),
-    Case("a-request-isnt-made-in-a-hold", "EXCHANGE: REQUEST is made where no hold is left.", "resume",
+    Case("request-isnt-set-in-a-hold", "EXCHANGE: phase B sets REQUEST where no hold is left.", "resume",
          state({1: "000000000 000000001", 3: "000013002", 5: "000000005 000000000"}, ["0 00 000 000017001"], 2),
          has="END DONE\nTIMES 2\nA 000000005\nPLACE 0 00 0 000", lacks=["MEM 0 01 002"]),
 ]
