@@ -1,6 +1,6 @@
 'use strict';
 
-/** What may be claimed of a run, by its report alone: docs/PROMISES.md has the promise behind it. */
+/** What may be claimed of a run, by its report alone: docs/inside/PROMISES.md has the promise behind it. */
 const Claims = (() => {
     const lostOf = (report) => report.memory.filter((it) => it.lost);
 
