@@ -67,7 +67,7 @@ def turned(draw: random.Random, place: tuple[int, int], bit: int) -> tuple[bool,
     return any(others), any(changed)
 
 
-@pytest.mark.parametrize("place", PLACES, ids=lambda it: LATCHES[it[0]][it[1]])
+@pytest.mark.parametrize("place", PLACES, ids=lambda it: str(LATCHES[it[0]][it[1]]))
 def test_a_bit_is_used_just_where_some_row_looks_at_it(place: tuple[int, int]) -> None:
     draw = random.Random(str(place))
     for bit in range(26):

@@ -29,7 +29,8 @@ REQUESTS = ["initialize", "launch", "configurationDone", "threads", "setBreakpoi
             "dataBreakpointInfo", "setDataBreakpoints", "stackTrace", "scopes", "variables", "evaluate", "disassemble", "readMemory", "completions",
             "continue", "next", "stepIn", "stepOut", "stepBack", "reverseContinue", "fly"]
 KEYS = ["source", "path", "breakpoints", "line", "name", "condition", "hitCondition", "filters", "dataId", "accessType", "startFrame", "levels",
-        "variablesReference", "expression", "context", "memoryReference", "offset", "instructionOffset", "instructionCount", "count", "text", "column"]
+        "variablesReference", "expression", "context", "memoryReference", "offset", "instructionOffset", "instructionCount", "count", "text",
+        "column"]
 
 
 def line(draw: random.Random) -> str:

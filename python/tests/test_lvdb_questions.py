@@ -87,7 +87,8 @@ def test_memory_is_disassembled_to_a_source_of_the_same_words(worker: Worker, pa
 
 def test_an_image_is_disassembled_by_what_its_run_makes(worker: Worker) -> None:
     console = sitting(EXAMPLES / "sum-that-wraps.deck", worker)
-    assert told(console, "disassemble/s").split("\n")[:4] == ["        ORG   0,00,0,000", "        CLA   000", "        ADD   001", "        STO   002"]
+    first = ["        ORG   0,00,0,000", "        CLA   000", "        ADD   001", "        STO   002"]
+    assert told(console, "disassemble/s").split("\n")[:4] == first
 
 
 def test_a_changed_program_is_disassembled_as_it_is(worker: Worker) -> None:

@@ -25,7 +25,7 @@ def test_the_reference_has_each_public_name() -> None:
     assert {it for it in lvdc.__all__ if inspect.isfunction(getattr(lvdc, it))} <= set(re.findall(r"^### (\w+)$", found.stdout, re.MULTILINE))
 
 
-@pytest.mark.parametrize("module", [lvdc, *MODULES], ids=lambda it: it.__name__)
+@pytest.mark.parametrize("module", [lvdc, *MODULES], ids=lambda it: str(it.__name__))
 def test_examples_are_run(module: ModuleType, worker: Worker, monkeypatch: pytest.MonkeyPatch) -> None:
     monkeypatch.setenv("LVDC_WORKER", str(worker.program))
     if module is plots:
@@ -56,7 +56,7 @@ def test_examples_are_typed(tmp_path: Path) -> None:
         files.append(tmp_path / f"example_{at}.py")
         files[-1].write_text(text)
     cache = Path(tempfile.gettempdir()) / "mypy-of-lvdc"
-    words = ["mypy", "--strict", "--no-error-summary", "--config-file", TOP / "mypy.ini", "--cache-dir", cache, *files]
+    words = ["mypy", "--strict", "--no-error-summary", "--config-file", str(TOP / ".ci" / "mypy.ini"), "--cache-dir", str(cache), *map(str, files)]
     told = subprocess.run(words, cwd=TOP, capture_output=True, text=True, check=False)
     assert told.returncode == 0, told.stdout
 

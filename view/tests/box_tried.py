@@ -93,11 +93,13 @@ def try_box(tally: Tally, worker: str, folder: pathlib.Path) -> None:
         workers = [it for it, command in children_of(box.pid).items() if command.startswith(worker)]
         for it in workers:
             os.kill(it, signal.SIGKILL)
-        tally.expect("box: all workers are killed, and a question is answered", [len(workers) > 0, seconds_until(lambda: is_answered(file)) < 5], [True, True])
+        answered = seconds_until(lambda: is_answered(file)) < 5
+        tally.expect("box: all workers are killed, and a question is answered", [len(workers) > 0, answered], [True, True])
         below = list(children_of(box.pid))
         box.send_signal(signal.SIGTERM)
         box.wait(SECONDS_TO_BE_BACK)
-        tally.expect("box: it ends, and leaves nothing behind", [box.returncode, [it for it in below if pathlib.Path(f"/proc/{it}").exists()]], [0, []])
+        left = [it for it in below if pathlib.Path(f"/proc/{it}").exists()]
+        tally.expect("box: it ends, and leaves nothing behind", [box.returncode, left], [0, []])
     for wrong in ("show = film\n", "idle = 0\n", "brightness\n", "idle = 5\nidle = 6\n"):
         settings.write_text(f"# settings\n{wrong}")
         done = subprocess.run([START, settings], capture_output=True, text=True, check=False)

@@ -40,7 +40,8 @@ MEASURES = """(() => {
     const words = (it) => { const range = document.createRange(); range.selectNodeContents(it); return range.getBoundingClientRect(); };
     const outside = leaves.filter((it) => { const { left, top, right, bottom } = words(it);
         return left < -1 || top < -1 || right > innerWidth + 1 || bottom > innerHeight + 1; });
-    const cut = leaves.filter((it) => { const [own, text] = [box(it), words(it)]; return text.width > own.width + 2 || text.height > own.height + 4; });
+    const isCut = (own, text) => text.width > own.width + 2 || text.height > own.height + 4;
+    const cut = leaves.filter((it) => isCut(box(it), words(it)));
     const small = all('button').filter((it) => Math.min(box(it).width, box(it).height) < TARGET - 0.5);
     const low = leaves.filter((it) => parseFloat(getComputedStyle(it).fontSize) < innerHeight / LETTERS - 0.05);
     const single = all('h1, h2, #verdict, #more, button:not(.copy), .says, .voter, .value, .port, .angle').filter((it) => it.textContent.trim());
@@ -53,12 +54,14 @@ MEASURES = """(() => {
         }
     }));
     const scrolls = document.documentElement.scrollWidth > innerWidth || document.documentElement.scrollHeight > innerHeight;
-    return { outside: outside.map(named), cut: cut.map((it) => `${named(it)}: ${it.textContent.slice(0, 30)}`), small: small.map(named), low: low.map(named), over, scrolls };
+    const told = cut.map((it) => `${named(it)}: ${it.textContent.slice(0, 30)}`);
+    return { outside: outside.map(named), cut: told, small: small.map(named), low: low.map(named), over, scrolls };
 })()""".replace("TARGET", str(LEAST_TARGET)).replace("LETTERS", str(LETTERS_IN_HEIGHT))
 FINE = {"outside": [], "cut": [], "small": [], "low": [], "over": [], "scrolls": False}
 
 # All that a visitor can change.
-CONTROLS = """[document.documentElement.lang, document.getElementById('sound').ariaPressed, document.getElementById('told').open, flight.alone, scrollY,
+CONTROLS = """[document.documentElement.lang, document.getElementById('sound').ariaPressed, document.getElementById('told').open,
+    flight.alone, scrollY,
     [...document.querySelectorAll('[aria-pressed]')].map((it) => it.ariaPressed).join(' ')]"""
 KIND = "document.body.dataset.kind"
 
@@ -187,8 +190,9 @@ def try_memories(page: Guest, tally: Tally) -> None:
 def try_fingers(page: Guest, tally: Tally) -> None:
     """Two fingers at once strike two copies."""
     opened(page)
-    points = [page.run(f"(({{ left, top }}) => ({{ x: left + 9, y: top + 9 }}))(document.querySelector('.copy[data-module=\"4\"][data-copy=\"{copy}\"]')"
-                       ".getBoundingClientRect())") for copy in (1, 2)]
+    corner = "(({ left, top }) => ({ x: left + 9, y: top + 9 }))"
+    copies = [f"document.querySelector('.copy[data-module=\"4\"][data-copy=\"{copy}\"]')" for copy in (1, 2)]
+    points = [page.run(f"{corner}({copy}.getBoundingClientRect())") for copy in copies]
     page.call("Input.dispatchTouchEvent", type="touchStart", touchPoints=points)
     page.call("Input.dispatchTouchEvent", type="touchEnd", touchPoints=[])
     page.wait(f"{KIND} === 'asked' && flight.flown.through !== null")
@@ -207,7 +211,8 @@ def try_keys(page: Guest, tally: Tally) -> None:
     page.key("Enter", 13, "\r")
     page.wait(f"{KIND} === 'flew'")
     tab_stops = "document.querySelectorAll('#machine [tabindex=\"0\"]').length"
-    tally.expect("keys: one stop in the machine, the guess keeps the focus", [page.run(tab_stops), page.run("document.activeElement.dataset.key")], [1, "flight.again"])
+    focus = page.run("document.activeElement.dataset.key")
+    tally.expect("keys: one stop in the machine, the guess keeps the focus", [page.run(tab_stops), focus], [1, "flight.again"])
 
 
 # ---- nobody there
@@ -264,7 +269,8 @@ def try_measures(page: Guest, tally: Tally) -> None:
 CONTRAST = """(() => {
     const part = (it) => (it <= 0.04045 ? it / 12.92 : ((it + 0.055) / 1.055) ** 2.4);
     const luminance = (name) => {
-        const [r, g, b] = getComputedStyle(document.documentElement).getPropertyValue(name).trim().match(/[0-9a-f]{2}/gi).map((it) => part(Number.parseInt(it, 16) / 255));
+        const colour = getComputedStyle(document.documentElement).getPropertyValue(name).trim();
+        const [r, g, b] = colour.match(/[0-9a-f]{2}/gi).map((it) => part(Number.parseInt(it, 16) / 255));
         return 0.2126 * r + 0.7152 * g + 0.0722 * b;
     };
     return PAIRS.filter(([one, other, least]) => {
