@@ -81,6 +81,11 @@ def opened(page: Guest, query: str = "") -> None:
     page.run("Flight.GUESS_WITHIN = 600_000, 0")
 
 
+def launch(page: Guest) -> None:
+    """A visitor begins a flight."""
+    page.run("flight.act(() => flight.launch())")
+
+
 def strike(page: Guest, *what: tuple[int, int]) -> None:
     """Strikes copies with the mouse, and waits for the question."""
     for module, copy in what:
@@ -176,7 +181,7 @@ def try_visit(page: Guest, tally: Tally, worker: Worker) -> None:
 def try_memories(page: Guest, tally: Tally) -> None:
     """A dead memory is told by the other one; two dead ones are the end."""
     opened(page)
-    page.run("flight.alone = false")
+    launch(page)
     for twin, kind in ((0, "flew"), (1, "broke")):
         page.wait("flight.state === 'flying'")
         point(page, f'.memory[data-twin="{twin}"]')
@@ -252,6 +257,7 @@ def try_measures(page: Guest, tally: Tally) -> None:
         for language in page.run("Object.keys(Words.LANGUAGES)"):
             name = f"{width} by {height}, {language}"
             page.run(f"flight.speak('{language}')")
+            launch(page)
             tally.expect(f"{name}: at first", page.run(MEASURES), FINE)
             page.run("flight.touch({ module: 2, copy: 1 }, document.querySelector('.copy'))")
             page.wait(f"{KIND} === 'asked'")
@@ -262,7 +268,6 @@ def try_measures(page: Guest, tally: Tally) -> None:
             page.wait(f"['broke', 'luck'].includes({KIND})")
             tally.expect(f"{name}: the end", page.run(MEASURES), FINE)
             tally.expect(f"{name}: what visitors can't read", NOT_FOR_VISITORS.findall(page.run(TEXT)), [])
-            page.run("flight.launch()")
     page.size(1366, 768)
 
 

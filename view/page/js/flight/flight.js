@@ -135,15 +135,17 @@ class Flight {
         return this.guarded(does);
     }
 
-    /** A visitor strikes. What is broken already stays so; a flight that is over begins anew. */
+    /** A visitor strikes. What is broken already stays so; a flight that is over begins anew, and so does one that shows itself just then. */
     touch(what, button) {
+        const wasAlone = this.alone;
         this.alone = false;
         button.classList.remove('hit');
         void button.offsetWidth;
         button.classList.add('hit');
         this.sight.sound.strike();
         return this.guarded(async () => {
-            if (['lost', 'landed', 'waiting'].includes(this.state)) await this.launch();
+            const isOver = ['lost', 'landed', 'waiting'].includes(this.state) || (wasAlone && this.state !== 'flying');
+            if (isOver) await this.launch();
             if (this.state !== 'shown') await this.strike(what);
         });
     }

@@ -18,10 +18,12 @@ const FlightSaying = (() => {
         return value >= SIGN ? value - 2 * SIGN : value;
     }
 
-    /** A number in few characters; a large one is rounded. */
+    const spelled = (number, language, digits) => number.toLocaleString(language, { useGrouping: false, maximumFractionDigits: digits }).replace('-', '−');
+
+    /** A number in few characters; a large one is rounded, to thousands or to tenths of millions. */
     function short(number, language) {
-        const spelled = Math.abs(number) < 10000 ? {} : { notation: 'compact', maximumFractionDigits: 1 };
-        return number.toLocaleString(language, { useGrouping: false, ...spelled }).replace('-', '−');
+        if (Math.abs(number) < 100000) return spelled(number, language, 0);
+        return Math.abs(number) < 1000000 ? `${spelled(number / 1000, language, 0)}k` : `${spelled(number / 1000000, language, 1)}M`;
     }
 
     const SAYS = {

@@ -6,7 +6,7 @@ const Asking = (() => {
     const TOO_MANY = 503;
     const TRIES = 5;
     const WAIT = 200;
-    const PATIENCE = 8000;
+    const PATIENCE = 15000;
     const LOOK_EVERY = 2000;
     const MOST_KEPT = 24;
     const WHY = { 413: 'lab.long', 503: 'lab.many', 504: 'lab.late', 507: 'lab.late' };
