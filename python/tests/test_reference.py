@@ -3,7 +3,6 @@ import doctest
 import importlib
 import inspect
 import pkgutil
-import re
 import shutil
 import subprocess
 import sys
@@ -50,7 +49,7 @@ def test_examples_are_typed(tmp_path: Path) -> None:
     for module in [lvdc, *MODULES]:
         for found in finder.find(module):
             if found.examples and found.name.startswith(module.__name__):
-                written[found.name] = "".join(_typed(it.source) for it in found.examples)
+                written[found.name] = "".join(it.source for it in found.examples)
     files = []
     for at, text in enumerate(written.values()):
         files.append(tmp_path / f"example_{at}.py")
@@ -59,8 +58,3 @@ def test_examples_are_typed(tmp_path: Path) -> None:
     words = ["mypy", "--strict", "--no-error-summary", "--config-file", str(TOP / ".ci" / "mypy.ini"), "--cache-dir", str(cache), *map(str, files)]
     told = subprocess.run(words, cwd=TOP, capture_output=True, text=True, check=False)
     assert told.returncode == 0, told.stdout
-
-
-def _typed(source: str) -> str:
-    """A line of an example as a module has it: what it shows is passed over."""
-    return source if re.match(r"(import|from|with|for|\w+(, \w+)* = |print)", source) else f"_ = {source}"

@@ -221,7 +221,8 @@ def resume(saved: Given, *, worker: Asker | None = None, limit: float | None = N
     """Goes on with a saved run up to its deck's count.
 
     >>> import lvdc
-    >>> lvdc.resume(lvdc.save("IMAGE\\nLVDC 1\\nEND\\nRUN 3\\n", 2)).registers.times
+    >>> saved = lvdc.save("IMAGE\\nLVDC 1\\nEND\\nRUN 3\\n", 2)
+    >>> isinstance(saved, lvdc.Saved) and lvdc.resume(saved).registers.times
     3
     """
     return Report.read(_asked(["resume"], text_of(saved, "a saved run", (Saved,)), worker, limit))
