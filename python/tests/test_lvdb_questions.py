@@ -48,6 +48,9 @@ MADE: dict[str, tuple[str, int | None, str]] = {
     "replaced": (f"CODE; CLA X; DIV X; MPY X; {END}", 4, "throws away the DIV of time 1"),
     "wrap": (f"CODE; CLA =D-33554432; SUB Y; {END}", 3, "-33554432 less 7 is -33554439"),
     "divide": (f"CODE; CLA X; DIV Y; {END}", 3, "divides 20480 by 7, which isn't greater"),
+    "empty": ("CODE; CLA Z; STOP:TRA STOP; WORDS 0,01; Z:BSS 1; END", 2, "reads Z, where nothing was stored"),
+    "unused": (f"CODE; CLA X; ADD Y; CLA Y; {END}", 4, "nothing has taken what time 1, ADD Y (line 3) made"),
+    "operation": (f"ORG 0,01,0,000; BEGIN:CLA X; STO GET; GET:ADD Y; {END}", 3, "another operation at GET, whose line has ADD Y"),
     "unset": (f"CODE; CLA Y; ADD =D1; STO Y; {END}", 4, "changes Y, which time 0"),
     "syllable": (f"ORG 0,01,1,000; BEGIN:CLA BEGIN; ADD =D1; STO BEGIN; {END}", 4, "one location further is =O20000 there"),
     "past": (f"ORG 0,01,0,000; BEGIN:CLA GET; ADD =D1; STO GET; GET:CLA 377; {END}", 4, "its address goes from 377 to 400"),
@@ -74,7 +77,7 @@ def test_each_kind_of_mistake_is_named_with_its_line(worker: Worker, tmp_path: P
 @pytest.mark.parametrize("path", sorted(EXAMPLES.glob("programs/*.deck")), ids=lambda it: str(it.stem))
 def test_the_programs_make_no_mistake_but_by_intent(worker: Worker, path: Path) -> None:
     kinds = {it.kind for it in sitting(path, worker).debugger.mistakes().found}
-    assert not kinds & {"early", "replaced", "syllable", "past", "lost", "twice", "sector", "nowhere"}
+    assert not kinds & {"early", "replaced", "syllable", "past", "operation", "unused", "lost", "twice", "sector", "nowhere"}
 
 
 @pytest.mark.parametrize("path", ALL, ids=lambda it: str(it.name))
@@ -87,8 +90,8 @@ def test_memory_is_disassembled_to_a_source_of_the_same_words(worker: Worker, pa
 
 def test_an_image_is_disassembled_by_what_its_run_makes(worker: Worker) -> None:
     console = sitting(EXAMPLES / "sum-that-wraps.deck", worker)
-    first = ["        ORG   0,00,0,000", "        CLA   000", "        ADD   001", "        STO   002"]
-    assert told(console, "disassemble/s").split("\n")[:4] == first
+    assert told(console, "disassemble/s").split("\n")[:4] == [
+        "        ORG   0,00,0,000", "        CLA   000", "        ADD   001", "        STO   002"]
 
 
 def test_a_changed_program_is_disassembled_as_it_is(worker: Worker) -> None:

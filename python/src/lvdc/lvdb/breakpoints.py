@@ -4,8 +4,9 @@ from dataclasses import dataclass, replace
 from typing import Any
 
 from lvdc.lvdb.errors import CommandError
+from lvdc.lvdb.mistakes import Mistake
 from lvdc.lvdb.program import Program
-from lvdc.lvdb.searches import Caught, Change, Found, Read, What
+from lvdc.lvdb.searches import Change, Found, Read, What
 from lvdc.values import Address, Place, Word
 
 # of each kind, whether it stops at a change, and whether at a read
@@ -41,14 +42,14 @@ class Breakpoint:
 
     def meets(self, what: What | None) -> bool:
         """Whether this is what it stops at."""
-        return what.kind in self.kinds if isinstance(what, Caught) else what in self.whats
+        return what.kind in self.kinds if isinstance(what, Mistake) else what in self.whats
 
     def reason(self, found: Found, instructions: Instructions) -> str:
         """Why it stops."""
         words = ["?" if it is None else str(it) for it in (found.before, found.after)]
         match found.what:
-            case Caught(kind=kind, text=text):
-                return f"catch {self.number}: {kind}: {text}"
+            case Mistake() as mistake:
+                return f"catch {self.number}: {mistake.kind}: {mistake.text}"
             case Read():
                 return f"{self.kind} {self.number}: {self.text} is read, {words[1]}"
             case Change(at=Address() as at):

@@ -1,9 +1,14 @@
 """What `info` shows."""
+from collections import Counter
 from collections.abc import Callable, Iterable, Iterator
 
 from lvdc.decks import Tape
+from lvdc.listings import Instruction
 from lvdc.lvdb.console import Console
+from lvdc.lvdb.errors import CommandError
 from lvdc.lvdb.expressions import in_all_forms
+from lvdc.lvdb.made import made_between
+from lvdc.lvdb.mistakes import MOST_LOOKED
 from lvdc.lvdb.show import copies_lines, place_text
 from lvdc.reports import Exchange
 from lvdc.traces import PortExchange
@@ -99,6 +104,17 @@ def calls(console: Console) -> Iterator[str]:
         yield f"HOPs before instruction time {stack.since} weren't looked for"
 
 
+def lines(console: Console) -> Iterator[str]:
+    """Each line with an instruction, and how often the whole run makes it."""
+    debugger, program = console.debugger, console.debugger.program
+    if program.listing is None:
+        raise CommandError("an image has no lines of a source")
+    counts = Counter(it.place for it in made_between(debugger.replay, 0, MOST_LOOKED) if not it.is_held)
+    for row in program.listing.rows:
+        count = str(counts[row.field.place]) if isinstance(row.field, Instruction) else ""
+        yield f"{count:>8} {program.number_of(row):5d}  {row.line}".rstrip()
+
+
 INFORMATION: dict[str, Callable[[Console], Iterable[str]]] = {
     "registers": registers, "breakpoints": breakpoints, "copies": copies, "memory": memory, "faults": faults, "ports": ports,
-    "displays": displays, "calls": calls}
+    "displays": displays, "calls": calls, "lines": lines}

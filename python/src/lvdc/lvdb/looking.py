@@ -21,7 +21,7 @@ _FORMAT = re.compile("/([0-9]*)(cells|[odfhi]?)")
 _LINES_SHOWN, _ROWS_SHOWN, _MOST_WORDS = 10, 8, 256
 
 
-@command("registers|breakpoints|copies|memory|faults|ports|displays|calls", "shows what there is of these", "i", "inf")
+@command("registers|breakpoints|copies|memory|faults|ports|displays|calls|lines", "shows what there is of these", "i", "inf")
 def info(console: Console, words: list[str]) -> Told:
     """What there is."""
     found = [name for name in INFORMATION if len(words) == 1 and name.startswith(words[0])]

@@ -7,7 +7,8 @@ from lvdc import commands
 from lvdc.ends import Done, End
 from lvdc.images import Image
 from lvdc.listings import Instruction
-from lvdc.lvdb.made import ADD, DIV, HOP, MPH, MPY, OF_PQ, OF_SAVER, RSU, STO, SUB, TRA, Made, made_between
+from lvdc.lvdb.made import (ADD, CLA, DIV, HOP, MPH, MPY, OF_PQ, OF_SAVER, PIO, RSU, STO, SUB, TMI, TNZ, TRA, Made,
+                            made_between)
 from lvdc.lvdb.operands import TRANSFERS
 from lvdc.lvdb.places import address_of, hop_of, place_of
 from lvdc.lvdb.program import Program
@@ -23,9 +24,12 @@ KINDS = {
     "replaced": "a product or a quotient is thrown away by the next one",
     "wrap": "a sum or a difference doesn't fit into a word",
     "divide": "a dividend isn't smaller than its divisor",
+    "empty": "a word is read where the source has only room, and nothing was stored",
+    "unused": "what was computed in A is replaced before anything takes it",
     "unset": "a word is used as it was loaded, and changed after it",
     "syllable": "a step changes the other half of the instruction's word",
     "past": "a step goes past location 377",
+    "operation": "a changed instruction gets another operation than its line has",
     "outside": "a changed instruction names a word where the source has nothing",
     "lost": "the way back is kept after a transfer, which has replaced it",
     "twice": "a way back that is still wanted is stored over",
@@ -33,17 +37,24 @@ KINDS = {
     "nowhere": "an instruction is made where the source has none",
     "count": "the count ends the run before the program"}
 MOST_LOOKED = 100_000
-_STEP = 16
+_STEP, _MOST_CALLS = 16, 64
 _HALVES = {0: (0, 8191), 1: (13, 8191)}
 
 
 @dataclass(frozen=True, slots=True)
 class Mistake:
-    """What was found: of which kind, after how many steps of the run, and in words."""
+    """What was found: of which kind, after how many steps of the run, and in words; `made` is the instruction time that they are said of."""
 
     kind: str
     position: int
-    text: str
+    words: str
+    made: Made | None = None
+    describe: Callable[[Made], str] | None = None
+
+    @property
+    def text(self) -> str:
+        """The words, behind the instruction."""
+        return self.words if self.made is None or self.describe is None else f"{self.describe(self.made)} {self.words}"
 
 
 @dataclass
@@ -69,13 +80,14 @@ class Finder:
     fetched_back: set[Address] = field(default_factory=set)
     calls: list[_Call] = field(default_factory=list)
     issued: Made | None = None
+    computed: Made | None = None
     last: Made | None = None
 
     def look(self, made: Made) -> Iterator[Mistake]:
         """The mistakes of an instruction time."""
         if not made.is_held:
             for kind, text in self._found(made):
-                yield Mistake(kind, made.position, f"{self.describe(made)} {text}")
+                yield Mistake(kind, made.position, text, made, self.describe)
             self._remember(made)
         self.last = made
 
@@ -97,6 +109,7 @@ class Finder:
         """The kinds and the words of what is wrong."""
         yield from self._of_the_unit(made)
         yield from self._of_sums(made)
+        yield from self._of_results(made)
         yield from self._of_places(made)
         yield from self._of_words(made)
         yield from self._of_calls(made)
@@ -130,6 +143,16 @@ class Finder:
             told = {ADD: f"{one} and {other}", SUB: f"{one} less {other}", RSU: f"{other} less {one}"}[made.code]
             yield "wrap", f"wraps: {told} is {exact}, which doesn't fit into a word"
 
+    def _of_results(self, made: Made) -> Iterator[tuple[str, str]]:
+        """What A was computed to be, and nothing takes."""
+        if self.computed is not None and self._replaces_a(made):
+            yield "unused", f"replaces A, and nothing has taken what {self.describe(self.computed)} made of it"
+
+    @staticmethod
+    def _replaces_a(made: Made) -> bool:
+        """Whether it gives A a word that takes nothing of the one before."""
+        return made.code == CLA or made.code == PIO and made.bits >> 8 == 1
+
     # ---- where it stands, and which words it takes
 
     def _of_places(self, made: Made) -> Iterator[tuple[str, str]]:
@@ -160,6 +183,8 @@ class Finder:
         if touched is not None and self.program.rows and made.bits not in OF_SAVER and self._is_changed(made) and (
                 touched[0] not in self.program.taken and touched[0] not in self.stored):
             yield "outside", f"takes {touched[0]}, where the source has nothing"
+        if made.read is not None and made.read[0] in self.program.room and made.read[0] not in self.stored and made.read[0] not in self.used:
+            yield "empty", f"reads {self._named(made.read[0])}, where nothing was stored"
         if made.stored is None:
             return
         address, word = made.stored
@@ -184,8 +209,17 @@ class Finder:
         for half in set(halves) & set(changed):
             shift, mask = _HALVES[half]
             one, other_one = before >> shift & mask, word >> shift & mask
+            due = next(it.field.syllable for it in rows if isinstance(it.field, Instruction) and it.field.place.syllable == half)
+            if other_one >> 9 != due >> 9:
+                yield "operation", (f"makes another operation at {self._named(address)}, whose line has "
+                                    f"{' '.join(self._line_at(address, half))}")
             if 0 < other_one - one <= _STEP and one >> 8 != other_one >> 8:
                 yield "past", f"steps {self._named(address)} past location 377: its address goes from {one & 511:03o} to {other_one & 511:03o}"
+
+    def _line_at(self, address: Address, half: int) -> tuple[str, str]:
+        """The operation and the operand of the line of an instruction."""
+        parts = Parts.of(self.program.rows[Place(address.bank, address.sector, half, address.location)].line)
+        return parts.operation, parts.operand
 
     def _is_changed(self, made: Made) -> bool:
         """Whether an instruction isn't that of its line."""
@@ -213,6 +247,10 @@ class Finder:
         """What later instruction times are looked at by."""
         if made.code in (MPY, MPH, DIV):
             self.issued = made
+        if made.makes_a:
+            self.computed = None if self._replaces_a(made) else made
+        elif made.code in (STO, PIO, TNZ, TMI, MPY, DIV):
+            self.computed = None
         for it in (made.fetched, made.read):
             if it is not None and it[0] not in self.stored:
                 self.used.setdefault(it[0], made)
@@ -233,6 +271,7 @@ class Finder:
                 del self.calls[len(backs) - 1 - backs[::-1].index(target):]
             else:
                 self.calls.append(_Call(made.after.saver, made.place))
+                del self.calls[:-_MOST_CALLS]
         elif made.is_transfer and self.calls and not self.calls[-1].is_kept and self.calls[-1].lost_by is None:
             self.calls[-1].lost_by = made
         elif made.code == STO and made.bits in OF_SAVER:

@@ -132,6 +132,12 @@ class Program:
         return found
 
     @cached_property
+    def room(self) -> set[Address]:
+        """The addresses at which the source has room and no word."""
+        rows = () if self.listing is None else self.listing.rows
+        return {at for it in rows if isinstance(it.field, Room) and it.field.word is None for at in _addresses_of(it.field, it.line)}
+
+    @cached_property
     def taken(self) -> set[Address]:
         """The addresses that the source has something at: words, room, literals and instructions."""
         pool = () if self.listing is None else self.listing.pool

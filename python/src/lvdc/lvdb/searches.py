@@ -5,6 +5,7 @@ from collections.abc import Callable, Iterator, Set
 from dataclasses import dataclass, field
 
 from lvdc.ends import Done
+from lvdc.lvdb.mistakes import Mistake
 from lvdc.lvdb.places import hop_of, place_of
 from lvdc.lvdb.replays import BANKS_OF_SESSIONS, LONG, SHORT, Replay, steps_made
 from lvdc.lvdb.states import A, HOLD, MOST_HELD, PLACE, PQ, SAVER
@@ -35,15 +36,7 @@ class Read:
     at: Address
 
 
-@dataclass(frozen=True, slots=True)
-class Caught:
-    """That a mistake is made, of which kind, and in words."""
-
-    kind: str
-    text: str
-
-
-What = Place | Change | Read | Caught
+What = Place | Change | Read | Mistake
 
 
 @dataclass(frozen=True, slots=True)

@@ -14,12 +14,12 @@ from lvdc.lvdb.errors import CommandError
 from lvdc.lvdb.expressions import Words as Given
 from lvdc.lvdb.expressions import addresses_in, evaluate
 from lvdc.lvdb.made import Made
-from lvdc.lvdb.mistakes import Looked, look_for_mistakes
+from lvdc.lvdb.mistakes import Looked, Mistake, look_for_mistakes
 from lvdc.lvdb.operands import named
 from lvdc.lvdb.places import bank_of, hop_of
 from lvdc.lvdb.program import Program, load
 from lvdc.lvdb.replays import Decoder, Replay
-from lvdc.lvdb.searches import Arrivals, Caught, Change, Found, Read, Wanted, Words, back, end_of, onward, onward_to
+from lvdc.lvdb.searches import Arrivals, Change, Found, Read, Wanted, Words, back, end_of, onward, onward_to
 from lvdc.lvdb.states import DATA, INSTR, PLACE, State
 from lvdc.lvdb.windows import Window
 from lvdc.parts import Parts
@@ -216,7 +216,7 @@ class Debugger:
 
     def _arrive(self, found: Found, counted: Breakpoints) -> Stop:
         """Stops where a search came to; the hits were counted, and a breakpoint for one time is used up."""
-        met = [it for it in counted.values() if it.meets(found.what)] if isinstance(found.what, Change | Read | Caught) else []
+        met = [it for it in counted.values() if it.meets(found.what)] if isinstance(found.what, Change | Read | Mistake) else []
         reasons = [it.reason(found, self._instructions) for it in met]
         stop = self._move(found.position)
         if found.position % STEPS_A_TIME == 0 and not stop.now.hold:
@@ -247,7 +247,7 @@ class Debugger:
         whats = {what for it in counted.values() for what in it.whats}
         kinds = {kind for it in counted.values() for kind in it.kinds}
         asked = {at for it in counted.values() for at in addresses_in(it.condition, self.program)}
-        caught = tuple(Found(it.position, Caught(it.kind, it.text)) for it in self.mistakes().found if it.kind in kinds) if kinds else ()
+        caught = tuple(Found(it.position, it) for it in self.mistakes().found if it.kind in kinds) if kinds else ()
 
         def is_met(found: Found, words: Words, window: Window) -> bool:
             met = [it for it in counted.values() if it.meets(found.what) and self._holds(
