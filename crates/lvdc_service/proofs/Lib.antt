@@ -2,6 +2,7 @@ mod Written
 mod Serving
 mod Inputs
 mod Determined
+mod Wholly
 mod Rows
 pub mod Uses
 pub mod CutLines

@@ -6,7 +6,7 @@ use Rattle.std.specs.Io.KnownBytes.{Appends}
 use Rattle.lvdc_text.specs.Causes.{Rose}
 use Rattle.lvdc_text.specs.Streams.{SourceState, SinkState}
 use Rattle.lvdc_service.specs.Frames.{Frames, frames_of}
-use Rattle.lvdc_service.specs.Served.{Reply, AreReplies, bad_frame_reply, read_fault_reply, all_bytes}
+use Rattle.lvdc_service.specs.Served.{Reply, AreReplies, AreUnhindered, bad_frame_reply, read_fault_reply, all_bytes, served}
 
 -- the source's bytes are these, where it tells them
 abbrev pub AreBytesOf : Option (List ℕ) → List ℕ → Type 0
@@ -40,6 +40,18 @@ pub data IsServed (bytes : List ℕ) (source rest : SourceState) (sink now : Sin
   cut : (replies : List Reply) (count : ℕ) → WereDue (frames_of bytes) source rest replies → count < length (all_bytes replies)
       → Appends sink.written now.written (take count (all_bytes replies)) → Rose sink.faults now.faults
       → IsServed bytes source rest sink now 8
+
+-- No call has failed: neither count of faults has risen.
+pub record NoCallFailed (source rest : SourceState) (sink now : SinkState) : Type 0 where
+  pub reads : Rose source.faults rest.faults → ⊥
+  pub writes : Rose sink.faults now.faults → ⊥
+
+-- What is written is replies, and where none of them tells a want of memory they are those of `served`, and so is the exit status.
+pub record IsAllServed (bytes : List ℕ) (sink now : SinkState) (status : ℕ) : Type 0 where
+  pub replies : List Reply
+  pub written : Appends sink.written now.written (all_bytes replies)
+  pub are_served : AreUnhindered replies → replies ≡ (served bytes).replies
+  pub ends : status ≡ (served bytes).status
 
 -- The service ends so over the bytes of the source, where it tells them; else over some bytes.
 pub record IsServiceEnd (source rest : SourceState) (sink now : SinkState) (status : ℕ) : Type 0 where

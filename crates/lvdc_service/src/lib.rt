@@ -14,7 +14,7 @@ mod write;
 
 pub use framing::frames_are_apart;
 pub use header::{Header, header_of, words_of};
-pub use laws::replies_are_due;
+pub use laws::{all_is_served, replies_are_due};
 pub use parts::{Part, bytes_of};
 pub use reader::{InputEnd, Line, Reader};
 pub use service::{refuse, serve};
