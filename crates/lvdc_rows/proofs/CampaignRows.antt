@@ -93,3 +93,30 @@ no_program : study_answer (codes "RUN 2\nCAMPAIGN\n") []
     ≡ answer_with 2 (codes "REFUSED NoProgram 1\n") []
 unfolding lines_from words_from octal_text word_in commands_from told_from deck_from entry_in words_told banks_named banks_in image_of step_in twin_in pair_in cell_in module_copy_in index_in span_in place_in is_name with_stuck majority flipped forced lines_of lines_below digits from_campaign scripts_from are_same_below
 no_program = refl
+
+-- ---- ends other than that of the count
+
+-- plain stops at EXM in step 2. Of the scripts one changes nothing; by the second the instruction is a wrong shift, so that the machine
+-- stops in the same step for another cause and all else is the same; the third takes the first word away; by the fourth it is no stop
+stops : study_answer (codes "IMAGE\nLVDC 1\n0 00 000 000016600\nEND\nRUN 2\nCAMPAIGN\nSCRIPT NONE\nSCRIPT CAUSE\nFLIP 3 1 0 0 0 403\nFLIP 3 2 0 0 0 403\nSCRIPT LOST\nDAMAGE 0 0 00 000 0 1\nDAMAGE 1 0 00 000 0 1\nSCRIPT GOES\nFLIP 3 1 0 0 0 400\nFLIP 3 3 0 0 0 400\n") []
+    ≡ answer_with 0 (codes "SCRIPT NONE ADMISSIBLE SAME\nSCRIPT CAUSE LOGIC 0 3 DIFFERS\nSCRIPT LOST MEMORY 0 0 00 000 DIFFERS\nSCRIPT GOES LOGIC 0 3 DIFFERS\nCAMPAIGN 4 ADMISSIBLE 1 SAME 1\n") []
+unfolding lines_from words_from octal_text word_in commands_from told_from deck_from entry_in words_told banks_named banks_in image_of step_in twin_in pair_in cell_in module_copy_in index_in span_in place_in is_name with_stuck majority flipped forced lines_of lines_below digits from_campaign scripts_from are_same_below
+stops = refl
+
+-- what comes after the stop is no fault of the script, and neither is what comes before it and is voted away
+after_the_stop : study_answer (codes "IMAGE\nLVDC 1\n0 00 000 000016600\nEND\nRUN 2\nCAMPAIGN\nSCRIPT LATE\nLAG 3 1 3 3\nLAG 3 2 3 3\nSCRIPT ONE\nFLIP 3 1 0 0 0 403\n") []
+    ≡ answer_with 0 (codes "SCRIPT LATE ADMISSIBLE SAME\nSCRIPT ONE ADMISSIBLE SAME\nCAMPAIGN 2 ADMISSIBLE 2 SAME 2\n") []
+unfolding lines_from words_from octal_text word_in commands_from told_from deck_from entry_in words_told banks_named banks_in image_of step_in twin_in pair_in cell_in module_copy_in index_in span_in place_in is_name with_stuck majority flipped forced lines_of lines_below digits from_campaign scripts_from are_same_below
+after_the_stop = refl
+
+-- ---- the line CAMPAIGN
+
+blanks_around_campaign : study_answer (codes "IMAGE\nLVDC 1\n0 00 000 000010000\nEND\nRUN 2\n \tCAMPAIGN \t\nSCRIPT A\n") []
+    ≡ answer_with 0 (codes "SCRIPT A ADMISSIBLE SAME\nCAMPAIGN 1 ADMISSIBLE 1 SAME 1\n") []
+unfolding lines_from words_from octal_text word_in commands_from told_from deck_from entry_in words_told banks_named banks_in image_of step_in twin_in pair_in cell_in module_copy_in index_in span_in place_in is_name with_stuck majority flipped forced lines_of lines_below digits from_campaign scripts_from are_same_below
+blanks_around_campaign = refl
+
+campaign_with_a_word : study_answer (codes "IMAGE\nLVDC 1\n0 00 000 000010000\nEND\nRUN 2\nCAMPAIGN A\nSCRIPT A\n") []
+    ≡ answer_with 2 (codes "REFUSED BadSection 6\n") []
+unfolding lines_from words_from octal_text word_in commands_from told_from deck_from entry_in words_told banks_named banks_in image_of step_in twin_in pair_in cell_in module_copy_in index_in span_in place_in is_name with_stuck majority flipped forced lines_of lines_below digits from_campaign scripts_from are_same_below
+campaign_with_a_word = refl

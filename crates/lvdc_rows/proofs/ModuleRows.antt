@@ -3,7 +3,6 @@ use Rattle.std.proofs.Common.{◌≡◌, ℕ, List, [], ◌∷◌, refl}
 use Rattle.lvdc_modules.specs.declared.bus.Bus.{Bus}
 use Rattle.lvdc_modules.specs.Rows.{bus_of}
 use Rattle.lvdc_modules.specs.Accumulator.{accumulator_row}
-use Rattle.lvdc_modules.specs.Exchange.{exchange_row}
 use Rattle.lvdc_modules.specs.Locator.{locator_row}
 use Rattle.lvdc_modules.specs.Selector.{selector_row}
 
@@ -102,3 +101,45 @@ tmi_of_the_lowest = refl
 data_of_hop : selector_row (executing 0o00000 0 0o220) ≡ 0o220 ∷ []
 unfolding executing
 data_of_hop = refl
+
+-- CDS 133 takes data module 5 and sector 13 (octal) and clears DUPDN, which is 1 here; CDS 533 leaves it 1, and CDS 400 sets it in a
+-- place that had none
+data_of_cds_133 : selector_row (executing 0o16133 0 0) ≡ 0o1330 ∷ []
+unfolding executing
+data_of_cds_133 = refl
+
+data_of_cds_533 : selector_row (executing 0o16533 0 0) ≡ 0o1332 ∷ []
+unfolding executing
+data_of_cds_533 = refl
+
+-- the same bus with another data place
+executing_over : ℕ → ℕ → Bus
+executing_over place instr =
+    bus_of
+    ((2 ∷ 0 ∷ [])
+    ∷ (0o10004 ∷ 0o77 ∷ [])
+    ∷ (instr ∷ [])
+    ∷ (place ∷ [])
+    ∷ (0 ∷ 0 ∷ [])
+    ∷ (0 ∷ 0 ∷ 0 ∷ 0 ∷ 0 ∷ [])
+    ∷ (0 ∷ 0 ∷ [])
+    ∷ [])
+    0
+    0
+
+cds_sets_dupdn : selector_row (executing_over 0o1670 0o16400) ≡ 0o2 ∷ []
+unfolding executing_over
+cds_sets_dupdn = refl
+
+cds_clears_all : selector_row (executing_over 0o1672 0o16000) ≡ 0 ∷ []
+unfolding executing_over
+cds_clears_all = refl
+
+-- no other instruction changes the data place: one with the bits of CDS in its address, and the shift of the same code
+add_keeps_the_data_place : selector_row (executing_over 0o1672 0o07133) ≡ 0o1672 ∷ []
+unfolding executing_over
+add_keeps_the_data_place = refl
+
+shf_keeps_the_data_place : selector_row (executing_over 0o1672 0o16240) ≡ 0o1672 ∷ []
+unfolding executing_over
+shf_keeps_the_data_place = refl
