@@ -15,7 +15,7 @@ a_reply_with_a_text : bytes_of (reply_with 10 (codes "LVDC RUN\n")) ≡ codes "R
 unfolding digits
 a_reply_with_a_text = refl
 
--- the largest text of a run has seven digits here
+-- a text of one byte more than a mebibyte
 a_long_reply : reply_line 0 1048577 ≡ codes "REPLY 0 1048577\n"
 unfolding digits
 a_long_reply = refl
