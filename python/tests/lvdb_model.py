@@ -24,6 +24,7 @@ class Model:
         self.end = len(self.trace.steps)
         assert self.trace.end is not None, "the run is too long for a model"
         image = deck.program if isinstance(deck.program, lvdc.Image) else lvdc.assemble_image(deck.program, worker=worker)
+        self._backs: list[Place] = []
         self.words: list[dict[Address, Word]] = [{at: Word(it) for at, it in image.words.items()}]
         for step in self.trace.steps:
             last = self.words[-1]
@@ -48,6 +49,21 @@ class Model:
     def is_change(self, position: int, addresses: set[Address]) -> bool:
         """Whether the last step stored another word at one of the addresses."""
         return any(self.word(position - 1, it) != self.word(position, it) for it in addresses)
+
+    def next(self, position: int) -> int:
+        """Where `next` stops, where no breakpoint is on the way."""
+        after = min(self.end, (position // 3 + 1) * 3)
+        if position % 3 or after % 3 or self.votes[position][1][1] % 8:
+            return after if position % 3 else min(self.end, after + 3 * (self.votes[after][1][1] % 8))
+        saver, code = self.votes[after][2][1], self.votes[after][3][0] >> 9 & 15
+        is_hop, is_transfer = code == 0, saver != self.votes[position][2][1] and code in (4, 8, 12)
+        entry, keeps = self.place(after), self.trace.steps[after + 2].exchange if after + 2 < self.end else None
+        is_kept = isinstance(keeps, MemoryExchange) and keeps.kind == "STORE" and keeps.word == saver and self.votes[after + 1][3][0] & 0o776 == 0o776
+        if is_hop and entry not in self.backs(position) or is_transfer and is_kept:
+            back = _place(saver)
+            returned = [it for it in range(after + 3, self.end + 1, 3) if self.is_arrival(it, {back}) and self.votes[it][3][0] & 0o17777 < 0o1000]
+            return returned[0] if returned else after
+        return min(self.end, after + 3 * (self.votes[after][1][1] % 8))
 
     def onward(self, position: int, is_wanted: Callable[[int], bool]) -> int:
         """The first later position that is wanted, else the end."""
@@ -89,7 +105,13 @@ class Model:
                     del found[len(backs) - 1 - backs[::-1].index(entry):]
                 else:
                     found.append((self.place(3 * time), back))
+        self._backs = [back for _, back in found]
         return [caller for caller, _ in found]
+
+    def backs(self, position: int) -> list[Place]:
+        """Where each of those goes back to."""
+        self.calls(position)
+        return self._backs
 
     def differing(self, position: int) -> Iterator[tuple[tuple[int, int], Latches]]:
         """The copies that differ after so many steps."""

@@ -8,6 +8,7 @@ import lvdc
 from lvdc import Worker
 from lvdc.lvdb.commands import carry_out
 from lvdc.lvdb.console import Console
+from lvdc.lvdb.errors import CommandError
 from lvdc.lvdb.mistakes import KINDS
 from lvdc.lvdb.program import Options, load
 from lvdc.lvdb.session import Debugger
@@ -152,14 +153,15 @@ def test_next_passes_over_calls_and_holds(worker: Worker, tmp_path: Path) -> Non
 def test_a_file_is_read_anew_after_an_edit(worker: Worker, tmp_path: Path) -> None:
     path, options = written(tmp_path, source(MADE["early"][0]))
     console = sitting(path, worker, options)
-    told(console, "break STOP", "break 4", "watch X", "hurt 5 1 for 1")
+    told(console, "break STOP", "break 4", "watch X", "hurt 5 1 for 1", "break 3 if X == 1", "display X", "display Y")
     path.write_text("* A COMMENT\n" + source(MADE["early"][0].replace("775", "Y").replace("X", "XX")))
     answer = told(console, "step 2", "reload")
     assert "is read anew" in answer and "watch 3 is gone: 'X' is no word" in answer and "time 0 at" in answer
+    assert "break 4 is gone" in answer and "display 1 is gone" in answer and "2: Y = 000000007" in answer
     assert "put in  LAG 5 1 0 0" in told(console, "faults")
     assert told(console, "run").split("\n")[:3][0].startswith("breakpoint 2")
     path.write_text("        CODE\n")
-    with pytest.raises(lvdc.Refused):
+    with pytest.raises(CommandError, match="is refused, and what was read before stays"):
         carry_out(console, "reload")
     assert told(console, "continue").split("\n")[0].startswith("breakpoint 1: STOP")
 

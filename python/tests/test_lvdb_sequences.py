@@ -65,8 +65,14 @@ class Sitting:
     def searches(self) -> tuple[str, int]:
         """To breakpoints, changes and places."""
         wanted = set(self.breaks.values())
-        match self.draw.randrange(5):
-            case 0 | 1:
+        match self.draw.randrange(7):
+            case 5:
+                starts = self.model.is_arrival(0, {it for it in wanted if isinstance(it, Place)})
+                self.position = 0
+                return "run", self.arrived(0 if starts else self.model.proceed(0, wanted), True)
+            case 6 if not wanted:
+                return "next", self.model.next(self.position) if self.position < self.model.end else self.position
+            case 0 | 1 | 6:
                 return "continue", self.arrived(self.model.proceed(self.position, wanted))
             case 2:
                 return "reverse-continue", self.arrived(self.model.reverse(self.position, wanted)) if self.position else 0
@@ -75,9 +81,9 @@ class Sitting:
                 return f"until {place}", self.model.proceed(self.position, {place})
         return "until", self.model.behind(self.position)
 
-    def arrived(self, position: int) -> int:
+    def arrived(self, position: int, is_run: bool = False) -> int:
         """Breakpoints for one stop that are met are gone."""
-        if self.position < self.model.end or position < self.position:
+        if is_run or self.position < self.model.end or position < self.position:
             for number in [it for it in self.temporary if self.model.is_arrival(position, {p for p in [self.breaks[it]] if isinstance(p, Place)})]:
                 self.temporary.discard(number)
                 del self.breaks[number]

@@ -171,14 +171,10 @@ def _mend(file: _File, found: Finding, lost: set[str]) -> bool:
 
 
 def _leave_out(file: _File, at: int) -> bool:
-    """Leaves a line of a deck or an image out; its number stays, since a comment or the line above it stands in its place."""
-    if file.kind == "image":
-        if at == 0 or "START" in file.lines[at]:
-            return False
-        del file.lines[at]
-        return False
-    file.lines[at] = "*"
-    return True
+    """Puts a comment in the place of a line of a deck; an image has none."""
+    if file.kind == "deck":
+        file.lines[at] = "*"
+    return file.kind == "deck"
 
 
 def _is_of_macros(file: _File, parts: Parts) -> bool:

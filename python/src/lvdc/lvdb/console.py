@@ -2,6 +2,7 @@
 from collections.abc import Iterator
 from dataclasses import dataclass, field
 
+from lvdc.lvdb.errors import CommandError
 from lvdc.lvdb.expressions import Words, addresses_in, evaluate, in_all_forms
 from lvdc.lvdb.session import Debugger, Stop
 from lvdc.lvdb.show import Style, stop_lines
@@ -35,6 +36,15 @@ class Console:
             self.debugger.replay.words(self.debugger.position, addresses)
         for number, text in self.displays.items():
             yield f"{number}: {text} = {in_all_forms(self.value(text))}"
+
+    def drop_displays(self) -> Iterator[str]:
+        """Takes away the displays that have no meaning any more, and tells them."""
+        for number, text in list(self.displays.items()):
+            try:
+                self.value(text)
+            except CommandError as error:
+                del self.displays[number]
+                yield f"display {number} is gone: {error}"
 
     def value(self, text: str) -> Word | None:
         """What an expression comes to now."""

@@ -1,10 +1,14 @@
 """The commands that move: forward, back, and to a time or a place."""
 import re
 from collections.abc import Iterator
+from pathlib import Path
 
+from lvdc.check.main import check_file
 from lvdc.lvdb.console import Console
+from lvdc.lvdb.errors import CommandError
 from lvdc.lvdb.registry import COMMANDS, Told, command, count_in, want_nothing
 from lvdc.lvdb.session import Stop
+from lvdc.refusals import Refused
 from lvdc.values import STEPS_A_TIME
 
 _TIME = re.compile("0|[1-9][0-9]{0,6}")
@@ -47,9 +51,15 @@ def run(console: Console, words: list[str]) -> Told:
 def reload(console: Console, words: list[str]) -> Iterator[str]:
     """The file anew."""
     want_nothing("reload", words)
-    gone = console.debugger.reload()
-    yield f"{console.debugger.program.path} is read anew"
+    path = console.debugger.program.path
+    try:
+        gone = console.debugger.reload()
+    except Refused as refused:
+        told = "\n".join(check_file(Path(path), console.debugger.asker))
+        raise CommandError(f"{path} is refused, and what was read before stays\n{told}") from refused
+    yield f"{path} is read anew"
     yield from gone
+    yield from console.drop_displays()
     yield from console.stopped(Stop(console.debugger.state, console.debugger.state))
 
 

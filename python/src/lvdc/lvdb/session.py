@@ -1,5 +1,5 @@
 """The debugger's own state: a deck with the faults that were put in, the mode, and how many steps of the run are made."""
-from collections.abc import Callable, Set
+from collections.abc import Callable, Iterator, Set
 from dataclasses import dataclass, replace
 from pathlib import Path
 
@@ -322,23 +322,29 @@ class Debugger:
 
     def reload(self) -> list[str]:
         """Reads the file anew, and stands at the beginning. Breakpoints and faults stay as far as they still have a meaning; those that have
-        none are told."""
+        none are told. A file that is refused changes nothing."""
         program = load(Path(self.program.path), self.program.options, self.asker)
-        fresh = Debugger(program, self.asker)
-        fresh.is_through = self.is_through
-        told = []
-        for it in self.breakpoints.values():
+        breakpoints, faults = self.breakpoints, self.injected
+        self.program, self.position, self.injected, self.breakpoints = program, 0, (), Breakpoints(last=breakpoints.last)
+        self._replays, self._mistakes = {}, {}
+        return [*self._put_again(breakpoints), *self._inject_again(faults)]
+
+    def _put_again(self, breakpoints: Breakpoints) -> Iterator[str]:
+        """Sets breakpoints in a program that was read anew, and tells which can't be."""
+        for it in breakpoints.values():
             try:
-                fresh.breakpoints.add(replace(it, **find_again(program, it)))
+                self._holds(it.condition, self.word_now, self.state.latch)
+                self.breakpoints.add(replace(it, **find_again(self.program, it)))
             except CommandError as error:
-                told.append(f"{it.kind} {it.number} is gone: {error}")
-        for fault in self.injected:
+                yield f"{it.kind} {it.number} is gone: {error}"
+
+    def _inject_again(self, faults: tuple[Fault, ...]) -> Iterator[str]:
+        """Puts faults in again, and tells which can't be."""
+        for fault in faults:
             try:
-                fresh.inject(fault)
+                self.inject(fault)
             except CommandError as error:
-                told.append(f"{fault} is out: {error}")
-        self.__dict__.update(fresh.__dict__)
-        return told
+                yield f"{fault} is out: {error}"
 
     # ---- faults and the mode
 
