@@ -88,6 +88,15 @@ def answers_of(deck: Deck, told: Trace, chosen: int | None) -> Texts | None:
     return {"steps": list(steps), "rows": rows}
 
 
+def turns_of(deck: Deck, step: int) -> Texts:
+    """What happens in a step where a visitor has hurt one or two copies: the trace of the step through every fault, by the copies."""
+    found: Texts = {}
+    for script in scripts_at(step):
+        key = " ".join(f"{it.module}-{it.copy}" for it in script.faults if isinstance(it, Flip))
+        found[key] = ask(["trace", "--through", str(step), "1"], deck.with_faults(*script.faults))
+    return found
+
+
 # ---- the story of a kiosk
 
 def changes(step: Step, module: int) -> bool:
@@ -142,6 +151,8 @@ def exhibit_of(name: str, text: str, steps: int, answers: bool) -> Texts:
     told = trace(healthy, 0, steps)
     story = story_of(healthy, told)
     step = story["step"] if story else None
+    if story and answers and isinstance(step, int):
+        story["turns"] = turns_of(healthy, step)
     return {
         "name": name, "deck": text, "report": report, "trace": ask(["trace", "0", str(steps)], text), "listing": listing_of(deck),
         "form": ask(["form"], text), "healthy": run_texts(healthy, steps), "through": through_texts(deck, report, steps),

@@ -21,6 +21,7 @@ TOOL = HERE / "exhibit"
 WITH_ANSWERS = [HERE / "kiosk.deck", EXAMPLES / "two-wrong-copies.deck"]
 WIDTHS = [320, 390, 768, 1366, 1920]
 LEAST_TARGET = 44
+SIZES_OF_KIOSK = [(390, 844), (1024, 768), (1366, 768), (1080, 1920), (1920, 1080)]
 SCREENS = 5
 COPIES = [f"{module}-{copy}" for module in range(1, 8) for copy in range(1, 4)]
 
@@ -342,7 +343,14 @@ def try_letters(path: pathlib.Path) -> None:
 
 # ---- the kiosk
 
-OVERFLOWS = "document.documentElement.scrollHeight > innerHeight || document.documentElement.scrollWidth > innerWidth"
+# It scrolls, or a sentence of a moment lies over the drawing.
+OVERFLOWS = """(() => {
+    const { scrollWidth, scrollHeight } = document.documentElement;
+    const drawn = Math.max(...[...document.querySelectorAll('.board .card')].map((it) => it.getBoundingClientRect().bottom));
+    const told = document.querySelector('.happens');
+    const { top, bottom } = told.checkVisibility() ? told.getBoundingClientRect() : { top: innerHeight, bottom: 0 };
+    return scrollHeight > innerHeight || scrollWidth > innerWidth || drawn > top + 1 || bottom > innerHeight;
+})()"""
 SMALL = f"""[...document.querySelectorAll('button')]
     .filter((it) => getComputedStyle(it).display !== 'none' && getComputedStyle(it).visibility !== 'hidden')
     .map((it) => [it.textContent, Math.min(it.offsetWidth, it.offsetHeight)]).filter(([, size]) => size < {LEAST_TARGET})"""
@@ -387,6 +395,11 @@ def try_story(page: Browser, path: pathlib.Path, texts: Texts) -> None:
             expect("kiosk: the first wrong result", words(page, ".first-wrong-row td:first-child").split(" ")[0], str(first))
 
 
+# The lamps that aren't well.
+UNWELL = """Object.fromEntries([...document.querySelectorAll('.light')].filter((it) => it.dataset.kind !== 'well')
+    .map((it) => [`${it.dataset.module}-${it.dataset.copy}`, it.dataset.kind]))"""
+
+
 def try_visitor(page: Browser, path: pathlib.Path) -> None:
     """A visitor's own turn, the languages, and what happens when the visitor has gone."""
     opened(page, path, "kiosk")
@@ -394,8 +407,10 @@ def try_visitor(page: Browser, path: pathlib.Path) -> None:
         page.run(click(".next"))
     page.run(press(3, 1))
     one = page.run("document.querySelector('.kiosk-text .sentence').dataset.verdict")
+    broken = page.run(UNWELL)
     page.run(press(3, 2))
     two = page.run("document.querySelector('.kiosk-text .sentence').dataset.verdict")
+    expect("kiosk: what a visitor broke is seen", [broken, page.run(UNWELL)], [{"3-1": "differed"}, {"3-1": "hurt", "3-2": "hurt", "3-3": "differed"}])
     expect("kiosk: one copy and then two of a module", [one, two], ["ADMISSIBLE", "LOGIC"])
     page.run(click(".kiosk-head button:nth-of-type(2)"))
     expect("kiosk: the other language", page.run("document.documentElement.lang"), "de")
@@ -407,12 +422,12 @@ def try_visitor(page: Browser, path: pathlib.Path) -> None:
 
 def try_idle(page: Browser, path: pathlib.Path) -> None:
     """Where nobody touches anything for a while it begins anew, in its first language."""
-    opened(page, path, "kiosk&idle=1")
+    opened(page, path, "kiosk&idle=3")
     page.run(click(".kiosk-head button:nth-of-type(2)"))
     page.run(click(".next"))
     changed = page.run("document.querySelector('.kiosk').dataset.screen + document.documentElement.lang")
     begun = "document.querySelector('.kiosk').dataset.screen === '1' && document.documentElement.lang === 'en'"
-    expect("kiosk: it begins anew", [changed, page.until(begun, 5)], ["2de", True])
+    expect("kiosk: it begins anew", [changed, page.until(begun, 10)], ["2de", True])
 
 
 MOST_TABS = 60
@@ -448,7 +463,7 @@ def try_walk(page: Browser, path: pathlib.Path) -> None:
 
 def try_kiosk(page: Browser, path: pathlib.Path, texts: Texts) -> None:
     """The kiosk."""
-    for language, width, height in [("en", 1920, 1080), ("de", 1920, 1080), ("en", 1366, 768), ("de", 1366, 768)]:
+    for language, (width, height) in itertools.product(("en", "de"), SIZES_OF_KIOSK):
         try_screens(page, path, language, width, height)
     try_story(page, path, texts)
     try_visitor(page, path)

@@ -21,6 +21,7 @@ STEPS_OF_A_STRIKE = 90
 OPENING_STEP = 61
 STEPS_TRIED = range(OPENING_STEP, OPENING_STEP + STEPS_OF_A_SECOND, 10)
 DRAWN_STRIKES = 40
+STORY = 5
 PAIRS = [(module, pair) for module in range(1, 8) for pair in itertools.combinations((1, 2, 3), 2)]
 PROVED = "Proved: every word that it sends"
 PROVED_UNTIL = "Proved: up to here"
@@ -33,7 +34,8 @@ TEXT = "document.body.innerText"
 # What is wrong with the page's measures: what is cut off, lies outside of the window, is too small, or lies over something else.
 MEASURES = """(() => {
     const shown = (it) => it.checkVisibility() && getComputedStyle(it).visibility !== 'hidden' && it.offsetWidth !== 1;
-    const all = (query) => [...document.querySelectorAll(query)].filter(shown);
+    const root = document.querySelector('dialog[open]') ?? document.body;
+    const all = (query) => [...root.querySelectorAll(query)].filter(shown);
     const named = (it) => it.id || it.className || it.tagName;
     const box = (it) => it.getBoundingClientRect();
     const leaves = all('h1, h2, p, button, .says, .number, .voter, .value, .port').filter((it) => it.textContent.trim());
@@ -53,7 +55,7 @@ MEASURES = """(() => {
             over.push(`${named(one)} and ${named(other)}`);
         }
     }));
-    const scrolls = document.documentElement.scrollWidth > innerWidth || document.documentElement.scrollHeight > innerHeight;
+    const scrolls = [document.documentElement, root].some((it) => it.scrollWidth > it.clientWidth + 1 || it.scrollHeight > it.clientHeight + 1);
     const told = cut.map((it) => `${named(it)}: ${it.textContent.slice(0, 30)}`);
     return { outside: outside.map(named), cut: told, small: small.map(named), low: low.map(named), over, scrolls };
 })()""".replace("TARGET", str(LEAST_TARGET)).replace("LETTERS", str(LETTERS_IN_HEIGHT))
@@ -150,7 +152,7 @@ def try_claims(page: Guest, tally: Tally, worker: Worker) -> None:
 
 def try_visit(page: Guest, tally: Tally, worker: Worker) -> None:
     """One lie is outvoted, two win; each press moves something at once, and each copy shows what the trace says."""
-    point(page, "#choices button")
+    launch(page)
     page.wait("flight.at > 130")
     began = time.monotonic()
     strike(page, (5, 2))
@@ -249,25 +251,32 @@ def try_idle(page: Guest, tally: Tally) -> None:
 
 # ---- sizes, languages, colours
 
+def try_state(page: Guest, tally: Tally, name: str) -> None:
+    """What stands on the page measures well in all languages, and can be read by visitors."""
+    for language in page.run("Object.keys(Words.LANGUAGES)"):
+        page.run(f"flight.speak('{language}')")
+        tally.expect(f"{name}, {language}", page.run(MEASURES), FINE)
+        tally.expect(f"{name}, {language}: what visitors can't read", NOT_FOR_VISITORS.findall(page.run(TEXT)), [])
+
+
 def try_measures(page: Guest, tally: Tally) -> None:
     """At all sizes and in all languages nothing is cut off, overlaid or scrolled, letters and targets are large; nothing is said in octal."""
     for width, height in SIZES:
+        name = f"{width} by {height}"
         page.size(width, height)
         opened(page)
-        for language in page.run("Object.keys(Words.LANGUAGES)"):
-            name = f"{width} by {height}, {language}"
-            page.run(f"flight.speak('{language}')")
-            launch(page)
-            tally.expect(f"{name}: at first", page.run(MEASURES), FINE)
-            page.run("flight.touch({ module: 2, copy: 1 }, document.querySelector('.copy'))")
-            page.wait(f"{KIND} === 'asked'")
-            tally.expect(f"{name}: the question", page.run(MEASURES), FINE)
-            page.run("flight.touch({ module: 2, copy: 3 }, document.querySelector('.copy'))")
-            page.wait("flight.flown.through !== null")
-            page.run("flight.guess = true; flight.reveal()")
-            page.wait(f"['broke', 'luck'].includes({KIND})")
-            tally.expect(f"{name}: the end", page.run(MEASURES), FINE)
-            tally.expect(f"{name}: what visitors can't read", NOT_FOR_VISITORS.findall(page.run(TEXT)), [])
+        launch(page)
+        try_state(page, tally, f"{name}: at first")
+        page.run("Flight.VOTE = Flight.RUN = 50; flight.touch({ module: 2, copy: 1 }, document.querySelector('.copy'))")
+        try_state(page, tally, f"{name}: the question")
+        page.run("flight.touch({ module: 2, copy: 3 }, document.querySelector('.copy'))")
+        page.run("flight.guess = true; flight.reveal()")
+        page.wait(f"['broke', 'luck'].includes({KIND})")
+        try_state(page, tally, f"{name}: the end")
+        point(page, "#story")
+        for _ in range(STORY):
+            try_state(page, tally, f"{name}: the story")
+            page.run("[...document.querySelectorAll('#told .row button')].at(-2).click()")
     page.size(1366, 768)
 
 

@@ -178,7 +178,14 @@ def try_copies(page: Visitor, tally: Tally, worker: Worker) -> None:
     page.press_lamp(3, 2)
     tally.expect("a second press takes the second copy back", [page.says()["kind"], page.says()["deck"].count("FLIP")], ["always", 1])
     page.press_lamp(3, 2)
-    tally.expect("two copies: the last step", [says["last"], says["lamps"]["3-1"], says["lamps"]["3-2"]], [STEP, "hurt", "hurt"])
+    whole = says["last"]
+    page.go_to(whole)
+    says = page.says()
+    tally.expect("two copies: the last step, on the same scale", [says["step"], says["last"], says["lamps"]["3-1"], says["lamps"]["3-2"]],
+                 [STEP, whole, "hurt", "hurt"])
+    page.go_to(2)
+    page.press("#outcome button:nth-of-type(2)")
+    tally.expect("two copies: to the step that decided", page.says()["step"], STEP)
 
 
 def try_what_if(page: Visitor, tally: Tally, worker: Worker) -> None:

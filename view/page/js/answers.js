@@ -34,5 +34,5 @@ const Answers = (() => {
         return [ended, words(row.same ? 'break.same' : 'break.differs')];
     }
 
-    return { Book, touched, saying };
+    return { Book, ordered, touched, saying };
 })();

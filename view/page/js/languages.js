@@ -191,6 +191,8 @@ window.LANGUAGES = {
   "lab.unread": "This page can't read the answer.",
   "lab.nodeck": "That is no deck.",
   "lab.late": "The answer would take too long. Take fewer instruction times.",
+  "lab.late.kiosk": "The answer would take too long. Take something back.",
+  "lab.decided": "To the step that decided",
   "lab.long": "The deck is too long for the lab.",
   "lab.many": "Too many ask at once. Try again.",
   "lab.gone": "The lab does not answer any more. It has to be started again.",

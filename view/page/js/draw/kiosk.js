@@ -37,7 +37,7 @@ const Kiosk = (() => {
     class Kiosk {
         constructor(found, story, idle) {
             const chapters = ['one', 'two', 'cell'].map((it) => [it, chapterOf(story[it], found.listing)]);
-            Object.assign(this, { found, step: story.step, story: Object.fromEntries(chapters), idle, screen: 1, hurt: [], timer: null });
+            Object.assign(this, { found, step: story.step, turns: story.turns ?? {}, story: Object.fromEntries(chapters), idle, screen: 1, hurt: [], timer: null });
             this.screens = found.answers?.isWhole ? SCREENS : SCREENS.slice(0, -1);
             this.first = Words.known(document.documentElement.lang);
             this.words = Words.of(this.first);
@@ -100,6 +100,7 @@ const Kiosk = (() => {
             this.stage.drawing.mark([]);
             this.stage.loops = true;
             this.element.dataset.screen = String(screen);
+            this.element.classList.toggle('last', screen === this.screens.length);
             this.screens[screen - 1].show(this);
             this.tell();
         }
@@ -127,6 +128,7 @@ const Kiosk = (() => {
         touch({ module, copy }) {
             if (this.screen !== SCREENS.length) return;
             this.hurt = Answers.touched(this.hurt, keyOf(module, copy));
+            showTurn(this);
             this.stage.drawing.mark(this.hurt);
             this.tell();
         }
@@ -180,9 +182,12 @@ const Kiosk = (() => {
         return beside([strong(first, row.verdict), ...others.map(paragraph)], again);
     }
 
+    /** The step of a visitor's turn, with what was hurt in it; else that of the healthy machine. */
     function showTurn(kiosk) {
-        const { moments } = kiosk.found.healthy;
-        kiosk.stage.use(moments.filter((it) => it.step === kiosk.step));
+        const { healthy, listing } = kiosk.found;
+        const text = kiosk.turns[Answers.ordered(kiosk.hurt).join(' ')];
+        const hurt = text ? Moments.of(Trace.read(text), healthy.deck, listing) : [];
+        kiosk.stage.use(hurt.length > 0 ? hurt : healthy.moments.filter((it) => it.step === kiosk.step));
     }
 
     const SCREENS = [

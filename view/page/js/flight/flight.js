@@ -17,6 +17,8 @@ class Flight {
 
     static SEEN_FOR = 9000;
 
+    static TRY_AGAIN = 3000;
+
     /** While it shows itself: when the first strike comes, and how far the others are apart, in milliseconds. */
     static FIRST_STRIKE = 2500;
 
@@ -52,18 +54,20 @@ class Flight {
 
     /** What is said while all is well. */
     invite() {
-        this.sight.say('flying', this.sight.words('flight.touch'), [this.sight.words('flight.model')], [['flight.launch', () => this.act(() => this.launch())]]);
+        const told = (words) => ({ title: words('flight.touch'), more: [words('flight.model')] });
+        this.sight.say('flying', told, [['flight.launch', () => this.act(() => this.launch())]]);
     }
 
-    /** Does something that asks; where there is no answer that is told, and the page looks for its server. */
+    /** Does something that asks; where there is no answer that is told, and a flight begins anew, or the page looks for its server. */
     async guarded(does) {
         try {
             await does();
         } catch (error) {
             if (!error.message.startsWith('lab.')) throw error;
             this.state = 'waiting';
-            this.sight.say('unknown', this.sight.words('lab.unknown.title'), [this.sight.words('flight.gone')]);
-            Asking.comeBack();
+            this.sight.say('unknown', (words) => ({ title: words('lab.unknown.title'), more: [words('flight.gone')] }));
+            if (error.message === 'lab.gone') Asking.comeBack();
+            else this.later(Flight.TRY_AGAIN, () => this.launch());
         }
     }
 
@@ -110,12 +114,9 @@ class Flight {
     /** A flight is over. */
     land() {
         this.state = 'landed';
-        const { words } = this.sight;
-        const { kind } = Verdict.of(this.flown, this.healthy, this.struck, words);
-        if (kind === 'flew') {
-            const claim = Claims.of(this.flown.report) === 'whole' ? [words('flight.proved')] : [words('end.lost')];
-            this.sight.say('flew', words('flight.landed', { count: this.flown.sent.length }), claim, this.again());
-        }
+        const { flown, healthy, struck } = this;
+        const told = (words) => ({ ...Verdict.of(flown, healthy, struck, words), title: words('flight.landed', { count: flown.sent.length }) });
+        if (told(this.sight.words).kind === 'flew') this.sight.say('flew', told, this.again());
         this.later(Flight.SEEN_FOR, () => this.alone && this.launch());
     }
 
@@ -184,10 +185,11 @@ class Flight {
 
     /** Asks a visitor what will become of it. */
     ask(what) {
-        const { words } = this.sight;
-        const said = what.module ? words('flight.struck', { copy: what.copy, module: words(`module.${what.module}`) }) : words('flight.struck.memory', { twin: what.twin + 1 });
+        const said = (words) => (what.module ? words('flight.struck', { copy: what.copy, module: words(`module.${what.module}`) })
+            : words('flight.struck.memory', { twin: what.twin + 1 }));
+        const told = (words) => ({ title: words('flight.ask'), more: [said(words), words('flight.more')] });
         const guess = (fliesOn) => () => this.act(() => { this.guess = fliesOn; return this.reveal(); });
-        this.sight.say('asked', words('flight.ask'), [said, words('flight.more')], [['flight.yes', guess(true)], ['flight.no', guess(false)]]);
+        this.sight.say('asked', told, [['flight.yes', guess(true)], ['flight.no', guess(false)]]);
         window.clearTimeout(this.asking);
         this.asking = window.setTimeout(() => this.guarded(() => this.reveal()), Flight.GUESS_WITHIN);
     }
@@ -200,14 +202,16 @@ class Flight {
         const { turn, sight, flown, healthy } = this;
         window.clearTimeout(this.asking);
         this.state = 'shown';
-        sight.say('shown', sight.words('flight.vote'), [], []);
+        sight.say('shown', (words) => ({ title: words('flight.vote') }));
         const modules = [...new Set(this.struckTogether.map((it) => it.module).filter((it) => it))];
         await sight.votes(modules, Flight.VOTE);
         if (turn !== this.turn) return;
-        const verdict = Verdict.of(flown, healthy, this.struckTogether, sight.words);
-        if (verdict.kind === 'broke') await this.breakUp(verdict.at, flown.report.end.module);
+        const { struckTogether } = this;
+        const verdictIn = (words) => Verdict.of(flown, healthy, struckTogether, words);
+        const { kind, at } = verdictIn(sight.words);
+        if (kind === 'broke') await this.breakUp(at, flown.report.end.module);
         if (turn !== this.turn) return;
-        this.tell(verdict);
+        this.tell(kind, verdictIn);
     }
 
     /** Goes on to the first wrong word, or to the time at which it is due, while the error runs to the rocket. */
@@ -221,14 +225,18 @@ class Flight {
         this.draw();
     }
 
-    tell({ kind, title, more }) {
+    /** Tells the verdict, and whether a visitor has guessed it. */
+    tell(kind, verdictIn) {
         const { sight, guess } = this;
-        const fliesOn = kind !== 'broke';
-        const guessed = guess === null ? [] : [sight.words(guess === fliesOn ? 'flight.guess.right' : 'flight.guess.wrong')];
+        const guessed = guess === null ? [] : [guess === (kind !== 'broke') ? 'flight.guess.right' : 'flight.guess.wrong'];
+        const told = (words) => {
+            const { title, more } = verdictIn(words);
+            return { title, more: [...guessed.map((it) => words(it)), ...more] };
+        };
         this.guess = null;
         this.state = kind === 'flew' ? 'flying' : 'lost';
         if (kind === 'flew') sight.sound.flew();
-        sight.say(kind, title, [...guessed, ...more], this.again());
+        sight.say(kind, told, this.again());
         if (kind === 'flew') this.later(Flight.SEEN_FOR, () => { if (this.state === 'flying') this.invite(); });
         else this.later(Flight.SEEN_FOR, () => { if (this.alone) this.launch(); });
     }
@@ -259,7 +267,6 @@ class Flight {
 
     speak(language) {
         this.sight.speak(language);
-        if (this.state === 'flying') this.invite();
         if (this.state !== 'waiting') this.draw();
     }
 }

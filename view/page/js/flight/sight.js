@@ -24,12 +24,15 @@ class FlightSight {
         for (const it of document.querySelectorAll('[data-name]')) it.setAttribute('aria-label', this.words(it.dataset.name));
         for (const it of FlightSight.place('languages').children) it.setAttribute('aria-pressed', String(it.lang === language));
         this.machine.speak(this.words);
+        this.said?.();
         this.drawWires();
     }
 
-    /** Says a title, sentences, and what can be chosen: each choice is a key of `Words` and what it does. */
-    say(kind, title, more = [], choices = []) {
+    /** Says a title and sentences, which `tell` makes of words, and what can be chosen: each choice is a key of `Words` and what it does. */
+    say(kind, tell, choices = []) {
         const { place } = FlightSight;
+        const { title, more = [] } = tell(this.words);
+        this.said = () => this.say(kind, tell, choices);
         document.body.dataset.kind = kind;
         if (place('verdict').textContent !== title) place('verdict').textContent = title;
         place('more').textContent = more.join(' ');

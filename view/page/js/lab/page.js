@@ -243,13 +243,13 @@ class LabPage {
         this.showTime();
     }
 
-    showTime() { this.sight.time(this.step, this.last, this.faults, this.end); }
+    showTime() { this.sight.time(this.step, this.session.steps - 1, this.faults, this.end); }
 
     showOutcome() {
         const { outcome, sight, what } = this;
         const isNot = ['logic', 'memory'].includes(outcome.kind);
         if (this.through) sight.whatIf(outcome.kind, what.healthy, what.other, () => this.switchTo(false));
-        else sight.outcome(outcome, this.session?.faults ?? [], isNot && (() => this.switchTo(true)));
+        else sight.outcome(outcome, this.session?.faults ?? [], isNot && (() => this.switchTo(true)), () => this.goTo(outcome.report.end.step));
         if (this.session) this.showTime();
     }
 

@@ -51,7 +51,7 @@ class LabSight {
         place('happens').replaceChildren(...Saying.of(moment, this.words).map((it) => Element.html('li', {}, it)));
     }
 
-    /** Where the slider stands, with a mark at each fault and at the end of the run. */
+    /** Where the slider stands, over all steps that are asked for, with a mark at each fault and at the end of the run. */
     time(step, last, faults, end) {
         const slider = LabSight.place('slider');
         slider.max = String(last);
@@ -72,9 +72,10 @@ class LabSight {
         place('count').value = String(session.count);
     }
 
-    /** What the run came to, with a button where one may see what would have happened. */
-    outcome(outcome, lines, seeWhatIf) {
-        const acts = seeWhatIf ? [Element.button(this.words('mode.through'), '', seeWhatIf)] : [];
+    /** What the run came to; where it wasn't withstood with buttons for what would have happened, and for the step that decided. */
+    outcome(outcome, lines, seeWhatIf, goThere) {
+        const { button } = Element;
+        const acts = seeWhatIf ? [button(this.words('mode.through'), '', seeWhatIf), button(this.words('lab.decided'), '', goThere)] : [];
         this.box(outcome.kind, false).replaceChildren(...LabView.outcome(outcome.kind, LabTelling.outcome(outcome, lines, this.words), ...acts));
         LabSight.place('report').textContent = (outcome.texts ?? []).join('\n');
     }

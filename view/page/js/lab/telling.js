@@ -43,7 +43,8 @@ const LabTelling = (() => {
         memory: ({ report: { end } }) => end,
         device: ({ report: { end } }) => end,
         refused: ({ refusal }) => refusal,
-        unknown: ({ why }, _, words) => ({ why: words(why) }),
+        // in a kiosk the field for instruction times isn't there
+        unknown: ({ why }, _, words) => ({ why: words(why === 'lab.late' && document.body.classList.contains('kiosk') ? 'lab.late.kiosk' : why) }),
     };
 
     /** An outcome in a title and a text; `lines` are the fault lines. */
