@@ -622,11 +622,6 @@ static int read_saved(void)
 
 // ---- The voted machine at its start
 
-static void load_cells(int bank, int at, uint32_t word)
-{
-    voted->load(bank, at, word);
-}
-
 static void set_start(void)
 {
     for (int copy = 0; copy < 3; copy++) {
@@ -951,7 +946,7 @@ static int answer_plain(const char *title, int with_registers)
 static int answer_voted(const char *title, int way, int first, int told, int with_report)
 {
     int is_saved = first != NONE && saves();
-    load_word = load_cells;
+    load_word = voted->load;
     int status = is_saved ? read_saved() : read_deck();
     if (status) return status;
     start_voted(is_saved);
@@ -962,7 +957,7 @@ static int answer_voted(const char *title, int way, int first, int told, int wit
 
 static int answer_saved(void)
 {
-    load_word = load_cells;
+    load_word = voted->load;
     int status = read_saved();
     if (status) return status;
     start_voted(1);
@@ -972,7 +967,7 @@ static int answer_saved(void)
 
 static int answer_save(int times)
 {
-    load_word = load_cells;
+    load_word = voted->load;
     int status = read_deck();
     if (status) return status;
     if (times > count) return refuse(2, "CountTooLarge", run_line);
