@@ -84,8 +84,8 @@ def test_there_are_252_bits_of_a_copy() -> None:
 
 
 def all_of_sensor(worker: Worker) -> Iterator[tuple[tuple[int, int, int], bool]]:
-    """Each bit of each latch of two copies turned over at each 27th step of `sensor`, 26 of each, and whether anything came of it."""
-    kind = scripts.Flips(SENSOR.steps[::27], groups=[(1, 2)], all_bits=True)
+    """Each bit of each latch of two copies turned over at each 28th step of `sensor`, so in all phases, and whether anything came of it."""
+    kind = scripts.Flips(SENSOR.steps[::28], groups=[(1, 2)], all_bits=True)
     for row in study(SENSOR, kind, worker=worker):
         about = row.script.about
         yield (int(about["module"]), int(about["latch"]), int(about["bit"])), is_different(row)
