@@ -93,8 +93,8 @@ def try_box(tally: Tally, worker: str, folder: pathlib.Path) -> None:
         workers = [it for it, command in children_of(box.pid).items() if command.startswith(worker)]
         for it in workers:
             os.kill(it, signal.SIGKILL)
-        answered = seconds_until(lambda: is_answered(file)) < 5
-        tally.expect("box: all workers are killed, and a question is answered", [len(workers) > 0, answered], [True, True])
+        seconds = seconds_until(lambda: is_answered(file))
+        tally.expect("box: all workers are killed, and a question is answered", [len(workers) > 0, seconds < SECONDS_TO_BE_BACK], [True, True])
         below = list(children_of(box.pid))
         box.send_signal(signal.SIGTERM)
         box.wait(SECONDS_TO_BE_BACK)

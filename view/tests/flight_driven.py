@@ -43,7 +43,7 @@ MEASURES = """(() => {
     const outside = leaves.filter((it) => { const { left, top, right, bottom } = words(it);
         return left < -1 || top < -1 || right > innerWidth + 1 || bottom > innerHeight + 1; });
     const isCut = (own, text) => text.width > own.width + 2 || text.height > own.height + 4;
-    const cut = leaves.filter((it) => isCut(box(it), words(it)));
+    const cut = leaves.filter((it) => isCut(box(it), words(it))).map((it) => `${named(it)}: ${it.textContent.slice(0, 30)}`);
     const small = all('button').filter((it) => Math.min(box(it).width, box(it).height) < TARGET - 0.5);
     const low = leaves.filter((it) => parseFloat(getComputedStyle(it).fontSize) < innerHeight / LETTERS - 0.05);
     const single = all('h1, h2, #verdict, #more, button:not(.copy), .says, .voter, .value, .port, .angle').filter((it) => it.textContent.trim());
@@ -56,14 +56,13 @@ MEASURES = """(() => {
         }
     }));
     const scrolls = [document.documentElement, root].some((it) => it.scrollWidth > it.clientWidth + 1 || it.scrollHeight > it.clientHeight + 1);
-    const told = cut.map((it) => `${named(it)}: ${it.textContent.slice(0, 30)}`);
-    return { outside: outside.map(named), cut: told, small: small.map(named), low: low.map(named), over, scrolls };
+    return { outside: outside.map(named), cut, small: small.map(named), low: low.map(named), over, scrolls };
 })()""".replace("TARGET", str(LEAST_TARGET)).replace("LETTERS", str(LETTERS_IN_HEIGHT))
 FINE = {"outside": [], "cut": [], "small": [], "low": [], "over": [], "scrolls": False}
 
 # All that a visitor can change.
-CONTROLS = """[document.documentElement.lang, document.getElementById('sound').ariaPressed, document.getElementById('told').open,
-    flight.alone, scrollY,
+CONTROLS = """[document.documentElement.lang, document.getElementById('sound').ariaPressed, document.getElementById('told').open, flight.alone,
+    scrollY,
     [...document.querySelectorAll('[aria-pressed]')].map((it) => it.ariaPressed).join(' ')]"""
 KIND = "document.body.dataset.kind"
 
@@ -198,8 +197,7 @@ def try_fingers(page: Guest, tally: Tally) -> None:
     """Two fingers at once strike two copies."""
     opened(page)
     corner = "(({ left, top }) => ({ x: left + 9, y: top + 9 }))"
-    copies = [f"document.querySelector('.copy[data-module=\"4\"][data-copy=\"{copy}\"]')" for copy in (1, 2)]
-    points = [page.run(f"{corner}({copy}.getBoundingClientRect())") for copy in copies]
+    points = [page.run(f"{corner}(document.querySelector('.copy[data-module=\"4\"][data-copy=\"{it}\"]').getBoundingClientRect())") for it in (1, 2)]
     page.call("Input.dispatchTouchEvent", type="touchStart", touchPoints=points)
     page.call("Input.dispatchTouchEvent", type="touchEnd", touchPoints=[])
     page.wait(f"{KIND} === 'asked' && flight.flown.through !== null")
@@ -218,8 +216,8 @@ def try_keys(page: Guest, tally: Tally) -> None:
     page.key("Enter", 13, "\r")
     page.wait(f"{KIND} === 'flew'")
     tab_stops = "document.querySelectorAll('#machine [tabindex=\"0\"]').length"
-    focus = page.run("document.activeElement.dataset.key")
-    tally.expect("keys: one stop in the machine, the guess keeps the focus", [page.run(tab_stops), focus], [1, "flight.again"])
+    focused = page.run("document.activeElement.dataset.key")
+    tally.expect("keys: one stop in the machine, the guess keeps the focus", [page.run(tab_stops), focused], [1, "flight.again"])
 
 
 # ---- nobody there

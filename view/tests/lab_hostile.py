@@ -1,5 +1,6 @@
 """Requests that the lab's server must refuse, and more of them at once than it answers. What is due is worked out from what docs/EXHIBIT.md
 says of the server."""
+import concurrent.futures
 import contextlib
 import pathlib
 import resource
@@ -23,6 +24,9 @@ LENGTHS = {"262145": 413, "9999999999": 413, "99999999999": 411, "-1": 411, "+5"
            "\u0661": 411}
 MOST_INPUT = 262_144
 AT_ONCE = 1000
+IDLE, HEAVY = 40, 32
+MOST_SECONDS, SLACK = 2.0, 2.0
+HEAVY_DECK = b"IMAGE\nLVDC 1\n0 00 000 000010000\nEND\nFAULTS\nLAG 1 1 0 2999999\nRUN 400000\n"
 SLOW = 20
 SECONDS_TO_READ = 5
 TLS_HELLO = b"\x16\x03\x01\x02\x00\x01\x00\x01\xfc\x03\x03" + bytes(range(256))
@@ -173,6 +177,31 @@ def try_many(lab: Lab, tally: Tally) -> None:
         tally.expect(f"after {AT_ONCE} of {what}: a question", status_of(lab.asked("run", DECK, *lab.own_headers(DECK))), 200)
 
 
+def try_idle(lab: Lab, tally: Tally) -> None:
+    """Connections that send nothing hold nobody up."""
+    with contextlib.ExitStack() as stack:
+        for _ in range(IDLE):
+            stack.enter_context(lab.connected())
+        began = time.monotonic()
+        tally.expect(f"the page beside {IDLE} idle connections", [status_of(lab.got()), time.monotonic() - began < SECONDS_TO_READ / 2], [200, True])
+
+
+def try_heavy(lab: Lab, tally: Tally) -> None:
+    """Questions that take long, as many at once as are answered: each is answered or refused in its time, and a small one too."""
+    def timed(deck: bytes) -> tuple[int, float]:
+        began = time.monotonic()
+        return status_of(lab.asked("run/--through", deck, *lab.own_headers(deck))), time.monotonic() - began
+
+    with concurrent.futures.ThreadPoolExecutor(HEAVY + 1) as pool:
+        found = list(pool.map(timed, [HEAVY_DECK] * HEAVY + [DECK]))
+    slowest = max(seconds for _, seconds in found)
+    statuses = [status for status, _ in found]
+    print(f"lab: {HEAVY} heavy questions at once: {statuses.count(200)} answered, {statuses.count(503)} turned away, {statuses.count(504)} too late, "
+          f"the slowest in {slowest:.1f} seconds", flush=True)
+    tally.expect("heavy questions: other answers", set(statuses) - {200, 503, 504}, set())
+    tally.expect("heavy questions: none waits longer than it may", slowest < MOST_SECONDS + SLACK, True)
+
+
 def try_hostile(lab: Lab, tally: Tally, worker: Worker) -> None:
     """All of it, while slow requests are held open."""
     began = time.monotonic()
@@ -181,6 +210,8 @@ def try_hostile(lab: Lab, tally: Tally, worker: Worker) -> None:
     for part in (try_host, try_origin, try_methods, try_paths, try_sizes):
         part(lab, tally)
     try_slow(tally, slow, began)
+    try_idle(lab, tally)
+    try_heavy(lab, tally)
     try_many(lab, tally)
     tally.expect("the lab still runs", lab.process.poll(), None)
     tally.expect("what the lab wrote on standard error", lab.told(), "")
