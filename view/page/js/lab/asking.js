@@ -9,7 +9,7 @@ const Asking = (() => {
     const PATIENCE = 15000;
     const LOOK_EVERY = 2000;
     const MOST_KEPT = 24;
-    const WHY = { 413: 'lab.long', 503: 'lab.many', 504: 'lab.late', 507: 'lab.late' };
+    const WHY = { 413: 'lab.long', 502: 'lab.late', 503: 'lab.many', 504: 'lab.late', 507: 'lab.late' };
     const kept = new Map();
 
     const pause = (milliseconds) => new Promise((done) => { window.setTimeout(done, milliseconds); });
