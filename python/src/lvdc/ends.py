@@ -1,4 +1,5 @@
 """How a run ends, and which step of it is the first that isn't admissible. Steps count from 0, three to an instruction time."""
+import functools
 import re
 from dataclasses import dataclass
 from typing import TypeAlias
@@ -106,6 +107,7 @@ def end_of(line: re.Match[str]) -> End:
     return Done() if failed is None else DeviceFailed(int(failed), int(port, 8))
 
 
+@functools.lru_cache(maxsize=1 << 14)
 def verdict_of(groups: tuple[str, ...]) -> Verdict:
     """The verdict that the five groups of VERDICT say."""
     _, logic, module, memory, address = groups

@@ -66,14 +66,14 @@ class Unread(Error, ValueError):
 
 
 class Lines:
-    """The lines of a text that the program wrote, taken one after another."""
+    """The lines of a text that the program wrote, taken one after another; so many lines stand before them."""
 
-    def __init__(self, text: str) -> None:
+    def __init__(self, text: str, before: int = 0) -> None:
         self._lines = text.split("\n")
-        self._next = 0
+        self._next, self._before = 0, before
         last = self._lines.pop()
         if last:
-            raise Unread(len(self._lines) + 1, last, "a line that ends with LF")
+            raise Unread(before + len(self._lines) + 1, last, "a line that ends with LF")
 
     @property
     def is_done(self) -> bool:
@@ -126,8 +126,18 @@ class Lines:
 
     def unread(self, wanted: str) -> Unread:
         """The next line is at fault."""
-        return Unread(self._next + 1, self.peek() or "", wanted)
+        return Unread(self._before + self._next + 1, self.peek() or "", wanted)
 
     def fault(self, wanted: str) -> Unread:
         """The line that was taken last is at fault."""
-        return Unread(self._next, self._lines[self._next - 1], wanted)
+        return Unread(self._before + self._next, self._lines[self._next - 1], wanted)
+
+
+def rows_first(text: str, row: re.Pattern[str]) -> tuple[list[re.Match[str]], Lines]:
+    """The rows of a text that begins with any number of them, found in one pass, and the lines behind them. The pattern ends with LF."""
+    found: list[re.Match[str]] = []
+    match, at = row.match, 0
+    while (this := match(text, at)) is not None:
+        found.append(this)
+        at = this.end()
+    return found, Lines(text[at:], len(found))

@@ -1,19 +1,21 @@
 """The rows of campaigns and studies: what became of a program under each fault script."""
+import functools
+import itertools
 import re
-from collections.abc import Iterator, Sequence
+from collections.abc import Callable, Iterable, Iterator, Sequence
 from dataclasses import dataclass, field, replace
 from typing import Self, TypeAlias
 
 from lvdc.ends import GROUPS_OF_VERDICT, VERDICT, Verdict, verdict_of
-from lvdc.lines import ADDRESS, NUMBER, Lines, pattern
+from lvdc.lines import ADDRESS, NUMBER, Lines, pattern, rows_first
 from lvdc.scripts import Script
 from lvdc.values import Address
 
 _NAME = "([A-Z][A-Z0-9]{0,7})"
-_CAMPAIGN_ROW = pattern("SCRIPT", _NAME, VERDICT, "(SAME|DIFFERS)")
+_CAMPAIGN_ROW = pattern("SCRIPT", _NAME, VERDICT, "(SAME|DIFFERS)\n")
 _CAMPAIGN_TOTAL = pattern("CAMPAIGN", NUMBER, "ADMISSIBLE", NUMBER, "SAME", NUMBER)
 _OUTCOME = rf"(SAME|DIFFERS (?:END|PORT {NUMBER}|REGISTERS|WORDS {ADDRESS}))"
-_STUDY_ROW = pattern("SCRIPT", _NAME, VERDICT, _OUTCOME, "COPIES", NUMBER, "REPAIRS", NUMBER, f"(?:-|{NUMBER})", "FORM", "(YES|NO)")
+_STUDY_ROW = pattern("SCRIPT", _NAME, VERDICT, _OUTCOME, "COPIES", NUMBER, "REPAIRS", NUMBER, f"(?:-|{NUMBER})", "FORM", "(YES|NO)\n")
 _STUDY_TOTAL = pattern("STUDY", NUMBER, "ADMISSIBLE", NUMBER, "SAME", NUMBER, "FORM", NUMBER)
 
 
@@ -111,8 +113,8 @@ class CampaignRows:
     @classmethod
     def read(cls, text: str, scripts: Sequence[Script] = ()) -> Self:
         """Reads the rows of a campaign, whose scripts may be given."""
-        lines = Lines(text)
-        rows = tuple(_campaign_row(it, script) for it, script in _rows(lines, _CAMPAIGN_ROW, scripts))
+        found, lines = rows_first(text, _CAMPAIGN_ROW)
+        rows = tuple(map(_campaign_row, found, _known_scripts(len(found), scripts, lines)))
         total = lines.need(_CAMPAIGN_TOTAL, "a row or the total")
         lines.end()
         return cls(rows, int(total[1]), int(total[2]), int(total[3]), text)
@@ -139,8 +141,8 @@ class StudyRows:
     @classmethod
     def read(cls, text: str, scripts: Sequence[Script] = ()) -> Self:
         """Reads the rows of a study, whose scripts may be given."""
-        lines = Lines(text)
-        rows = tuple(_study_row(it, script) for it, script in _rows(lines, _STUDY_ROW, scripts))
+        found, lines = rows_first(text, _STUDY_ROW)
+        rows = tuple(map(_study_row, found, _known_scripts(len(found), scripts, lines)))
         total = lines.need(_STUDY_TOTAL, "a row or the total")
         lines.end()
         return cls(rows, int(total[1]), int(total[2]), int(total[3]), int(total[4]), text)
@@ -162,23 +164,24 @@ def _known(row: Row) -> Script:
 
 def each_row(text: str) -> Iterator[Row]:
     """The rows of a campaign or of a study, one after another, for texts of any length; the last line is their total."""
-    lines = Lines(text)
-    while (found := lines.may(_STUDY_ROW)) is not None:
-        yield _study_row(found, None)
-    while (found := lines.may(_CAMPAIGN_ROW)) is not None:
-        yield _campaign_row(found, None)
+    is_study = _STUDY_ROW.match(text) is not None
+    form = _STUDY_ROW if is_study else _CAMPAIGN_ROW
+    row_of: Callable[[re.Match[str], None], Row] = _study_row if is_study else _campaign_row
+    at = count = 0
+    while (found := form.match(text, at)) is not None:
+        yield row_of(found, None)
+        at, count = found.end(), count + 1
+    lines = Lines(text[at:], count)
     if lines.may(_STUDY_TOTAL) is None:
         lines.need(_CAMPAIGN_TOTAL, "a row or the total")
     lines.end()
 
 
-def _rows(lines: Lines, form: re.Pattern[str], scripts: Sequence[Script]) -> list[tuple[re.Match[str], Script | None]]:
-    """The rows, each with its script where scripts are given, which are then as many."""
-    found = list(lines.each(form))
-    if scripts and len(scripts) != len(found):
+def _known_scripts(count: int, scripts: Sequence[Script], lines: Lines) -> Iterable[Script | None]:
+    """The script of each row where scripts are given, which are then as many."""
+    if scripts and len(scripts) != count:
         raise lines.unread(f"a row for each of {len(scripts)} scripts")
-    known: list[Script | None] = [*scripts] if scripts else [None for _ in found]
-    return list(zip(found, known))
+    return scripts or itertools.repeat(None, count)
 
 
 def _campaign_row(found: re.Match[str], script: Script | None) -> CampaignRow:
@@ -196,6 +199,7 @@ def _study_row(found: re.Match[str], script: Script | None) -> StudyRow:
                     None if first is None else int(first), form == "YES", script)
 
 
+@functools.lru_cache(maxsize=1 << 12)
 def _outcome(text: str, time: str | None, address: str | None) -> Outcome:
     """The outcome of a row of a study."""
     if text == "SAME":
