@@ -2,7 +2,7 @@
 import functools
 import itertools
 import re
-from collections.abc import Callable, Iterable, Iterator, Sequence
+from collections.abc import Iterable, Iterator, Sequence
 from dataclasses import dataclass, field, replace
 from typing import Self, TypeAlias
 
@@ -166,10 +166,9 @@ def each_row(text: str) -> Iterator[Row]:
     """The rows of a campaign or of a study, one after another, for texts of any length; the last line is their total."""
     is_study = _STUDY_ROW.match(text) is not None
     form = _STUDY_ROW if is_study else _CAMPAIGN_ROW
-    row_of: Callable[[re.Match[str], None], Row] = _study_row if is_study else _campaign_row
     at = count = 0
     while (found := form.match(text, at)) is not None:
-        yield row_of(found, None)
+        yield _study_row(found, None) if is_study else _campaign_row(found, None)
         at, count = found.end(), count + 1
     lines = Lines(text[at:], count)
     if lines.may(_STUDY_TOTAL) is None:
