@@ -55,7 +55,7 @@ def test_examples_are_typed(tmp_path: Path) -> None:
     for at, text in enumerate(written.values()):
         files.append(tmp_path / f"example_{at}.py")
         files[-1].write_text(text)
-    cache = Path(tempfile.gettempdir()) / "mypy-of-lvdc"
+    cache = Path(tempfile.gettempdir()) / "mypy-of-examples"
     words = ["mypy", "--strict", "--no-error-summary", "--config-file", str(TOP / ".ci" / "mypy.ini"), "--cache-dir", str(cache), *map(str, files)]
     told = subprocess.run(words, cwd=TOP, capture_output=True, text=True, check=False)
     assert told.returncode == 0, told.stdout
