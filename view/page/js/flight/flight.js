@@ -140,6 +140,7 @@ class Flight {
     touch(what, button) {
         const wasAlone = this.alone;
         this.alone = false;
+        // a shake that was begun before begins anew
         button.classList.remove('hit');
         void button.offsetWidth;
         button.classList.add('hit');
