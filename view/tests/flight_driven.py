@@ -11,7 +11,8 @@ from lab_driven import Visitor
 from lab_running import Lab, Tally
 from lvdc.workers import Worker
 
-SIZES = [(390, 844), (844, 390), (1024, 768), (1366, 768), (1080, 1920), (1920, 1080), (3840, 2160)]
+FEW_SIZES = [(390, 844), (1366, 768)]
+SIZES = [*FEW_SIZES, (844, 390), (1024, 768), (1080, 1920), (1920, 1080), (3840, 2160)]
 LEAST_TARGET = 44
 LETTERS_IN_HEIGHT = 60
 SECONDS_TO_MOVE = 0.2
@@ -161,9 +162,9 @@ def try_visit(page: Guest, tally: Tally, worker: Worker) -> None:
     print(f"flight: {1000 * answered:.0f} ms from a strike to its answer, at a load of {os.getloadavg()[0]:.0f}", flush=True)
     tally.expect("an answer in time", answered < SECONDS_TO_MOVE or os.getloadavg()[0] > (os.cpu_count() or 1), True)
     text, step = page.run("[flight.flown.text, flight.step]")
-    told = lvdc.trace(text, step, 1, worker=worker).steps[0]
+    traced = lvdc.trace(text, step, 1, worker=worker).steps[0]
     shown = page.run("[1, 2, 3].map((it) => document.querySelector(`.copy[data-module=\"5\"][data-copy=\"${it}\"] .says`).textContent)")
-    vote, lie = told.votes[5][0].signed, told.differing[(5, 2)][0].signed
+    vote, lie = traced.votes[5][0].signed, traced.differing[(5, 2)][0].signed
     tally.expect("what the copies say", [int(it.replace("\u2212", "-")) for it in shown], [vote, lie, vote])
     point(page, '[data-key="flight.yes"]')
     page.wait(f"{KIND} === 'flew'")
@@ -172,10 +173,10 @@ def try_visit(page: Guest, tally: Tally, worker: Worker) -> None:
     strike(page, (5, 1), (5, 3))
     point(page, '[data-key="flight.yes"]')
     page.wait(f"{KIND} === 'broke'")
-    wrong = page.run("document.querySelector('.angle strong').textContent")
+    told = re.search("was told (\u2212?[0-9]+)", page.run(TEXT))
     through = words_of(lvdc.run(page.run("flight.flown.text"), through=True, worker=worker))
     at = page.run("flight.flown.firstWrong(flight.healthy)")
-    tally.expect("two lies: the angle that the rocket is told", int(wrong.rstrip("\u00b0").replace("\u2212", "-")), round(through[at][1] / 100))
+    tally.expect("two lies: the angle that the rocket is told", told and int(told[1].replace("\u2212", "-")), round(through[at][1] / 100))
     tally.expect("two lies", ["outvoted the truth" in page.run(TEXT), "You guessed wrong" in page.run(TEXT)], [True, True])
 
 
@@ -257,9 +258,9 @@ def try_state(page: Guest, tally: Tally, name: str) -> None:
         tally.expect(f"{name}, {language}: what visitors can't read", NOT_FOR_VISITORS.findall(page.run(TEXT)), [])
 
 
-def try_measures(page: Guest, tally: Tally) -> None:
+def try_measures(page: Guest, tally: Tally, sizes: list[tuple[int, int]]) -> None:
     """At all sizes and in all languages nothing is cut off, overlaid or scrolled, letters and targets are large; nothing is said in octal."""
-    for width, height in SIZES:
+    for width, height in sizes:
         name = f"{width} by {height}"
         page.size(width, height)
         opened(page)
@@ -295,8 +296,8 @@ CONTRASTS = [("--text", "--night", 4.5), ("--text", "--card", 4.5), ("--muted", 
              ("--edge", "--night", 3), ("--edge", "--card", 3), ("--well-edge", "--card", 3), ("--lie-edge", "--night", 3)]
 
 
-def try_flight(lab: Lab, tally: Tally, worker: Worker) -> None:
-    """All of it."""
+def try_flight(lab: Lab, tally: Tally, worker: Worker, is_whole: bool) -> None:
+    """All of it; at all sizes where the whole is wanted."""
     with Guest(lab) as page:
         page.size(1366, 768)
         opened(page)
@@ -305,7 +306,8 @@ def try_flight(lab: Lab, tally: Tally, worker: Worker) -> None:
         try_pairs(page, tally, worker, deck)
         try_claims(page, tally, worker)
         try_visit(page, tally, worker)
-        for part in (try_memories, try_fingers, try_keys, try_alone, try_idle, try_measures):
+        for part in (try_memories, try_fingers, try_keys, try_alone, try_idle):
             part(page, tally)
+        try_measures(page, tally, SIZES if is_whole else FEW_SIZES)
         strangers = [it for it in page.strangers() if not it.startswith(lab.address)]
         tally.expect("faults of the flight, and what it asks for elsewhere", page.faults() + strangers, [])
