@@ -9,6 +9,7 @@ import time
 from collections.abc import Iterator
 from concurrent.futures import ProcessPoolExecutor, ThreadPoolExecutor
 from pathlib import Path
+from typing import Any
 
 import pytest
 from conftest import TOP
@@ -101,8 +102,8 @@ def test_a_pool_over_processes_and_threads(program: Path) -> None:
 
 @pytest.mark.skipif(importlib.util.find_spec("distributed") is None, reason="dask's distributed isn't there")
 def test_a_pool_over_the_executor_of_dask(program: Path) -> None:
-    from distributed import Client
-    with Client(n_workers=1, threads_per_worker=2, processes=False, dashboard_address=None) as client:
+    distributed: Any = importlib.import_module("distributed")
+    with distributed.Client(n_workers=1, threads_per_worker=2, processes=False, dashboard_address=None) as client:
         pool = Pool(2, program=program, executor=client.get_executor())
         assert [int(it.text) for it in pool.ask_each(Request(("echo",), b"%d" % it) for it in range(20))] == list(range(20))
 
