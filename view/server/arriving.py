@@ -53,8 +53,9 @@ class Gathering:
         for key, _ in self._selector.select(SECONDS_BETWEEN_LOOKS):
             if key.fileobj is self._listener:
                 self._accept()
-            else:
-                self._read(self._arriving[key.fileobj])  # type: ignore[index]
+            elif isinstance(key.fileobj, socket.socket) and key.fileobj in self._arriving:
+                # one that isn't there any more made room for another just now
+                self._read(self._arriving[key.fileobj])
         now = time.monotonic()
         for late in [it for it in self._arriving.values() if it.until < now]:
             self._leave(late.connection).close()

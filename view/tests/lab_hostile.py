@@ -8,7 +8,7 @@ import socket
 import time
 from collections.abc import Iterator
 
-from lab_running import TYPE, Lab, Tally, body_of, head_of, read_all, status_of
+from lab_running import PATIENCE, TYPE, Lab, Tally, body_of, head_of, read_all, status_of
 from lvdc.workers import Worker
 
 DECK = (pathlib.Path(__file__).resolve().parents[2] / "examples" / "one-wrong-copy.deck").read_bytes()
@@ -157,7 +157,9 @@ def many(lab: Lab, request: bytes) -> Iterator[int]:
         for connection in connections:
             with contextlib.suppress(ConnectionError):
                 connection.sendall(request)
+        until = time.monotonic() + PATIENCE
         for connection in connections:
+            connection.settimeout(max(0.01, until - time.monotonic()))
             yield status_of(read_all(connection))
 
 
