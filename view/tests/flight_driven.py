@@ -190,6 +190,7 @@ def try_memories(page: Guest, tally: Tally) -> None:
         page.wait(f"{KIND} === 'asked' && flight.flown.text.includes('DEAD {twin} ')")
         point(page, '[data-key="flight.no"]')
         page.wait(f"{KIND} === '{kind}'")
+        page.wait(f"document.querySelector('.memory[data-twin=\"{twin}\"]').dataset.kind === 'dead'")
         tally.expect(f"memory {twin + 1} is dead", page.run(f"document.querySelector('.memory[data-twin=\"{twin}\"]').dataset.kind"), "dead")
     point(page, "#choices button")
 
