@@ -2,7 +2,7 @@
 #![tactic(auto)]
 
 use lvdc_console::run;
-use lvdc_text::{Retried, StdSink, StdSource, keep_memory};
+use lvdc_text::{StdSink, StdSource, keep_memory};
 use std::process::ExitCode;
 use std::{env, io};
 
@@ -28,8 +28,8 @@ fn main(rt: HostRuntime) -> ExitCode {
         // Arguments that are no text are no command line either.
         Err(_) => {}
     }
-    let mut source = StdSource::new(Retried::new(rt.reader()));
-    let mut sink = StdSink::new(Retried::new(io::writer(&rt)));
+    let mut source = StdSource::new(rt.reader());
+    let mut sink = StdSink::new(io::writer(&rt));
     match run(rt.alloc(), words.as_slice(), &mut source, &mut sink) {
         Ok(status) => ExitCode::from(status),
         Err(_) => ExitCode::from(NO_MEMORY),

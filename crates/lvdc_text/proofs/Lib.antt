@@ -9,4 +9,4 @@ mod Found
 pub mod ReadBack
 mod Rows
 pub mod Founds
-mod Cut
+mod Tries

@@ -1,6 +1,7 @@
 pub mod Causes
 pub mod Streams
 pub mod Room
+pub mod Tries
 pub mod Transfer
 pub mod Numbers
 pub mod Lines

@@ -1,8 +1,9 @@
 //! Texts at the edge: where bytes come from and where they go, the lines and tokens of a text, the reading and printing of its
-//! numbers, and values by the names that a text gives them. For the programs: streams that try again what a signal cut short, and
-//! memory that stays.
+//! numbers, and values by the names that a text gives them. For the programs: the streams of std, which try again what a signal cut
+//! short, and memory that stays.
 #![tactic(auto)]
 
+mod calls;
 mod comment;
 mod cutting;
 mod faulty;
@@ -16,6 +17,7 @@ mod standard;
 mod streams;
 mod transfer;
 
+pub use calls::{Reads, Writes};
 pub use comment::{LONGEST_LINE, is_comment, is_long};
 pub use cutting::{Line, few_tokens, is_blank, lines, part, tokens};
 pub use faulty::{FaultySink, FaultySource};
@@ -24,7 +26,6 @@ pub use index::Index;
 pub use keep::keep_memory;
 pub use memory::{MemorySink, MemorySource};
 pub use numbers::{decimal, fill_octal, octal, octal_word, plain_decimal, put_decimal, put_octal};
-pub use retried::Retried;
 pub use standard::{StdSink, StdSource};
 pub use streams::{Failed, Sink, Source};
 pub use transfer::{ReadEnd, WriteFault, read_all, write_all};

@@ -1,32 +1,19 @@
-ghost use Rattle.std.specs.Prelude.{◌≡◌, ◌≢◌, ℕ, false, IsTrue, IfErr, Ok};
+ghost use Rattle.std.specs.Prelude.{◌≡◌, ◌≢◌, false, IsTrue, IsErrAnd, IfErr};
 ghost use Rattle.std.specs.Io.{ReadsAtMost, WritesAtMost};
 ghost use Rattle.std.specs.IoError.{error_kind};
 ghost use Rattle.std.specs.declared.io.ErrorKind.TheVariants as ErrorKind;
-ghost use Rattle.std.specs.Io.KnownBytes.{Keeps, ReadConsumes, WriteAppends};
+ghost use Rattle.std.specs.Io.KnownBytes.{ReadConsumes, WriteAppends};
+ghost use Rattle.lvdc_text.specs.Tries.{IsTried};
 
-use std::io::{Error, ErrorKind, Read, Result, Write};
+use crate::{Reads, Writes};
+use std::io::{Error, ErrorKind, Result};
 
-/// How often a call is tried again at most; no signals come so often.
+/// How often a call is made at most; no signals come so often.
 const TRIES: u64 = u64::MAX;
-
-/// A reader or a writer of std whose calls are made again where they were interrupted, as by a signal. All else it hands on.
-#[derive(Drop)]
-pub struct Retried<S> {
-    inner: S,
-}
-
-impl<S> Retried<S> {
-    /// Over this reader or writer.
-    pub fn new(inner: S) -> Retried<S>
-        ensures { result.inner ≡ inner }
-    {
-        Retried { inner }
-    }
-}
 
 /// Was the call cut short before it did anything?
 fn is_interrupted(answer: &Result<usize>) -> bool
-    ensures cut { IsTrue result → (count : ℕ) → answer.now ≢ Ok count }
+    ensures cut { IsTrue result → IsErrAnd answer.now (λ error. error_kind error ≡ ErrorKind.Interrupted) }
     ensures other { result ≡ false → IfErr answer.now (λ error. error_kind error ≢ ErrorKind.Interrupted) }
 {
     match answer {
@@ -35,46 +22,36 @@ fn is_interrupted(answer: &Result<usize>) -> bool
     }
 }
 
-impl<R: Read> Read for Retried<R> {
-    ghost remaining = { λ r. R.remaining r.inner };
-
-    fn read(&mut self, buf: &mut [u8]) -> Result<usize>
-        ensures bound { ReadsAtMost result buf.new }
-        ensures bytes { ReadConsumes (R.remaining self.old.inner) (R.remaining self.new.inner) result buf.new }
-        // What was interrupted was tried again.
-        ensures retried { IfErr result (λ error. error_kind error ≢ ErrorKind.Interrupted) }
-    {
-        for _ in 0..TRIES {
-            let answer = self.inner.read(buf);
-            if !is_interrupted(&answer) {
-                return answer;
-            }
+/// Reads once, and again while that is interrupted. All else is handed on at once.
+pub fn read_tried<R: Reads>(reader: &mut R, buf: &mut [u8]) -> Result<usize>
+    ensures bound { ReadsAtMost result buf.new }
+    ensures bytes { ReadConsumes (R.left reader.old) (R.left reader.new) result buf.new }
+    ensures tried { IsTried R.reads (reader.old, buf.old) result (reader.new, buf.new) }
+    // What was interrupted was tried again.
+    ensures retried { IfErr result (λ error. error_kind error ≢ ErrorKind.Interrupted) }
+{
+    for _made in 0..TRIES {
+        let read = reader.read_once(buf);
+        if !is_interrupted(&read) {
+            return read;
         }
-        Err(Error::from(ErrorKind::TimedOut))
     }
+    Err(Error::from(ErrorKind::TimedOut))
 }
 
-impl<W: Write> Write for Retried<W> {
-    ghost contents = { λ w. W.contents w.inner };
-
-    fn write(&mut self, buf: &[u8]) -> Result<usize>
-        ensures bound { WritesAtMost result buf.now }
-        ensures bytes { WriteAppends (W.contents self.old.inner) (W.contents self.new.inner) result buf.now }
-        // What was interrupted was tried again.
-        ensures retried { IfErr result (λ error. error_kind error ≢ ErrorKind.Interrupted) }
-    {
-        for _ in 0..TRIES {
-            let answer = self.inner.write(buf);
-            if !is_interrupted(&answer) {
-                return answer;
-            }
+/// Writes once, and again while that is interrupted. All else is handed on at once.
+pub fn write_tried<W: Writes>(writer: &mut W, buf: &[u8]) -> Result<usize>
+    ensures bound { WritesAtMost result buf.now }
+    ensures bytes { WriteAppends (W.written writer.old) (W.written writer.new) result buf.now }
+    ensures tried { IsTried (W.writes buf.now) writer.old result writer.new }
+    // What was interrupted was tried again.
+    ensures retried { IfErr result (λ error. error_kind error ≢ ErrorKind.Interrupted) }
+{
+    for _made in 0..TRIES {
+        let written = writer.write_once(buf);
+        if !is_interrupted(&written) {
+            return written;
         }
-        Err(Error::from(ErrorKind::TimedOut))
     }
-
-    fn flush(&mut self) -> Result<()>
-        ensures bytes { Keeps (W.contents self.old.inner) (W.contents self.new.inner) }
-    {
-        self.inner.flush()
-    }
+    Err(Error::from(ErrorKind::TimedOut))
 }

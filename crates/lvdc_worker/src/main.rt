@@ -2,7 +2,7 @@
 #![tactic(auto)]
 
 use lvdc_service::{refuse, serve};
-use lvdc_text::{Retried, StdSink, StdSource, keep_memory};
+use lvdc_text::{StdSink, StdSource, keep_memory};
 use std::process::ExitCode;
 use std::{env, io};
 
@@ -13,7 +13,7 @@ fn main(rt: HostRuntime) -> ExitCode {
     if keep_memory(rt.alloc()).is_err() {
         return ExitCode::from(NO_MEMORY);
     }
-    let mut sink = StdSink::new(Retried::new(io::writer(&rt)));
+    let mut sink = StdSink::new(io::writer(&rt));
     match env::args(&rt) {
         Ok(args) => {
             if args.skip(1).next().is_some() {
@@ -26,6 +26,6 @@ fn main(rt: HostRuntime) -> ExitCode {
         // Arguments that are no text are arguments too.
         Err(_) => return ExitCode::from(refuse(&mut sink)),
     }
-    let mut source = StdSource::new(Retried::new(rt.reader()));
+    let mut source = StdSource::new(rt.reader());
     ExitCode::from(serve(rt.alloc(), &mut source, &mut sink))
 }

@@ -1,6 +1,0 @@
--- The calls so far were cut short.
-use Rattle.std.specs.Io.KnownBytes.{Keeps}
-use Rattle.lvdc_text.proofs.retried.RetriedWrite.write.Given as goal
-
-abbrev pub invariant-loop : goal.invariant-loop
-invariant-loop g l = Keeps (g.W.Write.contents l.fn.self.inner) (g.W.Write.contents l.self.inner)
