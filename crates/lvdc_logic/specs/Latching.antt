@@ -119,7 +119,7 @@ after_steps t voted =
       exchange = after_settle t.exchange (exchange_row voted);
     }
 
--- no copy has latched since the last commit
+-- no copy has a shadow
 pub record AllFresh (t : Triples) : Type 0 where
   pub timer : IsFresh t.timer
   pub locator : IsFresh t.locator

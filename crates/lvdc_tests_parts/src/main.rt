@@ -1,5 +1,5 @@
-//! Tests of what no text of the program shows: the voters at a module of one's own, sources and sinks, a device that fails, the deck
-//! that a soak run draws, and the largest load. The program itself does nothing.
+//! Tests of what no text of the program shows: sources and sinks, a device that fails, the deck that a soak run draws, and the largest
+//! load. The program itself does nothing.
 #![tactic(auto)]
 
 #[cfg(test)]
@@ -12,7 +12,5 @@ mod soak;
 mod text;
 #[cfg(test)]
 mod uplink;
-#[cfg(test)]
-mod vote;
 
 fn main() {}

@@ -252,23 +252,7 @@ kept_three words own size =
 pub kept_none : (words : List ℕ) → IsKept words None None None
 kept_none words = record { vote = sym (majority_of-first words words refl); different_one = λ ws e. cc; different_two = λ ws e. cc; different_three = λ ws e. cc }
 
--- what is kept so is sound where nothing has latched
-pub sound_kept : (k : Kept) → IsKept k.voted k.one k.two k.three → k.latched_one ≡ false → k.latched_two ≡ false → k.latched_three ≡ false → IsSound k
-sound_kept k kept one two three =
-    record {
-      vote = kept.vote;
-      different_one = kept.different_one;
-      different_two = kept.different_two;
-      different_three = kept.different_three;
-      marked_one = λ e. absurd (false≢true (sym one ∙ e));
-      marked_two = λ e. absurd (false≢true (sym two ∙ e));
-      marked_three = λ e. absurd (false≢true (sym three ∙ e));
-      shadow_one = λ e. absurd (false≢true (sym one ∙ e));
-      shadow_two = λ e. absurd (false≢true (sym two ∙ e));
-      shadow_three = λ e. absurd (false≢true (sym three ∙ e));
-    }
-
--- and where the shadows stay
+-- what is kept so is sound where the shadows stay
 pub sound_beside : (k : Kept) (words : List ℕ) (one two three : Option (List ℕ)) → IsKept words one two three → IsSound k
     → IsSound (record k { voted = words; one = one; two = two; three = three })
 sound_beside k words one two three kept sound =

@@ -1,11 +1,9 @@
 -- Worked values of the definitions.
-use Rattle.std.proofs.Common.{◌≡◌, ℕ, refl, [], ◌∷◌, true, false, arith}
+use Rattle.std.proofs.Common.{◌≡◌, refl, [], ◌∷◌, true, false}
 use Rattle.lvdc_vote.specs.Bits.{majority, flipped, forced}
 use Rattle.lvdc_vote.specs.Harms.{harm_of, patched, no_patch}
 use Rattle.lvdc_vote.specs.Latches.{latched_by}
-use Rattle.lvdc_vote.specs.Calls.{Meets}
-use Rattle.lvdc_vote.specs.Copies.{Copies, settled, after_latch, after_commit, vote_of, differs_of, copy_of}
-use Rattle.lvdc_vote.specs.declared.calls.Call.TheVariants.{Commit, Latched, Voted, Differs, Word}
+use Rattle.lvdc_vote.specs.Copies.{settled, after_latch, after_settle, vote_of, differs_of, copy_of}
 use Rattle.lvdc_vote.specs.declared.hurt.Hurt.TheVariants.{Lag, Flip, Force}
 
 each_bit_is_what_two_have : majority 3 5 6 ≡ 7
@@ -52,29 +50,11 @@ a_right_copy_does_not : differs_of (settled (1 ∷ 2 ∷ []) (1 ∷ 3 ∷ []) (1
 unfolding majority
 a_right_copy_does_not = refl
 
-a_copy_stays_until_the_commit : copy_of (after_latch (settled (1 ∷ []) (1 ∷ []) (1 ∷ [])) 2 (4 ∷ [])) 2 ≡ 1 ∷ []
-a_copy_stays_until_the_commit = refl
+a_copy_stays_until_it_is_settled : copy_of (after_latch (settled (1 ∷ []) (1 ∷ []) (1 ∷ [])) 2 (4 ∷ [])) 2 ≡ 1 ∷ []
+a_copy_stays_until_it_is_settled = refl
 
-each_copy_is_what_it_latched : after_commit (after_latch (after_latch (after_latch (settled (1 ∷ []) (1 ∷ []) (1 ∷ [])) 2 (4 ∷ [])) 0 (5 ∷ [])) 1 (6 ∷ [])) ≡ settled (5 ∷ []) (6 ∷ []) (4 ∷ [])
+each_copy_is_what_it_latched : after_settle (after_latch (after_latch (after_latch (settled (1 ∷ []) (1 ∷ []) (1 ∷ [])) 2 (4 ∷ [])) 0 (5 ∷ [])) 1 (6 ∷ [])) (7 ∷ []) ≡ settled (5 ∷ []) (6 ∷ []) (4 ∷ [])
 each_copy_is_what_it_latched = refl
 
--- ---- the conditions of calls, at their ends
-
--- three copies of two latches, and the same once all have latched
-abbrev fresh : Copies
-fresh = settled (1 ∷ 2 ∷ []) (1 ∷ 2 ∷ []) (1 ∷ 2 ∷ [])
-
-abbrev latched : Copies
-latched = after_latch (after_latch (after_latch fresh 0 (3 ∷ 4 ∷ [])) 1 (3 ∷ 4 ∷ [])) 2 (3 ∷ 4 ∷ [])
-
-all_may_commit : Meets {B = ℕ} 2 latched Commit
-all_may_commit = (refl, (refl, refl))
-
-the_last_copy_is_asked : Meets {B = ℕ} 2 latched (Latched 2) × Meets {B = ℕ} 2 latched (Differs 2)
-the_last_copy_is_asked = (omega arith, omega arith)
-
-the_last_latch_is_asked : Meets {B = ℕ} 2 latched (Word 2 1)
-the_last_latch_is_asked = (omega arith, omega arith)
-
-the_vote_is_asked_at_any_time : Meets {B = ℕ} 2 latched Voted
-the_vote_is_asked_at_any_time = tt
+the_others_have_the_next_state : after_settle (after_latch (settled (1 ∷ []) (1 ∷ []) (1 ∷ [])) 1 (4 ∷ [])) (7 ∷ []) ≡ settled (7 ∷ []) (4 ∷ []) (7 ∷ [])
+the_others_have_the_next_state = refl

@@ -1,9 +1,9 @@
 -- Three copies of the latches of a module and their shadows: what each call makes of them.
-use Rattle.std.specs.Prelude.{◌≡◌, ◌≢◌, ℕ, List, length, Bool, true, not, Option, Some, None, unwrap_or, if◌then◌else◌, ◌==◌, ◌+◌, ◌<◌, All, AllPairs}
+use Rattle.std.specs.Prelude.{◌≡◌, ◌≢◌, ℕ, List, length, Bool, true, not, Option, Some, None, unwrap_or, if◌then◌else◌, ◌==◌, ◌<◌, All, AllPairs}
 use Rattle.std.specs.List.{list_any}
 use Rattle.lvdc_vote.specs.Latches.{majority_of, same_words}
 
--- the latches of three copies, and of each its shadow: what it has latched since the last commit
+-- the latches of three copies, and of each its shadow: what it has latched, until the three are settled
 pub record Copies : Type 0 where
   pub one : List ℕ
   pub two : List ℕ
@@ -24,7 +24,7 @@ chosen one two three copy = if copy == 0 then one else (if copy == 1 then two el
 abbrev pub copy_of : Copies → ℕ → List ℕ
 copy_of t copy = chosen t.one t.two t.three copy
 
--- what a copy has latched since the last commit
+-- the shadow of a copy, where it has latched
 abbrev pub shadow_of : Copies → ℕ → Option (List ℕ)
 shadow_of t copy = chosen t.shadow_one t.shadow_two t.shadow_three copy
 
@@ -32,10 +32,6 @@ shadow_of t copy = chosen t.shadow_one t.shadow_two t.shadow_three copy
 abbrev pub after_latch : Copies → ℕ → List ℕ → Copies
 after_latch t copy words =
     chosen (record t { shadow_one = Some words }) (record t { shadow_two = Some words }) (record t { shadow_three = Some words }) copy
-
--- the shadows take the place of the copies
-abbrev pub after_commit : Copies → Copies
-after_commit t = settled (unwrap_or t.shadow_one t.one) (unwrap_or t.shadow_two t.two) (unwrap_or t.shadow_three t.three)
 
 -- what each copy has latched takes its place, and these words that of a copy that hasn't latched
 abbrev pub after_settle : Copies → List ℕ → Copies
@@ -49,7 +45,7 @@ vote_of t = majority_of t.one t.two t.three
 abbrev pub differs_of : Copies → ℕ → Bool
 differs_of t copy = not (same_words (copy_of t copy) (vote_of t))
 
--- no copy has latched since the last commit
+-- no copy has a shadow
 pub record IsFresh (t : Copies) : Type 0 where
   pub one : t.shadow_one ≡ None
   pub two : t.shadow_two ≡ None
@@ -74,12 +70,3 @@ pub record IsFullOrder (bound : ℕ) (order : List ℕ) : Type 0 where
 -- the shadow of the copy of this number after those of the list latched: its words where the list names it
 abbrev pub latched_in : List ℕ → ℕ → List ℕ → Option (List ℕ) → Option (List ℕ)
 latched_in order number words had = if list_any (λ c. c == number) order then Some words else had
-
--- the copies after those of the list latched, where the three are numbered from the first on and each latches its words
-abbrev pub after_latches : Copies → List ℕ → ℕ → (ℕ → List ℕ) → Copies
-after_latches t order first words =
-    record t {
-      shadow_one = latched_in order first (words first) t.shadow_one;
-      shadow_two = latched_in order (first + 1) (words (first + 1)) t.shadow_two;
-      shadow_three = latched_in order (first + 2) (words (first + 2)) t.shadow_three;
-    }

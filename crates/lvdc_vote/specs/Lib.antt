@@ -3,5 +3,4 @@ pub mod Latches
 pub mod Copies
 pub mod Numbers
 pub mod Differences
-pub mod Calls
 pub mod Harms

@@ -1,17 +1,17 @@
-ghost use Rattle.std.specs.Prelude.{◌≡◌, ℕ, ◌<◌, slice_get, Some, None, true, false, not, ◌&&◌, IsSome, All, is_some, length, unwrap_or};
+ghost use Rattle.std.specs.Prelude.{◌≡◌, ℕ, ◌<◌, slice_get, Some, None, true, false, not, ◌&&◌, IsSome, unwrap_or};
 ghost use Rattle.std.specs.Option.{option_copied, option_map};
 ghost use Rattle.lvdc_vote.specs.Bits.{TwoAre};
-ghost use Rattle.lvdc_vote.specs.Latches.{latched_by, FitsLatches, IsMajority};
-ghost use Rattle.lvdc_vote.specs.Copies.{settled, copy_of, shadow_of, after_latch, after_commit, after_settle, vote_of, differs_of, IsFresh, IsSized};
+ghost use Rattle.lvdc_vote.specs.Latches.{IsMajority};
+ghost use Rattle.lvdc_vote.specs.Copies.{settled, copy_of, shadow_of, after_latch, after_settle, vote_of, differs_of, IsFresh, IsSized};
 ghost use Rattle.lvdc_vote.specs.Differences.{kept_of, shadow_by, IsKept};
 ghost use Rattle.lvdc_vote.specs.Harms.{harmed, harmed_by};
 
 use crate::harm::{harmed_state, has_patch, patch_all};
-use crate::{Harm, Hurt, LogicModule, Vote, latched_state};
+use crate::{Harm, LogicModule, Vote};
 use lvdc_word::Word;
 use std::marker::Model;
 
-/// Three copies of the state of a module, and the shadow of each: what it has latched since the last commit. Of a copy
+/// Three copies of the state of a module, and the shadow of each: what it has latched, until the three are settled. Of a copy
 /// only what differs from the vote is kept, and of a shadow only what differs from the shadow that was latched first;
 /// contracts see the three whole copies and shadows that are meant.
 pub struct Triple<M: LogicModule> {
@@ -233,19 +233,8 @@ impl<M: LogicModule> Triple<M> {
         }
     }
 
-    /// The copy latches what follows from the bus, or under a lag what it has; then the flips and forces act on that, in
-    /// order. The copies themselves stay until `commit`.
-    pub fn latch(&mut self, copy: u8, bus: &M::Bus, hurts: &[Hurt])
-        requires copy { copy < 3 }
-        requires fresh { shadow_of self.old copy ≡ None }
-        requires within { All (FitsLatches M.State.LATCHES) hurts.now }
-        ensures { self.new ≡ after_latch self.old copy (latched_by (copy_of self.old copy) (M.next_of bus.now) hurts.now) }
-    {
-        let shadow = latched_state::<M>(self.copy(copy), bus, hurts);
-        self.put_shadow(copy, shadow);
-    }
-
-    /// The same under what the hurts come to.
+    /// The copy latches what follows from the bus, or where it lags what it has, under what is wrong with it. The copies themselves stay
+    /// until they are settled.
     pub fn latch_under(&mut self, copy: u8, bus: &M::Bus, harm: &Harm)
         requires copy { copy < 3 }
         requires fresh { shadow_of self.old copy ≡ None }
@@ -272,38 +261,6 @@ impl<M: LogicModule> Triple<M> {
                 shadow,
             ),
         }
-    }
-
-    /// Has the copy latched since the last commit?
-    pub fn latched(&self, copy: u8) -> bool
-        requires { copy < 3 }
-        ensures { result ≡ is_some (shadow_of self.now copy) }
-    {
-        match copy {
-            0 => self.latched_one,
-            1 => self.latched_two,
-            _ => self.latched_three,
-        }
-    }
-
-    /// The shadows take the place of the copies.
-    pub fn commit(&mut self)
-        requires one { IsSome self.old.shadow_one }
-        requires two { IsSome self.old.shadow_two }
-        requires three { IsSome self.old.shadow_three }
-        ensures value { self.new ≡ after_commit self.old }
-        ensures sized { IsSized M.State.LATCHES self.new }
-    {
-        let committed = {
-            let Some(first) = &self.first else {
-                unreachable!()
-            };
-            let one = meant(&self.shadow_one, first).copied();
-            let two = meant(&self.shadow_two, first).copied();
-            let three = meant(&self.shadow_three, first).copied();
-            Triple::from_copies(one, two, three)
-        };
-        *self = committed;
     }
 
     /// What each copy has latched takes its place, and this state that of each copy that hasn't latched. Where at most one has, the
