@@ -2,7 +2,6 @@
 use Rattle.std.specs.Prelude.{◌≡◌, ◌≤◌, ℕ, Bool, false, ◌==◌, ◌&&◌, ◌||◌, nat_le, List, [], ◌∷◌, Option, None, Some, find, filter}
 use Rattle.std.specs.List.{list_any}
 use Rattle.lvdc_fault.specs.declared.event.Event.{Event}
-use Rattle.lvdc_fault.specs.declared.event.Span.{Span}
 use Rattle.lvdc_fault.specs.declared.event.Event.TheVariants.{Flip, Force, Lag, Deaf, Damage, Stick, Dead}
 
 -- does a step lie from the first to the last?
@@ -59,7 +58,12 @@ is_deaf script step m c = list_any (deafens step m c) script
 
 -- ---- what is active
 
--- the steps of an event, from the first to the last: damage is at its step alone
+-- the steps from the first to the last
+pub record Span : Type 0 where
+  pub first : ℕ
+  pub last : ℕ
+
+-- the steps of an event: damage is at its step alone
 abbrev pub span_of : Event → Span
 span_of (Flip number copy first last index mask) = record { first = first; last = last }
 span_of (Force number copy first last index mask value) = record { first = first; last = last }

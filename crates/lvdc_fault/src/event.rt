@@ -1,6 +1,3 @@
-ghost use Rattle.std.specs.Prelude.{◌≡◌, ℕ};
-ghost use Rattle.lvdc_fault.specs.Script.{span_of, makes_wrong, is_active, is_within};
-
 use lvdc_map::Address;
 use lvdc_word::{Cell, Word};
 
@@ -66,56 +63,4 @@ pub enum Event {
         first: u64,
         last: u64,
     },
-}
-
-/// The steps from the first to the last.
-#[derive(Clone, Copy, PartialEq, Eq)]
-pub(crate) struct Span {
-    pub(crate) first: u64,
-    pub(crate) last: u64,
-}
-
-impl Event {
-    /// The steps at which it acts.
-    fn span(&self) -> Span
-        ensures span { result ≡ span_of self.now }
-        ensures active { (step : ℕ) → is_active step self.now
-            ≡ is_within result.first result.last step }
-    {
-        match *self {
-            Event::Flip { first, last, .. }
-            | Event::Force { first, last, .. }
-            | Event::Lag { first, last, .. }
-            | Event::Deaf { first, last, .. }
-            | Event::Stick { first, last, .. }
-            | Event::Dead { first, last, .. } => Span { first, last },
-            Event::Damage { step, .. } => Span {
-                first: step,
-                last: step,
-            },
-        }
-    }
-
-    /// Is it active at the step?
-    fn is_active(&self, step: u64) -> bool
-        ensures { result ≡ is_active step self.now }
-    {
-        let span = self.span();
-        span.first <= step && step <= span.last
-    }
-
-    /// Does it make this copy of this module wrong at the step?
-    pub(crate) fn makes_wrong(&self, step: u64, module_number: u8, copy_number: u8) -> bool
-        ensures { result ≡ makes_wrong step module_number copy_number self.now }
-    {
-        match *self {
-            Event::Flip { module, copy, .. }
-            | Event::Force { module, copy, .. }
-            | Event::Lag { module, copy, .. }
-            | Event::Deaf { module, copy, .. } => {
-                module == module_number && copy == copy_number && self.is_active(step)
-            }
-            Event::Damage { .. } | Event::Stick { .. } | Event::Dead { .. } => false,
-        }
-    }
 }

@@ -10,7 +10,6 @@ mod ledger;
 mod named;
 mod script;
 mod verdict;
-mod wrong;
 
 pub use copies::number_of_copy;
 pub use event::Event;
@@ -19,7 +18,6 @@ pub use ledger::Ledger;
 pub use named::Named;
 pub use script::Script;
 pub use verdict::Verdict;
-pub use wrong::wrong_module;
 
 /// The most instruction times of a run.
 pub const MOST_TIMES: u64 = 1_000_000;
