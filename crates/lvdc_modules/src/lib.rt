@@ -1,6 +1,7 @@
 //! The seven modules of the logic: the latches of each, what they become in a phase, and the one exchange with memory or
-//! ports that a phase makes. That the logic is seven modules, each in three copies, is IBM's published design; the latches,
-//! the three phases and the layout of the words in the latches are this project's profile.
+//! ports that a phase makes. That the logic is seven modules, each in three copies, is published: this project's commission says so
+//! of IBM, and no copy was at hand. The latches, the three phases and the layout of the words in the latches are this project's
+//! profile.
 #![tactic(auto)]
 
 mod accumulator;

@@ -1,6 +1,6 @@
 //! Three copies of each logic module and the vote over them: what a state of latches is, how a copy is hurt, and the triple that
-//! keeps of each copy only what differs from the vote. That there are three and a vote is published, as this project's commission
-//! says (no copy of IBM's document was at hand); the rest is this project's profile.
+//! keeps of each copy only what differs from the vote. That there are three and a vote is published: this project's commission says
+//! so of IBM, and no copy was at hand. How a copy is hurt is this project's profile.
 #![tactic(auto)]
 
 mod bits;

@@ -2,7 +2,8 @@ ghost use Rattle.std.specs.Prelude.{◌≡◌, ◌<◌, ◌^◌, SomeIff};
 
 use std::marker::Model;
 
-/// A number below 2^13: half a word, and the room of one instruction (IBM's published word length).
+/// A number below 2^13: half a word, and the room of one instruction. Its length is published: this project's commission says so of
+/// IBM, and no copy was at hand.
 #[derive(Clone, Copy, PartialEq, Eq, PartialOrd, Ord, Hash)]
 pub struct Syllable {
     bits: u16,

@@ -6,7 +6,8 @@ use crate::Syllable;
 use std::marker::Model;
 
 #[derive(Debug)]
-/// A number below 2^26: a data word in two's complement (IBM's published word length).
+/// A number below 2^26: a data word in two's complement. Its length is published: this project's commission says so of IBM, and no
+/// copy was at hand.
 #[derive(Clone, Copy, PartialEq, Eq, PartialOrd, Ord, Hash)]
 pub struct Word {
     bits: u32,
