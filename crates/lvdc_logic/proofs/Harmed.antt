@@ -1,11 +1,11 @@
--- Where no copy is deaf, none waits for another: the next copies are those of the script.
-use Rattle.std.proofs.Common.{◌≡◌, ℕ, zero, suc, ◌+◌, ◌/◌, ◌%◌, ◌<◌, Bool, true, false, ◌&&◌, if◌then◌else◌, List, [], ◌∷◌, refl, sym, ◌∙◌, ap, arith}
+-- Where each copy hears the votes none waits for another: the next copies are those of the script.
+use Rattle.std.proofs.Common.{◌≡◌, ℕ, zero, suc, ◌+◌, ◌-◌, ◌/◌, ◌%◌, ◌<◌, ◌⊎◌, inl, inr, Bool, true, false, ◌&&◌, if◌then◌else◌, List, [], ◌∷◌, map, refl, sym, ◌∙◌, ap, arith}
 use Rattle.std.specs.Prelude.{All, Some, None}
 use Rattle.std.specs.List.{list_any}
-use Rattle.lvdc_vote.specs.Copies.{Copies, settled, IsFresh}
+use Rattle.lvdc_vote.specs.Copies.{Copies, settled, vote_of, IsFresh}
 use Rattle.lvdc_vote.specs.Harms.{harmed, harmed_by}
 use Rattle.lvdc_modules.specs.Next.{renewed}
-use Rattle.lvdc_modules.specs.Rows.{rows}
+use Rattle.lvdc_modules.specs.Rows.{rows, bus_of}
 use Rattle.lvdc_modules.specs.States.{timer_latches, locator_latches, decoder_latches, selector_latches, accumulator_latches, multiplier_latches, exchange_latches}
 use Rattle.lvdc_modules.specs.Timer.{timer_row}
 use Rattle.lvdc_modules.specs.Locator.{locator_row}
@@ -20,7 +20,7 @@ use Rattle.lvdc_fault.specs.declared.event.Event.{Event}
 use Rattle.lvdc_model.specs.Voted.{inputs, next_copies}
 use Rattle.lvdc_forces.specs.InForce.{faults_at, harm_on, mark_at, IsInForce}
 use Rattle.lvdc_logic.specs.Harmed.{after_harms, latched_under, three_harmed}
-use Rattle.lvdc_logic.specs.Latching.{copies_in, latches_in, row_of, new_latches, AllFresh, AllSized}
+use Rattle.lvdc_logic.specs.Latching.{copies_in, latches_in, row_of, new_latches, AllFresh, AllSized, AreAlike}
 use Rattle.lvdc_forces.specs.declared.in_force.Faults.{Faults}
 use Rattle.lvdc_forces.specs.declared.in_force.InForce.{InForce}
 use Rattle.lvdc_logic.specs.declared.triples.Triples.{Triples}
@@ -34,20 +34,32 @@ none_deaf [] n h = refl
 none_deaf (f ∷ fs) zero h = (neither f.deaf (list_any (λ (f : Faults). f.deaf) fs) h).0
 none_deaf (f ∷ fs) (suc n) h = none_deaf fs n (neither f.deaf (list_any (λ (f : Faults). f.deaf) fs) h).1
 
+-- each copy hears the votes
+abbrev pub HearVotes : InForce → Triples → Bus → Type 0
+HearVotes f t voted = (n : ℕ) → n < 21 → inputs (faults_at f.copies n).deaf (copies_in t) (n % 3 + 1) voted ≡ voted
+
+pub hear-votes : (script : List Event) (step : ℕ) (f : InForce) (t : Triples) (voted : Bus) → IsInForce script step f
+    → voted ≡ bus_of (map vote_of (copies_in t)) voted.memory voted.port → (f.deaf ≡ false) ⊎ AreAlike t → HearVotes f t voted
+hear-votes script step f t voted in_force votes (inl hears) n h =
+    ap (λ (deaf : Bool). inputs deaf (copies_in t) (n % 3 + 1) voted) (none_deaf f.copies n (sym in_force.deaf ∙ hears))
+hear-votes script step f t voted in_force votes (inr alike) n h = by (faults_at f.copies n).deaf where
+  by : (deaf : Bool) → inputs deaf (copies_in t) (n % 3 + 1) voted ≡ voted
+  by false = refl
+  by true = ap (λ (latches : List (List ℕ)). bus_of latches voted.memory voted.port) (alike (n % 3 + 1 - 1) (omega arith)) ∙ sym votes
+
 and_false : (b : Bool) → (b && false) ≡ false
 and_false true = refl
 and_false false = refl
 
 -- each copy has what the script makes it latch
 copy_harmed : HarmSuffices → (script : List Event) (step : ℕ) (f : InForce) (t : Triples) (voted : Bus) → AllSized t → All IsEvent script → IsInForce script step f
-    → f.deaf ≡ false → (n : ℕ) → n < 21 → harmed_by (harm_on f n) (latches_in t n) (row_of (n / 3) voted) ≡ new_latches script step t voted n
+    → HearVotes f t voted → (n : ℕ) → n < 21 → harmed_by (harm_on f n) (latches_in t n) (row_of (n / 3) voted) ≡ new_latches script step t voted n
 unfolding latched_under new_latches
 copy_harmed suffices script step f t voted sized events in_force hears n h = by (mark_at f.marks n) refl where
   by : (b : Bool) → mark_at f.marks n ≡ b
       → harmed_by (if b then Some (faults_at f.copies n).harm else None) (latches_in t n) (row_of (n / 3) voted) ≡ new_latches script step t voted n
   by true e =
-      ap (λ (deaf : Bool). harmed (latches_in t n) (row_of (n / 3) (inputs deaf (copies_in t) (n % 3 + 1) voted)) (faults_at f.copies n).harm)
-      (sym (none_deaf f.copies n (sym in_force.deaf ∙ hears)))
+      ap (λ (bus : Bus). harmed (latches_in t n) (row_of (n / 3) bus) (faults_at f.copies n).harm) (sym (hears n h))
       ∙ latched_is suffices script step f t voted sized events in_force n h
   by false e =
       untouched_copy script step (n / 3 + 1) (n % 3 + 1) (row_of (n / 3)) (latches_in t n) (copies_in t) voted
@@ -60,7 +72,7 @@ three_are f first t row a b c one two three = λ j. settled (one j) (two j) (thr
 
 -- the copies of the next step
 pub harms_are : HarmSuffices → (script : List Event) (step : ℕ) (f : InForce) (t : Triples) (voted : Bus) → AllSized t → All IsEvent script
-    → IsInForce script step f → f.deaf ≡ false
+    → IsInForce script step f → HearVotes f t voted
     → copies_in (after_harms f t (renewed voted)) ≡ next_copies script step 1 rows (copies_in t) (copies_in t) voted
 unfolding new_latches
 harms_are suffices script step f t voted sized events in_force hears =

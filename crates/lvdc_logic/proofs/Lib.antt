@@ -6,4 +6,5 @@ pub mod Under
 pub mod Commits
 pub mod Alike
 pub mod Harmed
+pub mod Unanimous
 mod Rows

@@ -1,5 +1,5 @@
 -- Seven triples whose copies, numbered from 0 to 20, latch one after another.
-use Rattle.std.specs.Prelude.{◌≡◌, ℕ, ◌+◌, ◌/◌, ◌%◌, Bool, true, false, Option, List, [], ◌∷◌, ◌==◌, if◌then◌else◌, map}
+use Rattle.std.specs.Prelude.{◌≡◌, ℕ, ◌+◌, ◌/◌, ◌%◌, ◌<◌, Bool, true, false, Option, List, [], ◌∷◌, ◌==◌, if◌then◌else◌, map}
 use Rattle.lvdc_vote.specs.Copies.{Copies, copy_of, vote_of, latched_in, after_latch, after_settle, IsFresh, IsSized}
 use Rattle.lvdc_modules.specs.Rows.{bus_of}
 use Rattle.lvdc_modules.specs.Timer.{timer_row}
@@ -145,3 +145,7 @@ pub record IsVoted (t : Triples) (b : Bus) : Type 0 where
   pub fresh : AllFresh t
   pub sized : AllSized t
   pub votes : b ≡ bus_of (map vote_of (copies_in t)) 0 0
+
+-- the copies of each number are what the votes are
+abbrev pub AreAlike : Triples → Type 0
+AreAlike t = (copy : ℕ) → copy < 3 → map (λ m. copy_of m copy) (copies_in t) ≡ map vote_of (copies_in t)

@@ -1,4 +1,4 @@
-ghost use Rattle.std.specs.Prelude.{◌≡◌, ℕ, ◌≤◌, ◌<◌, ◌+◌, ◌/◌, ◌%◌, ◌^◌, None, List, All, map, slice_index, true};
+ghost use Rattle.std.specs.Prelude.{◌≡◌, ℕ, ◌≤◌, ◌<◌, ◌+◌, ◌/◌, ◌%◌, ◌^◌, ◌⊎◌, None, List, All, map, slice_index, true, false};
 ghost use Rattle.lvdc_vote.specs.Copies.{copy_of, shadow_of, vote_of, after_settle, IsFresh, IsFullOrder, IsSized};
 ghost use Rattle.lvdc_vote.specs.Harms.{harmed};
 ghost use Rattle.lvdc_modules.specs.Rows.{rows, bus_of};
@@ -8,7 +8,7 @@ ghost use Rattle.lvdc_fault.specs.declared.event.Event.{Event};
 ghost use Rattle.lvdc_logic.specs.Counts.{counts_in};
 ghost use Rattle.lvdc_forces.specs.InForce.{faults_at, mark_at, IsInForce};
 ghost use Rattle.lvdc_logic.specs.Harmed.{after_harms, three_harmed, latched_under};
-ghost use Rattle.lvdc_logic.specs.Latching.{alike, copies_by, copies_in, row_of, latches_in, triple_in, after_number, after_numbers, after_steps, AllFresh, AllSized};
+ghost use Rattle.lvdc_logic.specs.Latching.{alike, copies_by, copies_in, row_of, latches_in, triple_in, after_number, after_numbers, after_steps, AllFresh, AllSized, AreAlike};
 ghost use Rattle.lvdc_logic.specs.Logic.{DifferedAtMost};
 
 use crate::counts::Counts;
@@ -92,6 +92,7 @@ impl Triples {
         requires fresh { AllFresh self.old }
         requires sized { AllSized self.old }
         requires any { force.now.any ≡ true }
+        requires votes { bus.old ≡ bus_of (map vote_of (copies_in self.old)) bus.old.memory bus.old.port }
         requires differed { DifferedAtMost (2 ^ 63) (counts_in counts.old) }
         ensures copies { (script : List Event) (step : ℕ) → All IsEvent script → IsInForce script step force.now
             → copies_in self.new ≡ next_copies script step 1 rows (copies_in self.old) (copies_in self.old) bus.old }
@@ -101,7 +102,7 @@ impl Triples {
         ensures sized { AllSized self.new }
     {
         harm_suffices();
-        if force.deaf {
+        if self.hears_apart(force) {
             self.latch_named(order, force, bus);
             self.settle(bus, counts);
             *bus = self.voted_bus(Word::ZERO, Word::ZERO);
@@ -109,6 +110,26 @@ impl Triples {
             bus.renew();
             self.renew_under(force, bus, counts);
         }
+    }
+
+    /// May a copy hear anything but the votes? None does where none is deaf, nor where the copies of each number are what the votes are.
+    fn hears_apart(&self, force: &InForce) -> bool
+        ensures { result ≡ false → (force.now.deaf ≡ false) ⊎ AreAlike self.now }
+    {
+        force.deaf && !self.are_alike()
+    }
+
+    /// Is each copy what its vote is?
+    fn are_alike(&self) -> bool
+        ensures { result ≡ true → AreAlike self.now }
+    {
+        self.timer.is_unanimous()
+            & self.locator.is_unanimous()
+            & self.decoder.is_unanimous()
+            & self.selector.is_unanimous()
+            & self.accumulator.is_unanimous()
+            & self.multiplier.is_unanimous()
+            & self.exchange.is_unanimous()
     }
 
     /// The copies of one number, 0 to 2, and the words of memory and port.
@@ -177,7 +198,7 @@ impl Triples {
         }
     }
 
-    /// No copy is deaf: each that is marked latches what follows for its module, which is on this bus, under what is wrong with it, and
+    /// Each copy hears the votes: each that is marked latches what follows for its module, which is on this bus, under what is wrong with it, and
     /// every other one has what follows. No copy waits for another, so there is no order. The bus becomes that of the new votes, and each
     /// copy that differs from them is counted.
     fn renew_under(&mut self, force: &InForce, next: &mut Bus, counts: &mut Counts)

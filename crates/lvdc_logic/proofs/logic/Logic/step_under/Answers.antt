@@ -71,3 +71,9 @@ step-requires-clause-differed c = subst (DifferedAtMost (2 ^ 63)) (ap (λ v. v.c
 pub invariant_of-self-else-force : goal.invariant_of-self-else-force
 invariant_of-self-else-force c =
     alike_voted c.renew.new.self (ap (λ (b : Bus). b.memory) c.renew.ensures) (ap (λ (b : Bus). b.port) c.renew.ensures)
+
+pub step-requires-clause-votes : goal.step-requires-clause-votes
+step-requires-clause-votes c =
+    let l = c.self.inside in
+    let t = copies_by l.apart l.triples l.bus in
+    rw c.stand_apart.ensures (votes_with (copies_in t) l.bus c.args.memory c.args.port c.self.invariant.votes)

@@ -4,12 +4,12 @@ use Rattle.lvdc_logic.specs.Harmed.{after_harms, latched_under}
 use Rattle.lvdc_logic.specs.Latching.{copies_in, after_steps}
 use Rattle.lvdc_logic.specs.declared.triples.Triples.{Triples}
 use Rattle.lvdc_logic.proofs.Commits.{steps_are, steps_fresh}
-use Rattle.lvdc_logic.proofs.Harmed.{harms_are, harms_fresh}
+use Rattle.lvdc_logic.proofs.Harmed.{harms_are, harms_fresh, hear-votes}
 use Rattle.lvdc_logic.proofs.Under.{latched_is}
 use Rattle.lvdc_logic.proofs.triples.Triples.step.Goals as goal
 
-pub returns-then-force-clause-copies : goal.returns-then-force-clause-copies
-returns-then-force-clause-copies c script step events in_force =
+pub returns-then-hears_apart-clause-copies : goal.returns-then-hears_apart-clause-copies
+returns-then-hears_apart-clause-copies c script step events in_force =
     let t = c.args.self.now in
     let force = c.args.force.now in
     let voted = c.args.bus.now in
@@ -19,14 +19,14 @@ returns-then-force-clause-copies c script step events in_force =
     (λ n h e. c.latch_named.ensures.full.all n h)
     (λ n h off. in_force.others n h (ap (λ (any : Bool). any && mark_at force.marks n) c.requires.any ∙ off))
 
-pub returns-then-force-clause-fresh : goal.returns-then-force-clause-fresh
-returns-then-force-clause-fresh c = rw c.settle.ensures.value (steps_fresh c.latch_named.new.self c.args.bus.now)
+pub returns-then-hears_apart-clause-fresh : goal.returns-then-hears_apart-clause-fresh
+returns-then-hears_apart-clause-fresh c = rw c.settle.ensures.value (steps_fresh c.latch_named.new.self c.args.bus.now)
 
-pub returns-else-force-clause-copies : goal.returns-else-force-clause-copies
-returns-else-force-clause-copies c script step events in_force =
+pub returns-else-hears_apart-clause-copies : goal.returns-else-hears_apart-clause-copies
+returns-else-hears_apart-clause-copies c script step events in_force =
     ap copies_in (c.renew_under.ensures.value ∙ ap (after_harms c.args.force.now c.args.self.now) c.renew.ensures)
     ∙ harms_are c.harm_suffices.ensures script step c.args.force.now c.args.self.now c.args.bus.now c.requires.sized events in_force
-    c.if-force.false
+    (hear-votes script step c.args.force.now c.args.self.now c.args.bus.now in_force c.requires.votes (c.hears_apart.ensures c.if-hears_apart.false))
 
-pub returns-else-force-clause-fresh : goal.returns-else-force-clause-fresh
-returns-else-force-clause-fresh c = rw c.renew_under.ensures.value (harms_fresh c.args.force.now c.args.self.now c.renew.new.self)
+pub returns-else-hears_apart-clause-fresh : goal.returns-else-hears_apart-clause-fresh
+returns-else-hears_apart-clause-fresh c = rw c.renew_under.ensures.value (harms_fresh c.args.force.now c.args.self.now c.renew.new.self)

@@ -1,0 +1,1 @@
+use Rattle.lvdc_logic.proofs.triples.Triples.hears_apart.Goals as goal
