@@ -13,7 +13,7 @@ use crate::{CampaignFault, MOST_EVENTS};
 use lvdc_fault::{Named, Script};
 use lvdc_lines::event_of;
 use lvdc_source::is_name;
-use lvdc_text::{Line, is_comment, is_long, part, tokens};
+use lvdc_text::{LONGEST_LINE, Line, few_tokens, is_comment, is_long, part};
 use lvdc_word::{NoMemory, Seq};
 use std::alloc::Global;
 use std::marker::Model;
@@ -213,7 +213,9 @@ impl Scripts {
         if is_comment(text) {
             return Ok(());
         }
-        let tokens = tokens(alloc, text)?;
+        let Some(tokens) = few_tokens::<LONGEST_LINE>(text) else {
+            return Err(CampaignFault::BadLine(number));
+        };
         self.take_tokens(alloc, number, text, tokens.as_slice())
     }
 }

@@ -23,7 +23,7 @@ use lvdc_orders::Orders;
 use lvdc_plain::Unplug;
 use lvdc_port::{PortDevice, Supply};
 use lvdc_source::is_name;
-use lvdc_text::{Line, decimal, is_comment, is_long, octal_word, part, tokens};
+use lvdc_text::{LONGEST_LINE, Line, decimal, few_tokens, is_comment, is_long, octal_word, part};
 use lvdc_word::{NoMemory, Seq};
 use std::alloc::Global;
 use std::marker::Model;
@@ -330,7 +330,9 @@ impl Said {
         if is_comment(text) {
             return Ok(());
         }
-        let tokens = tokens(alloc, text)?;
+        let Some(tokens) = few_tokens::<LONGEST_LINE>(text) else {
+            return Err(DeckFault::BadLine(number));
+        };
         self.take_tokens(alloc, devices, number, text, tokens.as_slice())
     }
 

@@ -11,5 +11,5 @@ mod repairs;
 
 pub use exchanges::{put_exchange_line, put_log};
 pub use fields::{decimal_in, octal_in, place_in};
-pub use lines::{event_of, order_of, read_fault, read_order};
+pub use lines::{event_of, order_of};
 pub use repairs::{put_repair_line, put_repairs};

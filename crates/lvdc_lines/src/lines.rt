@@ -1,5 +1,5 @@
-ghost use Rattle.std.specs.Prelude.{◌≡◌, ◌<◌, ◌-◌, ◌^◌, [], ◌∷◌, length, map, None, IfSome, IfNone, All};
-ghost use Rattle.lvdc_text.specs.Lines.{IsWithin, part_of, word_texts_of};
+ghost use Rattle.std.specs.Prelude.{◌≡◌, [], ◌∷◌, map, None, IfSome, IfNone, All};
+ghost use Rattle.lvdc_text.specs.Lines.{IsWithin, part_of};
 ghost use Rattle.lvdc_fault.specs.Events.{IsEvent};
 ghost use Rattle.lvdc_lines.specs.Lines.{fault_in, order_in};
 ghost use Rattle.lvdc_orders.specs.Orders.{order_of};
@@ -9,10 +9,7 @@ use crate::copies::{deaf_in, flip_in, force_in, lag_in};
 use arrayvec::ArrayVec;
 use lvdc_fault::Event;
 use lvdc_orders::Order;
-use lvdc_text::{Line, few_tokens, part};
-
-/// The most tokens of a fault line: STICK has so many.
-const MOST_TOKENS: usize = 9;
+use lvdc_text::{Line, part};
 
 /// The event of a fault line with these tokens.
 pub fn event_of(text: &[u8], tokens: &[Line]) -> Option<Event>
@@ -43,16 +40,6 @@ pub fn event_of(text: &[u8], tokens: &[Line]) -> Option<Event>
     }
 }
 
-/// The event of a fault line. It takes no memory.
-pub fn read_fault(text: &[u8]) -> Option<Event>
-    requires { length text.now < 2 ^ 32 - 1 }
-    ensures event { result ≡ fault_in (word_texts_of text.now) }
-    ensures ranges { IfSome result IsEvent }
-{
-    let tokens = few_tokens::<MOST_TOKENS>(text)?;
-    event_of(text, tokens.as_slice())
-}
-
 /// The numbers of the copies that these letters name, A the first.
 fn copies_in(letters: &[u8]) -> Option<ArrayVec<u8, 21>>
     ensures some { IfSome result (λ copies. order_in (letters.now ∷ []) ≡ order_of copies.items) }
@@ -78,13 +65,4 @@ pub fn order_of(text: &[u8], tokens: &[Line]) -> Option<Order>
     };
     let copies = copies_in(part(text, token))?;
     Order::new(copies.as_slice())
-}
-
-/// The order of an order line. It takes no memory.
-pub fn read_order(text: &[u8]) -> Option<Order>
-    requires { length text.now < 2 ^ 32 - 1 }
-    ensures { result ≡ order_in (word_texts_of text.now) }
-{
-    let tokens = few_tokens::<1>(text)?;
-    order_of(text, tokens.as_slice())
 }
