@@ -19,7 +19,7 @@ pub use laws::{
 pub use row::Row;
 pub use rows::campaign;
 pub use runs::{is_admissible, verdict_of};
-pub use same::{are_same_registers, is_same_end, is_same_word};
+pub use same::{are_blank, are_same_registers, is_same_end, is_same_word};
 pub use stations::{are_worth_stations, machine_at, stations_of};
 
 /// The most instruction times of a campaign (this project's profile).

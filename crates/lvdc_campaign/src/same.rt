@@ -1,12 +1,13 @@
 //! What a run of the voted machine came to beside what the plain run came to.
 
-ghost use Rattle.std.specs.Prelude.{◌≡◌, ◌*◌, ℕ};
+ghost use Rattle.std.specs.Prelude.{◌≡◌, ◌+◌, ◌*◌, ◌/◌, ◌<◌, ℕ, true, false};
+ghost use Rattle.lvdc_map.specs.Address.{spot_at};
 ghost use Rattle.lvdc_model.specs.Runs.{through};
 ghost use Rattle.lvdc_model.specs.Trial.{Trial, plain_at};
 ghost use Rattle.lvdc_machine.specs.declared.mode.Mode.TheVariants.{Through};
 ghost use Rattle.lvdc_campaign.specs.Campaign.{is_same};
 ghost use Rattle.lvdc_campaign.specs.Ran.{HasRun, HasRunPlainly};
-ghost use Rattle.lvdc_campaign.specs.Same.{are_same_registers, is_same_log, is_same_end, is_same_word, are_same_words};
+ghost use Rattle.lvdc_campaign.specs.Same.{are_same_registers, is_same_log, is_same_end, is_same_word, are_same_below, are_same_words};
 
 use lvdc_machine::{Machine, Outcome};
 use lvdc_map::Address;
@@ -57,14 +58,45 @@ pub fn is_same_word(machine: &Machine, plain: &Plain, at: Address) -> bool
     machine.intended(at) == plain.word(at)
 }
 
+/// Is each word of a sector, of the 128 in the order of addresses, 0 in both machines? So none differs there. False says nothing.
+pub fn are_blank(machine: &Machine, plain: &Plain, sector: usize) -> bool
+    requires { sector < 128 }
+    ensures { result ≡ true → (o : Trial) (times : ℕ) → HasRun Through o times machine.now → HasRunPlainly o.opening times plain.now
+        → (number : ℕ) → number < 32768 → number / 256 ≡ sector
+        → is_same_word o.opening.banks (through o (3 * times)).intended (plain_at o times).memory (spot_at number) ≡ true }
+{
+    machine.is_blank(sector) && plain.is_blank(sector)
+}
+
+/// Are the intended words in a sector the plain machine's?
+fn is_same_sector(machine: &Machine, plain: &Plain, sector: usize) -> bool
+    requires banks { machine.now.banks ≡ plain.now.banks }
+    requires sector { sector < 128 }
+    ensures same { result ≡ true → (o : Trial) (times : ℕ) → HasRun Through o times machine.now → HasRunPlainly o.opening times plain.now
+        → are_same_below o.opening.banks (through o (3 * times)).intended (plain_at o times).memory (256 * sector) ≡ true
+        → are_same_below o.opening.banks (through o (3 * times)).intended (plain_at o times).memory (256 * sector + 256) ≡ true }
+    ensures differs { result ≡ false → (o : Trial) (times : ℕ) → HasRun Through o times machine.now → HasRunPlainly o.opening times plain.now
+        → are_same_words o.opening.banks (through o (3 * times)).intended (plain_at o times).memory ≡ false }
+{
+    if are_blank(machine, plain, sector) {
+        return true;
+    }
+    for number in 256 * sector..256 * sector + 256 {
+        if !is_same_word(machine, plain, Address::numbered(number)) {
+            return false;
+        }
+    }
+    true
+}
+
 /// Are the intended words at all addresses the plain machine's?
 fn are_same_words(machine: &Machine, plain: &Plain) -> bool
     requires { machine.now.banks ≡ plain.now.banks }
     ensures { (o : Trial) (times : ℕ) → HasRun Through o times machine.now → HasRunPlainly o.opening times plain.now
         → result ≡ are_same_words o.opening.banks (through o (3 * times)).intended (plain_at o times).memory }
 {
-    for number in 0..Address::COUNT {
-        if !is_same_word(machine, plain, Address::numbered(number)) {
+    for sector in 0..Address::SECTORS {
+        if !is_same_sector(machine, plain, sector) {
             return false;
         }
     }

@@ -1,9 +1,8 @@
 -- Words that are kept as their good cells.
 use Rattle.std.proofs.Common.{◌≡◌, ℕ, ◌<◌, ◌^◌, Bool, true, false, cond, List, length, map, get_or, set, refl, sym, ap, ◌∙◌, arith}
 use Rattle.std.specs.Prelude.{◌==◌}
-use Rattle.std.proofs.Math.ListN.{replicate}
 use Rattle.std.proofs.lemmas.Bool.{eqb-true, eqb-false}
-use Rattle.std.proofs.lemmas.List.{length-map, length-set, length-replicate, map-set, get_or-map, get_or-replicate, get_or-set_same, get_or-set_other}
+use Rattle.std.proofs.lemmas.List.{length-map, length-set, map-set, get_or-map, get_or-set_same, get_or-set_other}
 use Rattle.lvdc_word.specs.Cell.{code_of, word_in}
 use Rattle.lvdc_word.proofs.Parity.{word-code}
 use Rattle.lvdc_map.specs.Address.{Spot, IsAddress, number_of}
@@ -60,24 +59,23 @@ memory-put words m at w here h = record {
 
 -- ---- the word 0 at every address
 
-zero-there : (n : ℕ) (cells : List ℕ) (k : ℕ) → n ≡ 32768 → cells ≡ replicate n (code_of 0) → k < 32768 → get_or cells k 0 ≡ code_of 0
-zero-there n cells k all is less =
-    ap (λ (xs : List ℕ). get_or xs k 0) is ∙ get_or-replicate {A = ℕ} n k (code_of 0) 0 (omega (arith, all, less))
-
-pub codes-zero : (n : ℕ) (cells : List ℕ) → n ≡ 32768 → cells ≡ replicate n (code_of 0) → AreCodes cells
-codes-zero n cells all is = record {
-  size = ap (λ (xs : List ℕ). length xs) is ∙ length-replicate {A = ℕ} n (code_of 0) ∙ all;
-  codes = λ k less.
-      let here = zero-there n cells k all is less in
-      ap (λ (cell : ℕ). code_of (word_in cell)) here ∙ ap code_of (word-code 0 (omega arith)) ∙ sym here;
+pub codes-zero : (cells : List ℕ) → length cells ≡ 32768 → ((place d : ℕ) → place < 32768 → get_or cells place d ≡ code_of 0) → AreCodes cells
+codes-zero cells all here = record {
+  size = all;
+  codes = λ k less. ap (λ (cell : ℕ). code_of (word_in cell)) (here k 0 less) ∙ ap code_of (word-code 0 (omega arith)) ∙ sym (here k 0 less);
 }
 
-pub memory-zero : (n : ℕ) (cells : List ℕ) → n ≡ 32768 → cells ≡ replicate n (code_of 0) → IsMemory (map word_in cells) (filled_with 0)
-memory-zero n cells all is =
-    let are = codes-zero n cells all is in
+pub memory-zero : (cells : List ℕ) → length cells ≡ 32768 → ((place d : ℕ) → place < 32768 → get_or cells place d ≡ code_of 0)
+    → IsMemory (map word_in cells) (filled_with 0)
+memory-zero cells all here =
+    let are = codes-zero cells all here in
     record {
       size = length-map cells word_in ∙ are.size;
       same = λ at ok.
           let small : number_of at < 32768 = omega (arith, ok.pair, ok.sector, ok.loc) in
-          sym (word-there cells (number_of at) small are) ∙ ap word_in (zero-there n cells (number_of at) all is small) ∙ word-code 0 (omega arith);
+          sym (word-there cells (number_of at) small are) ∙ ap word_in (here (number_of at) 0 small) ∙ word-code 0 (omega arith);
     }
+
+-- a place with the code of 0 has the word 0
+pub zero-word : (cells : List ℕ) (n : ℕ) → n < 32768 → AreCodes cells → get_or cells n 0 ≡ code_of 0 → get_or (map word_in cells) n 0 ≡ 0
+zero-word cells n small are here = sym (word-there cells n small are) ∙ ap word_in here ∙ word-code 0 (omega arith)

@@ -1,5 +1,5 @@
 -- The intended words, gathered into a list, and that there are none where the bank isn't there.
-use Rattle.std.proofs.Common.{◌≡◌, ◌≢◌, ℕ, suc, ◌<◌, Bool, true, false, cond, List, [], ◌∷◌, ◌++◌, All, get_or, set, refl, sym, ap, ◌∙◌, arith}
+use Rattle.std.proofs.Common.{◌≡◌, ◌≢◌, ℕ, zero, suc, ◌+◌, ◌<◌, subst, Bool, true, false, cond, List, [], ◌∷◌, ◌++◌, All, get_or, set, refl, sym, ap, ◌∙◌, arith}
 use Rattle.std.specs.Prelude.{◌==◌, nat_lt}
 use Rattle.std.proofs.lemmas.Bool.{true≢false, eqb-true, eqb-false, lt-ltb, and_from, and_parts}
 use Rattle.std.proofs.lemmas.List.{get_or-set_other}
@@ -12,7 +12,7 @@ use Rattle.lvdc_map.proofs.Addresses.{same-spot}
 use Rattle.lvdc_twin.proofs.Holding.{none_below, all_below, next_below}
 use Rattle.lvdc_twin.proofs.Loading.{loaded-push}
 use Rattle.lvdc_twin.proofs.Places.{same-from}
-use Rattle.lvdc_fault.specs.Ledger.{NoneElsewhere}
+use Rattle.lvdc_fault.specs.Ledger.{NoneElsewhere, GathersWords}
 
 -- ---- where no bank is
 
@@ -68,15 +68,6 @@ wrote-elsewhere banks words at w here there h other ok none =
 
 -- ---- gathered
 
--- what was gathered from the words below a number
-pub record GathersWords (banks : ℕ) (table : List ℕ) (n : ℕ) (placed : List Placed) : Type 0 where
-  pub rising : are_rising placed ≡ true
-  pub addresses : All (λ p. IsAddress p.at) placed
-  pub there : AllThere banks placed
-  pub others : All (λ p. p.word ≢ 0) placed
-  pub below : All (λ p. number_of p.at < n) placed
-  pub words : (at : Spot) → IsAddress at → word_at (memory_of placed) at ≡ cond (nat_lt (number_of at) n) (get_or table (number_of at) 0) 0
-
 pub words-none : (banks : ℕ) (words : List ℕ) → GathersWords banks words 0 []
 words-none banks words = record {
   rising = refl;
@@ -109,6 +100,17 @@ words-other banks words n placed none g = record {
         zero_at : (b : Bool) → cond b (get_or words k 0) 0 ≡ get_or words k 0
         zero_at true = refl
         zero_at false = sym here
+
+-- and so is any number of them
+pub words-others : (more banks : ℕ) (words : List ℕ) (n : ℕ) (placed : List Placed) → ((i : ℕ) → i < more → get_or words (n + i) 0 ≡ 0)
+    → GathersWords banks words n placed → GathersWords banks words (n + more) placed
+words-others zero banks words n placed none g = let same : n ≡ n + zero = omega arith in subst (λ (k : ℕ). GathersWords banks words k placed) same g
+words-others (suc more) banks words n placed none g =
+    let first : get_or words n 0 ≡ 0 = (let at : n ≡ n + 0 = omega arith in ap (λ (k : ℕ). get_or words k 0) at) ∙ none 0 (omega arith) in
+    let rest = words-others more banks words (suc n) placed (λ i less. (let at : suc n + i ≡ n + suc i = omega arith in ap (λ (k : ℕ). get_or words k 0) at)
+    ∙ none (suc i) (omega arith)) (words-other banks words n placed first g) in
+    let same : suc n + more ≡ n + suc more = omega arith in
+    subst (λ (k : ℕ). GathersWords banks words k placed) same rest
 
 rising-push : (placed : List Placed) (p : Placed) (n : ℕ) → are_rising placed ≡ true → All (λ q. number_of q.at < n) placed → number_of p.at ≡ n
     → are_rising (placed ++ p ∷ []) ≡ true

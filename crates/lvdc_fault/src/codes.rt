@@ -1,9 +1,9 @@
-ghost use Rattle.std.specs.Prelude.{◌≡◌, ◌<◌, ◌^◌, All, [], IfOk, slice_index, slice_set};
+ghost use Rattle.std.specs.Prelude.{◌≡◌, ℕ, ◌/◌, ◌<◌, ◌^◌, true, All, [], IfOk, slice_index, slice_set};
 ghost use Rattle.lvdc_word.specs.Cell.{code_of, word_in};
 ghost use Rattle.lvdc_map.specs.Address.{number_of};
 ghost use Rattle.lvdc_map.specs.Memory.{Memory, word_at, stored, memory_of, IsMemory};
 
-use lvdc_map::{Address, Placed};
+use lvdc_map::{Address, Placed, Sectors};
 use lvdc_word::{Cell, NoMemory, Word};
 use std::alloc::Global;
 use std::marker::Model;
@@ -11,19 +11,19 @@ use std::marker::Model;
 /// The words of all addresses, in the order of their numbers, each kept as its good cell. Contracts see the words.
 #[derive(Drop)]
 pub(crate) struct Codes {
-    cells: Vec<Cell>,
+    cells: Sectors<Cell>,
 }
 
 impl Model for Codes {
-    ghost use Rattle.std.specs.Prelude.{ℕ, List, map};
-    ghost use Rattle.lvdc_word.specs.Cell.{word_in};
+    ghost use Rattle.std.specs.Prelude.{◌≡◌, ℕ, List, map};
+    ghost use Rattle.lvdc_word.specs.Cell.{code_of, word_in};
     ghost use Rattle.lvdc_fault.specs.Codes.{AreCodes};
 
     ghost Value = { List ℕ };
 
     ghost view = { λ c. map word_in c.cells.items };
 
-    ghost invariant = { λ c. AreCodes c.cells.items };
+    ghost invariant = { λ c. AreCodes c.cells.items × (c.cells.blank ≡ code_of 0) };
 }
 
 impl Codes {
@@ -44,7 +44,7 @@ impl Codes {
     fn zero(alloc: Global) -> Result<Codes, NoMemory>
         ensures { IfOk result (λ words. IsMemory words (memory_of [])) }
     {
-        let cells = Vec::from_elem(alloc, Cell::encode(Word::ZERO), Address::COUNT)?;
+        let cells = Sectors::filled(alloc, Cell::encode(Word::ZERO))?;
         Ok(Codes { cells })
     }
 
@@ -53,7 +53,7 @@ impl Codes {
         ensures value { result ≡ slice_index self.now (number_of at) }
         ensures memory { (m : Memory) → IsMemory self.now m → result ≡ word_at m at }
     {
-        self.cells[at.number()].word()
+        self.cells.at(at.number()).word()
     }
 
     /// The good cell of the word at an address.
@@ -62,7 +62,7 @@ impl Codes {
         ensures word { word_in result ≡ slice_index self.now (number_of at) }
         ensures memory { (m : Memory) → IsMemory self.now m → result ≡ code_of (word_at m at) }
     {
-        self.cells[at.number()]
+        self.cells.at(at.number())
     }
 
     /// Puts a word at an address.
@@ -71,6 +71,13 @@ impl Codes {
         ensures memory { (m : Memory) → IsMemory self.old m → IsMemory self.new (stored m at word) }
         ensures word { word < 2 ^ 26 }
     {
-        self.cells[at.number()] = Cell::encode(word);
+        self.cells.put(at.number(), Cell::encode(word));
+    }
+    /// Is 0 the word at each address of a sector, of the 128 in the order of addresses? False says nothing.
+    pub(crate) fn is_blank(&self, sector: usize) -> bool
+        requires { sector < 128 }
+        ensures { result ≡ true → (number : ℕ) → number < 32768 → number / 256 ≡ sector → slice_index self.now number ≡ 0 }
+    {
+        self.cells.is_blank(sector)
     }
 }

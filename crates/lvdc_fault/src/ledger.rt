@@ -1,9 +1,9 @@
-ghost use Rattle.std.specs.Prelude.{◌≡◌, ◌<◌, ◌^◌, true, All, IfOk, slice_set};
+ghost use Rattle.std.specs.Prelude.{◌≡◌, ◌+◌, ◌*◌, ◌/◌, ◌<◌, ◌^◌, true, All, IfOk, OnOk, slice_set};
 ghost use Rattle.lvdc_word.specs.Cell.{code_of, word_in};
-ghost use Rattle.lvdc_map.specs.Address.{number_of};
+ghost use Rattle.lvdc_map.specs.Address.{Spot, IsAddress, number_of};
 ghost use Rattle.lvdc_map.specs.Banks.{is_there};
 ghost use Rattle.lvdc_map.specs.Memory.{Memory, AllThere, IsMemory, word_at, stored, memory_of};
-ghost use Rattle.lvdc_fault.specs.Ledger.{intended_at, ArePlaced};
+ghost use Rattle.lvdc_fault.specs.Ledger.{intended_at, ArePlaced, GathersWords};
 ghost use Rattle.lvdc_fault.specs.Recoverable.{recovers_by, is_recovered, shown_by};
 ghost use Rattle.lvdc_twin.specs.Store.{survives};
 
@@ -88,14 +88,36 @@ impl Ledger {
         ensures { IfOk result (λ placed. ArePlaced self.now placed.items) }
     {
         let mut placed = Vec::new(alloc);
-        for number in 0..Address::COUNT {
+        for sector in 0..Address::SECTORS {
+            if !self.words.is_blank(sector) {
+                self.gather(sector, &mut placed)?;
+            }
+        }
+        Ok(placed)
+    }
+
+    /// Adds the intended words of a sector, of the 128 in the order of addresses, but for 0.
+    fn gather(&self, sector: usize, placed: &mut Vec<Placed>) -> Result<(), NoMemory>
+        requires { sector < 128 }
+        ensures { OnOk result (GathersWords self.now.banks self.now.words (256 * sector) placed.old.items
+            → GathersWords self.now.banks self.now.words (256 * sector + 256) placed.new.items) }
+    {
+        for number in 256 * sector..256 * sector + 256 {
             let at = Address::numbered(number);
             let word = self.words.word(at);
             if word != Word::ZERO {
                 placed.push(Placed { at, word })?;
             }
         }
-        Ok(placed)
+        Ok(())
+    }
+
+    /// Is 0 intended at each address of a sector, of the 128 in the order of addresses? False says nothing.
+    pub fn is_blank(&self, sector: usize) -> bool
+        requires { sector < 128 }
+        ensures { result ≡ true → (at : Spot) → IsAddress at → number_of at / 256 ≡ sector → intended_at self.now at ≡ 0 }
+    {
+        self.words.is_blank(sector)
     }
 
     /// Can the intended word be recovered from what twin 0 and twin 1 show? In a duplex pair a twin shows its cell, and each

@@ -1,5 +1,5 @@
 -- Texts that grow by one line after the other.
-use Rattle.std.proofs.Common.{◌≡◌, ℕ, ◌+◌, ◌<◌, ◌≤◌, List, [], ◌∷◌, ◌++◌, map, length, get_or, drop, refl, sym, ap, ◌∙◌, append_assoc, add-one}
+use Rattle.std.proofs.Common.{◌≡◌, ℕ, zero, suc, ◌+◌, ◌<◌, ◌≤◌, List, [], ◌∷◌, ◌++◌, map, length, get_or, drop, refl, sym, ap, ◌∙◌, append_assoc, add-one, arith}
 use Rattle.std.proofs.lemmas.List.{append-nil, drop_more, drop_all}
 use Rattle.lvdc_lines.specs.Noted.{lines_of, lines_below}
 
@@ -36,6 +36,15 @@ pub lines_of-map : {A B : Type 0} (line : B → List ℕ) (f : A → B) (xs : Li
 unfolding lines_of
 lines_of-map line f [] = refl
 lines_of-map line f (x ∷ xs) = ap (λ rest. line (f x) ++ rest) (lines_of-map line f xs)
+
+-- lines that are empty add nothing
+pub lines_below_blank : (line : ℕ → List ℕ) (n more : ℕ) → ((i : ℕ) → i < more → line (n + i) ≡ []) → lines_below line (n + more) ≡ lines_below line n
+unfolding lines_below
+lines_below_blank line n zero none = let same : n + zero ≡ n = omega arith in ap (lines_below line) same
+lines_below_blank line n (suc more) none =
+    let next : n + suc more ≡ suc (n + more) = omega arith in
+    ap (lines_below line) next ∙ ap (λ last. lines_below line (n + more) ++ last) (none more (omega arith)) ∙ append-nil (lines_below line (n + more))
+    ∙ lines_below_blank line n more (λ i less. none i (omega (arith, less)))
 
 pub lines_below_none : (line : ℕ → List ℕ) (front : List ℕ) → front ≡ front ++ lines_below line 0
 unfolding lines_below

@@ -1,6 +1,7 @@
 //! What can be seen of the voted machine.
 
 ghost use Rattle.std.specs.Prelude.{◌≡◌, ℕ, ◌-◌, ◌*◌, ◌/◌, ◌%◌, ◌≤◌, ◌<◌, ◌↔◌, List, length, true, IsTrue, Option, Some};
+ghost use Rattle.lvdc_map.specs.Address.{Spot, IsAddress, number_of};
 ghost use Rattle.lvdc_map.specs.Banks.{is_there};
 ghost use Rattle.lvdc_map.specs.Memory.{word_at};
 ghost use Rattle.lvdc_port.specs.Device as device;
@@ -13,6 +14,7 @@ ghost use Rattle.lvdc_logic.specs.Logic.{latch_of, vote_at, is_outvoted};
 ghost use Rattle.lvdc_machine.specs.Resumed.{state_from, StandsFrom};
 ghost use Rattle.lvdc_machine.specs.Room.{pace_of};
 ghost use Rattle.lvdc_machine.specs.Stands.{shown_of};
+ghost use Rattle.lvdc_machine.specs.declared.shown.Shown.TheVariants.{Known};
 ghost use Rattle.lvdc_machine.specs.View.{bus_of_votes, registers_on, visible_of, answer_of_end};
 
 use crate::{Machine, Mode, Shown};
@@ -62,6 +64,18 @@ impl Machine {
         } else {
             Shown::Unknown
         }
+    }
+
+    /// Is the word of each address of a sector, of the 128 in the order of addresses, known to be 0, as `shown` tells it where the bank is
+    /// there? False says nothing: it tells in which sectors nothing was loaded, stored, damaged, stuck or dead.
+    pub fn is_blank(&self, sector: usize) -> bool
+        requires { sector < 128 }
+        ensures told { result ≡ true → (o : Trial) (first : Voted) (n : ℕ) (ds : List device.Device) → StandsFrom o first n self.now ds
+            → (at : Spot) → IsAddress at → number_of at / 256 ≡ sector → shown_of o (state_from self.now.end self.now.mode o first n) at ≡ Known 0 }
+        ensures words { result ≡ true → (o : Trial) (first : Voted) (n : ℕ) (ds : List device.Device) → StandsFrom o first n self.now ds
+            → (at : Spot) → IsAddress at → number_of at / 256 ≡ sector → word_at (state_from self.now.end self.now.mode o first n).intended at ≡ 0 }
+    {
+        self.memory.is_blank(sector)
     }
 
     /// The intended word of an address whose bank is there: the last word that the machine as voted stored there, else the

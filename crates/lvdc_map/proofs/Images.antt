@@ -1,18 +1,12 @@
 -- An image that is loaded word by word.
-use Rattle.std.proofs.Common.{◌≡◌, ℕ, zero, suc, ◌<◌, List, [], ◌∷◌, length, get_or, take, ◌∙◌, ap, arith}
-use Rattle.std.proofs.Math.ListN.{replicate}
-use Rattle.std.proofs.lemmas.List.{length-replicate, get_or-replicate}
+use Rattle.std.proofs.Common.{◌≡◌, ℕ, zero, suc, ◌<◌, List, [], ◌∷◌, length, get_or, take, ap, arith}
 use Rattle.lvdc_map.specs.Address.{number_of}
 use Rattle.lvdc_map.specs.Memory.{Memory, filled_with, stored, loaded, IsMemory}
 use Rattle.lvdc_map.specs.declared.placed.Placed.{Placed}
 
 -- 0 at every address
-pub zeros : (n : ℕ) (words : List ℕ) → n ≡ 32768 → words ≡ replicate n 0 → IsMemory words (filled_with 0)
-zeros n words all is =
-    rw is (record {
-      size = length-replicate {A = ℕ} n 0 ∙ all;
-      same = λ at ok. get_or-replicate {A = ℕ} n (number_of at) 0 0 (omega (arith, all, ok.pair, ok.sector, ok.loc));
-    })
+pub zeros : (words : List ℕ) → length words ≡ 32768 → ((place d : ℕ) → place < 32768 → get_or words place d ≡ 0) → IsMemory words (filled_with 0)
+zeros words all none = record { size = all; same = λ at ok. none (number_of at) 0 (omega (arith, ok.pair, ok.sector, ok.loc)) }
 
 -- one more word
 pub loaded-more : (image : List Placed) (at : ℕ) (p : Placed) (m : Memory) → at < length image → p ≡ get_or image at p →

@@ -3,3 +3,4 @@ pub mod Banks
 pub mod Hop
 pub mod Memory
 pub mod Place
+pub mod Sectors

@@ -36,6 +36,9 @@ impl Address {
     /// How many addresses the eight banks have.
     pub const COUNT: usize = 32768;
 
+    /// How many sectors the eight banks have, each of 256 addresses that follow each other in their order.
+    pub const SECTORS: usize = 128;
+
     /// The address with these numbers, where its bank is below 8 and its sector below 20 octal.
     pub fn new(pair: u8, sector: u8, loc: u8) -> Option<Address>
         ensures { SomeIff result ((pair < 8) × (sector < 16))

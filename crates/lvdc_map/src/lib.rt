@@ -7,6 +7,7 @@ mod hop;
 mod operand;
 mod place;
 mod placed;
+mod sectors;
 mod words;
 
 pub use address::{Address, same_address};
@@ -15,4 +16,5 @@ pub use hop::{Hop, is_hop_constant};
 pub use operand::{OperandKind, is_a9, low_bits, operand_place};
 pub use place::Place;
 pub use placed::{Placed, places_words};
+pub use sectors::Sectors;
 pub use words::Words;

@@ -1,10 +1,10 @@
 //! The words of memory.
 
-ghost use Rattle.std.specs.Prelude.{◌≡◌, ◌<◌, ◌^◌, All, [], IfOk, slice_index, slice_set};
+ghost use Rattle.std.specs.Prelude.{◌≡◌, ℕ, ◌/◌, ◌<◌, ◌^◌, true, All, [], IfOk, slice_index, slice_set};
 ghost use Rattle.lvdc_map.specs.Address.{number_of};
 ghost use Rattle.lvdc_map.specs.Memory.{Memory, word_at, stored, memory_of, IsMemory};
 
-use crate::{Address, Placed};
+use crate::{Address, Placed, Sectors};
 use lvdc_word::{NoMemory, Word};
 use std::alloc::Global;
 use std::marker::Model;
@@ -12,17 +12,17 @@ use std::marker::Model;
 /// The words of all addresses, in the order of their numbers.
 #[derive(Drop)]
 pub struct Words {
-    words: Vec<Word>,
+    words: Sectors<Word>,
 }
 
 impl Model for Words {
-    ghost use Rattle.std.specs.Prelude.{◌≡◌, ℕ, List, vec_len};
+    ghost use Rattle.std.specs.Prelude.{◌≡◌, ℕ, List, length};
 
     ghost Value = { List ℕ };
 
     ghost view = { λ w. w.words.items };
 
-    ghost invariant = { λ w. vec_len w.words ≡ 32768 };
+    ghost invariant = { λ w. (w.words.blank ≡ 0) × (length w.words.items ≡ 32768) };
 }
 
 impl Words {
@@ -43,7 +43,7 @@ impl Words {
     fn zero(alloc: Global) -> Result<Words, NoMemory>
         ensures { IfOk result (λ words. IsMemory words (memory_of [])) }
     {
-        let words = Vec::from_elem(alloc, Word::ZERO, Address::COUNT)?;
+        let words = Sectors::filled(alloc, Word::ZERO)?;
         Ok(Words { words })
     }
 
@@ -52,7 +52,7 @@ impl Words {
         ensures value { result ≡ slice_index self.now (number_of at) }
         ensures memory { (m : Memory) → IsMemory self.now m → result ≡ word_at m at }
     {
-        self.words[at.number()]
+        self.words.at(at.number())
     }
 
     /// Puts a word at an address.
@@ -61,6 +61,14 @@ impl Words {
         ensures memory { (m : Memory) → IsMemory self.old m → IsMemory self.new (stored m at word) }
         ensures word { word < 2 ^ 26 }
     {
-        self.words[at.number()] = word;
+        self.words.put(at.number(), word);
+    }
+    /// Is there no word but 0 in a sector, of the 128 in the order of addresses? False says nothing: it tells in which sectors
+    /// nothing was put.
+    pub fn is_blank(&self, sector: usize) -> bool
+        requires { sector < 128 }
+        ensures { result ≡ true → (number : ℕ) → number < 32768 → number / 256 ≡ sector → slice_index self.now number ≡ 0 }
+    {
+        self.words.is_blank(sector)
     }
 }

@@ -1,19 +1,29 @@
 -- Where each twin that holds an address shows the code of its word.
 use Rattle.std.proofs.Common.{◌≡◌, ℕ, zero, suc, ◌/◌, ◌%◌, ◌<◌, Bool, true, false, cond, ◌&&◌, ◌||◌, not, Option, sym, ap, ◌∙◌, refl, arith}
 use Rattle.std.specs.Prelude.{◌==◌}
-use Rattle.std.proofs.lemmas.Bool.{eqb-true, eq-eqb, and_parts}
+use Rattle.std.proofs.lemmas.Bool.{eqb-true, eq-eqb, and_parts, and_from}
 use Rattle.lvdc_word.specs.Cell.{code_of, is_good}
 use Rattle.lvdc_map.specs.Address.{Spot}
 use Rattle.lvdc_map.specs.Banks.{is_simplex, home, IsPlace}
 use Rattle.lvdc_map.specs.Memory.{Memory, word_at}
 use Rattle.lvdc_twin.specs.Calls.{all_show}
-use Rattle.lvdc_twin.specs.Store.{shown_in, survives}
+use Rattle.lvdc_twin.specs.Store.{Store, shown_in, survives}
 use Rattle.lvdc_fault.specs.Recoverable.{recovers_by, is_recovered, shown_by}
 use Rattle.lvdc_model.specs.Known.{shows_since}
 use Rattle.lvdc_model.specs.Trial.{Trial}
 use Rattle.lvdc_model.specs.Twins.{Twins}
 use Rattle.lvdc_memory.specs.Holds.{Kept, Holds}
 use Rattle.lvdc_memory.proofs.Carrying.{recovered-holds}
+
+-- each twin shows the cell, whether it holds the address or not
+pub all-show-both : (t : Store) (at : Spot) (cell : ℕ) → at.pair < 8 → ((twin : ℕ) → twin < 2 → shown_in t twin (home at) ≡ cell) → all_show t at cell ≡ true
+all-show-both t at cell small shown = by_case (is_simplex t.banks (at.pair % 4))
+  where
+    by_case : (b : Bool) → cond b (shown_in t (at.pair / 4) (home at) == cell) (shown_in t 0 (home at) == cell && shown_in t 1 (home at) == cell) ≡ true
+    by_case true = eq-eqb (shown_in t (at.pair / 4) (home at)) cell (shown (at.pair / 4) (omega (arith, small)))
+    by_case false =
+        and_from (shown_in t 0 (home at) == cell) (shown_in t 1 (home at) == cell)
+        (eq-eqb (shown_in t 0 (home at)) cell (shown 0 (omega arith))) (eq-eqb (shown_in t 1 (home at)) cell (shown 1 (omega arith)))
 
 -- a cell that both show survives
 both_survive : (cell zeroth first : ℕ) → zeroth ≡ cell → first ≡ cell → survives cell zeroth first ≡ true

@@ -1,5 +1,5 @@
 -- When the memory that the code keeps is the memory of a trial's voted machine.
-use Rattle.std.specs.Prelude.{◌≡◌, ℕ, ◌<◌, List}
+use Rattle.std.specs.Prelude.{◌≡◌, ℕ, ◌<◌, true, List}
 use Rattle.std.specs.declared.option.Option.{Option}
 use Rattle.lvdc_map.specs.Address.{Spot, IsAddress}
 use Rattle.lvdc_map.specs.Memory.{Memory, word_at, memory_of, IsMemory}
@@ -9,7 +9,9 @@ use Rattle.lvdc_twin.specs.declared.held.Held.{Held}
 use Rattle.lvdc_map.specs.Banks.{IsPlace}
 use Rattle.lvdc_twin.specs.Store.{Store, stored_in, stuck_in, is_dead}
 use Rattle.lvdc_fault.specs.Ledger.{Intended}
+use Rattle.lvdc_fault.specs.Recoverable.{is_recovered}
 use Rattle.lvdc_fault.specs.declared.event.Event.{Event}
+use Rattle.lvdc_model.specs.Known.{shows_since}
 use Rattle.lvdc_model.specs.Trial.{Trial}
 use Rattle.lvdc_model.specs.Twins.{Twins}
 use Rattle.lvdc_memory.specs.Faults.{stuck_since, is_dead_since}
@@ -39,3 +41,8 @@ StoreCells held t = (twin : ℕ) → twin < 2 → (place : Spot) → IsPlace pla
 -- the words of a list are intended, and 0 at every other address
 abbrev pub AreIntended : List Placed → Memory → Type 0
 AreIntended words intended = (at : Spot) → IsAddress at → word_at intended at ≡ word_at (memory_of words) at
+
+-- the word 0 is intended at an address, and can be recovered there
+pub record IsZeroAt (o : Trial) (in_force : Option ℕ) (t : Twins) (intended : Memory) (at : Spot) : Type 0 where
+  pub word : word_at intended at ≡ 0
+  pub recovered : is_recovered o.opening.banks at (word_at intended at) (λ twin. shows_since in_force o t twin at) ≡ true

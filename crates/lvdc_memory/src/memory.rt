@@ -1,6 +1,7 @@
 //! The memory of the voted machine.
 
-ghost use Rattle.std.specs.Prelude.{◌≡◌, ℕ, ◌<◌, ◌^◌, true, All, Option, None, Some, IfOk, IfSome, OnErr};
+ghost use Rattle.std.specs.Prelude.{◌≡◌, ℕ, ◌/◌, ◌<◌, ◌^◌, true, All, Option, None, Some, IfOk, IfSome, OnErr};
+ghost use Rattle.lvdc_map.specs.Address.{Spot, IsAddress, number_of};
 ghost use Rattle.lvdc_map.specs.Banks.{is_there};
 ghost use Rattle.lvdc_map.specs.Memory.{Memory, word_at, stored, memory_of, AllThere};
 ghost use Rattle.lvdc_fault.specs.Recoverable.{is_recovered};
@@ -8,7 +9,7 @@ ghost use Rattle.lvdc_model.specs.Known.{shows_since};
 ghost use Rattle.lvdc_model.specs.Trial.{Trial};
 ghost use Rattle.lvdc_model.specs.Twins as model;
 ghost use Rattle.lvdc_model.specs.Twins.{read_answer, after_read, after_store, twins_at_start};
-ghost use Rattle.lvdc_memory.specs.Holds.{Holds};
+ghost use Rattle.lvdc_memory.specs.Holds.{Holds, IsZeroAt};
 
 use lvdc_fault::Ledger;
 use lvdc_map::{Address, Banks, Placed};
@@ -73,6 +74,16 @@ impl VotedMemory {
         let place = at.home();
         self.ledger
             .recoverable(at, self.twins.view(0, place), self.twins.view(1, place))
+    }
+
+    /// Is 0 intended at each address of a sector, of the 128 in the order of addresses, and does each twin show its cell there? So it can
+    /// be recovered. False says nothing: it tells in which sectors nothing was loaded, stored, damaged, stuck or dead.
+    pub fn is_blank(&self, sector: usize) -> bool
+        requires { sector < 128 }
+        ensures { result ≡ true → (o : Trial) (in_force : Option ℕ) (t : model.Twins) (i : Memory)
+            → Holds o in_force self.now t i → (at : Spot) → IsAddress at → number_of at / 256 ≡ sector → IsZeroAt o in_force t i at }
+    {
+        self.ledger.is_blank(sector) && self.twins.is_blank(sector % 64)
     }
 
     /// The word at an address, read by the rules of the two twins. `BothBad` means that no twin that holds the address shows

@@ -1,6 +1,6 @@
 //! The plain machine.
 
-ghost use Rattle.std.specs.Prelude.{◌≡◌, ◌≢◌, ℕ, ◌+◌, ◌-◌, ◌*◌, ◌≤◌, ◌<◌, length, map, true, IsSome, IsNone, slice_index, vec_len, vec_capacity, OnOk, OnErr, IfOk, IfErr, Some, None};
+ghost use Rattle.std.specs.Prelude.{◌≡◌, ◌≢◌, ℕ, ◌+◌, ◌-◌, ◌*◌, ◌/◌, ◌≤◌, ◌<◌, length, map, true, IsSome, IsNone, slice_index, vec_len, vec_capacity, OnOk, OnErr, IfOk, IfErr, Some, None};
 ghost use Rattle.lvdc_map.specs.Address.{number_of};
 ghost use Rattle.lvdc_map.specs.Banks.{is_there};
 ghost use Rattle.lvdc_map.specs.Memory.{Memory, word_at, IsMemory, are_rising, AllThere};
@@ -331,6 +331,15 @@ impl Plain {
         ensures memory { (m : Memory) → IsMemory self.now.words m → result ≡ word_at m at }
     {
         self.processor.words.word(at)
+    }
+
+    /// Is 0 the word of each address of a sector, of the 128 in the order of addresses? False says nothing: it tells in which sectors
+    /// nothing was loaded or stored.
+    pub fn is_blank(&self, sector: usize) -> bool
+        requires { sector < 128 }
+        ensures { result ≡ true → (number : ℕ) → number < 32768 → number / 256 ≡ sector → slice_index self.now.words number ≡ 0 }
+    {
+        self.processor.words.is_blank(sector)
     }
 
     /// The port exchanges that were made, the oldest first.

@@ -1,4 +1,5 @@
 pub mod Behind
+mod Blanks
 pub mod Counts
 pub mod Noted
 pub mod NotedLines

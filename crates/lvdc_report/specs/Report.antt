@@ -114,6 +114,10 @@ memory_text banks memory known = lines_below (λ number. line_at banks memory kn
 abbrev pub all_known : Spot → Bool
 all_known at = true
 
+-- the line of an address of the plain machine, by its number
+abbrev pub plain_line : ℕ → Memory → ℕ → List ℕ
+plain_line banks memory number = line_at banks memory all_known (spot_at number)
+
 -- ---- the whole
 
 -- what a plain state shows of its registers

@@ -1,5 +1,6 @@
 -- The report of a run of the voted machine, and the text of a soak run. Each line ends with LF.
 use Rattle.std.specs.Prelude.{ℕ, zero, suc, ◌+◌, ◌==◌, List, [], ◌++◌, codes, decimal, length, if◌then◌else◌}
+use Rattle.lvdc_map.specs.Address.{spot_at}
 use Rattle.lvdc_plain.specs.declared.records.Visible.{Visible}
 use Rattle.lvdc_model.specs.Known.{is_known}
 use Rattle.lvdc_model.specs.Trial.{Trial}
@@ -8,7 +9,7 @@ use Rattle.lvdc_machine.specs.View.{registers_on, bus_of_votes, answer_of_end}
 use Rattle.lvdc_machine.specs.declared.mode.Mode.{Mode}
 use Rattle.lvdc_machine.specs.declared.mode.Mode.TheVariants.{Guarded, Through}
 use Rattle.lvdc_lines.specs.Noted.{lines_below, log_text, repairs_text}
-use Rattle.lvdc_report.specs.Report.{title_line, end_text, registers_text, times_line, word_line, memory_text}
+use Rattle.lvdc_report.specs.Report.{title_line, end_text, registers_text, times_line, word_line, line_at, memory_text}
 use Rattle.lvdc_report.specs.declared.title.Title.{Title}
 use Rattle.lvdc_report.specs.declared.title.Title.TheVariants as titles
 
@@ -20,6 +21,12 @@ title_of Through = titles.Through
 -- the registers that the votes show
 abbrev pub visible_of : Voted → Visible
 visible_of v = registers_on (bus_of_votes v.copies) v.steps
+
+-- ---- the words of memory
+
+-- the line of an address, by its number
+abbrev pub shown_line : ℕ → Trial → Voted → ℕ → List ℕ
+shown_line banks o v number = line_at banks v.intended (λ at. is_known o v at) (spot_at number)
 
 -- ---- the redundancy
 

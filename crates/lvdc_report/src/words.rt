@@ -1,11 +1,13 @@
-ghost use Rattle.std.specs.Prelude.{◌≡◌, ℕ, ◌+◌, ◌*◌, ◌≤◌, ◌++◌, length, OnOk, true, List};
+ghost use Rattle.std.specs.Prelude.{◌≡◌, ℕ, ◌+◌, ◌*◌, ◌<◌, ◌≤◌, ◌++◌, length, OnOk, true, List};
 ghost use Rattle.lvdc_map.specs.Memory.{Memory, IsMemory};
 ghost use Rattle.lvdc_port.specs.Device.{Device};
 ghost use Rattle.lvdc_model.specs.Known.{is_known};
 ghost use Rattle.lvdc_model.specs.Trial.{Trial};
 ghost use Rattle.lvdc_model.specs.Voted.{Voted};
 ghost use Rattle.lvdc_machine.specs.Resumed.{state_from, StandsFrom};
-ghost use Rattle.lvdc_report.specs.Report.{memory_line, unknown_line, told_line, line_at, memory_text, all_known};
+ghost use Rattle.lvdc_lines.specs.Noted.{lines_below};
+ghost use Rattle.lvdc_report.specs.Report.{memory_line, unknown_line, told_line, line_at, memory_text, all_known, plain_line};
+ghost use Rattle.lvdc_report.specs.Voted.{shown_line};
 
 use lvdc_image::put_address;
 use lvdc_machine::{Machine, Shown};
@@ -69,7 +71,23 @@ pub(crate) fn put_memory(out: &mut Vec<u8>, plain: &Plain) -> Result<(), NoMemor
         out.new.items ≡ out.old.items ++ memory_text plain.now.banks m all_known) }
     ensures short { OnOk result (length out.new.items ≤ length out.old.items + 23 * 32768) }
 {
-    for number in 0..Address::COUNT {
+    for sector in 0..Address::SECTORS {
+        if !plain.is_blank(sector) {
+            put_sector(out, plain, sector)?;
+        }
+    }
+    Ok(())
+}
+
+/// Adds the lines of a sector, of the 128 in the order of addresses.
+fn put_sector(out: &mut Vec<u8>, plain: &Plain, sector: usize) -> Result<(), NoMemory>
+    requires { sector < 128 }
+    ensures lines { OnOk result ((m : Memory) → IsMemory plain.now.words m → (before : List ℕ)
+        → out.old.items ≡ before ++ lines_below (plain_line plain.now.banks m) (256 * sector)
+        → out.new.items ≡ before ++ lines_below (plain_line plain.now.banks m) (256 * sector + 256)) }
+    ensures short { OnOk result (length out.new.items ≤ length out.old.items + 23 * 256) }
+{
+    for number in 256 * sector..256 * sector + 256 {
         put_line_at(out, plain, Address::numbered(number))?;
     }
     Ok(())
@@ -100,7 +118,23 @@ pub(crate) fn put_shown_memory(out: &mut Vec<u8>, machine: &Machine) -> Result<(
         (λ spot. is_known o (state_from machine.now.end machine.now.mode o first n) spot)) }
     ensures short { OnOk result (length out.new.items ≤ length out.old.items + 23 * 32768) }
 {
-    for number in 0..Address::COUNT {
+    for sector in 0..Address::SECTORS {
+        if !machine.is_blank(sector) {
+            put_shown_sector(out, machine, sector)?;
+        }
+    }
+    Ok(())
+}
+
+/// Adds the lines of a sector, of the 128 in the order of addresses.
+fn put_shown_sector(out: &mut Vec<u8>, machine: &Machine, sector: usize) -> Result<(), NoMemory>
+    requires { sector < 128 }
+    ensures lines { OnOk result ((o : Trial) (first : Voted) (n : ℕ) (ds : List Device) → StandsFrom o first n machine.now ds → (before : List ℕ)
+        → out.old.items ≡ before ++ lines_below (shown_line machine.now.banks o (state_from machine.now.end machine.now.mode o first n)) (256 * sector)
+        → out.new.items ≡ before ++ lines_below (shown_line machine.now.banks o (state_from machine.now.end machine.now.mode o first n)) (256 * sector + 256)) }
+    ensures short { OnOk result (length out.new.items ≤ length out.old.items + 23 * 256) }
+{
+    for number in 256 * sector..256 * sector + 256 {
         put_shown_line(out, machine, Address::numbered(number))?;
     }
     Ok(())

@@ -18,6 +18,15 @@ module _ (banks : ℕ) (one other : Memory) where
   unfolding least_below
   least-more n before here = rw add-one (λ i. least_by (before i) (here i) (spot_at n))
 
+  -- addresses in a row whose words are the same
+  pub least-same : (n more : ℕ) → ((i : ℕ) → i < more → is_same_word banks one other (spot_at (n + i)) ≡ true) → least_below banks one other n ≡ None
+      → least_below banks one other (n + more) ≡ None
+  least-same n zero same before = let at : n + zero ≡ n = omega arith in ap (least_below banks one other) at ∙ before
+  least-same n (suc more) same before =
+      let at : n + suc more ≡ n + more + 1 = omega arith in
+      ap (least_below banks one other) at
+      ∙ least-more (n + more) (least-same n more (λ i less. same i (omega (arith, less))) before) (same more (omega arith))
+
   -- the first address whose words differ
   pub least-found : (n k : ℕ) → k < n → least_below banks one other k ≡ None → is_same_word banks one other (spot_at k) ≡ false
       → least_below banks one other n ≡ Some (spot_at k)

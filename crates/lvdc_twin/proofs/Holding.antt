@@ -1,5 +1,5 @@
 -- The cells of the twins, laid out from a list and gathered into one.
-use Rattle.std.proofs.Common.{◌≡◌, ◌≢◌, ℕ, suc, ◌<◌, Bool, true, false, cond, ◌&&◌, not, List, [], ◌∷◌, ◌++◌, All, length, get_or, set, refl, sym, ap, ◌∙◌, arith}
+use Rattle.std.proofs.Common.{◌≡◌, ◌≢◌, ℕ, zero, suc, ◌+◌, subst, ◌<◌, Bool, true, false, cond, ◌&&◌, not, List, [], ◌∷◌, ◌++◌, All, length, get_or, set, refl, sym, ap, ◌∙◌, arith}
 use Rattle.std.specs.Prelude.{◌==◌, nat_lt}
 use Rattle.std.proofs.lemmas.Bool.{true≢false, eqb-true, eqb-false, eq-eqb, ltb-true, ltb-false, lt-ltb, and_from, and_parts}
 use Rattle.std.proofs.lemmas.List.Elements.{All-nil, All-push, All-tail}
@@ -7,7 +7,7 @@ use Rattle.lvdc_word.specs.Cell.{code_of}
 use Rattle.lvdc_map.specs.Address.{Spot, is_same}
 use Rattle.lvdc_map.specs.Memory.{Memory, filled_with, stored, word_at}
 use Rattle.lvdc_twin.specs.declared.held.Held.{Held}
-use Rattle.lvdc_twin.specs.Cells.{NamesPlace, laid, cells_of, are_rising}
+use Rattle.lvdc_twin.specs.Cells.{NamesPlace, laid, cells_of, are_rising, Gathers}
 use Rattle.lvdc_map.specs.Banks.{IsPlace}
 use Rattle.lvdc_twin.specs.Store.{slot_of}
 use Rattle.lvdc_twin.proofs.Places.{one_slot, slot_of_place, slot_set, slot-small}
@@ -56,15 +56,6 @@ laid-more held h cells whole two here has twin two' place here' =
     ∙ sym (cells-push held h twin place)
 
 -- ---- gathered
-
--- what was gathered from the slots of a table below a number
-pub record Gathers (table : List ℕ) (n : ℕ) (held : List Held) : Type 0 where
-  pub rising : are_rising held ≡ true
-  pub places : All NamesPlace held
-  pub others : All (λ h. h.cell ≢ code_of 0) held
-  pub below : All (λ h. slot_of h.twin h.at < n) held
-  pub cells : (twin : ℕ) → twin < 2 → (place : Spot) → IsPlace place
-      → word_at (cells_of held twin) place ≡ cond (nat_lt (slot_of twin place) n) (get_or table (slot_of twin place) 0) (code_of 0)
 
 pub none_below : (k x d : ℕ) → cond (nat_lt k 0) x d ≡ d
 none_below k x d = by_case (nat_lt k 0) refl
@@ -122,6 +113,17 @@ gathers-other cells n held none g = record {
         zero_at : (b : Bool) → cond b (get_or cells k 0) (code_of 0) ≡ get_or cells k 0
         zero_at true = refl
         zero_at false = sym here
+
+-- nor are any number of them
+pub gathers-others : (more : ℕ) (cells : List ℕ) (n : ℕ) (held : List Held) → ((i : ℕ) → i < more → get_or cells (n + i) 0 ≡ code_of 0)
+    → Gathers cells n held → Gathers cells (n + more) held
+gathers-others zero cells n held none g = let same : n ≡ n + zero = omega arith in subst (λ (k : ℕ). Gathers cells k held) same g
+gathers-others (suc more) cells n held none g =
+    let first : get_or cells n 0 ≡ code_of 0 = (let at : n ≡ n + 0 = omega arith in ap (λ (k : ℕ). get_or cells k 0) at) ∙ none 0 (omega arith) in
+    let rest = gathers-others more cells (suc n) held (λ i less. (let at : suc n + i ≡ n + suc i = omega arith in ap (λ (k : ℕ). get_or cells k 0) at)
+    ∙ none (suc i) (omega arith)) (gathers-other cells n held first g) in
+    let same : suc n + more ≡ n + suc more = omega arith in
+    subst (λ (k : ℕ). Gathers cells k held) same rest
 
 -- the tests of a slot
 slot_test : (w twin : ℕ) (a b : Spot) → w < 2 → twin < 2 → IsPlace a → IsPlace b → (w == twin && is_same a b) ≡ (slot_of w a == slot_of twin b)

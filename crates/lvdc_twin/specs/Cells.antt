@@ -1,5 +1,5 @@
 -- The cells of the two twins as a list.
-use Rattle.std.specs.Prelude.{◌≡◌, ◌≢◌, ℕ, ◌<◌, Bool, true, false, ◌==◌, ◌&&◌, nat_lt, if◌then◌else◌, List, [], ◌∷◌, All}
+use Rattle.std.specs.Prelude.{◌≡◌, ◌≢◌, ℕ, ◌<◌, Bool, true, false, ◌==◌, ◌&&◌, nat_lt, if◌then◌else◌, List, [], ◌∷◌, All, slice_index}
 use Rattle.lvdc_word.specs.Cell.{code_of}
 use Rattle.lvdc_map.specs.Address.{Spot}
 use Rattle.lvdc_map.specs.Memory.{Memory, filled_with, stored, word_at}
@@ -43,3 +43,12 @@ pub record AreHeld (t : Store) (held : List Held) : Type 0 where
   pub places : All NamesPlace held
   pub others : All (λ h. h.cell ≢ code_of 0) held
   pub cells : (twin : ℕ) → twin < 2 → (place : Spot) → IsPlace place → stored_in t twin place ≡ word_at (cells_of held twin) place
+
+-- what was gathered from the slots of a table below a number
+pub record Gathers (table : List ℕ) (n : ℕ) (held : List Held) : Type 0 where
+  pub rising : are_rising held ≡ true
+  pub places : All NamesPlace held
+  pub others : All (λ h. h.cell ≢ code_of 0) held
+  pub below : All (λ h. slot_of h.twin h.at < n) held
+  pub cells : (twin : ℕ) → twin < 2 → (place : Spot) → IsPlace place
+      → word_at (cells_of held twin) place ≡ if nat_lt (slot_of twin place) n then slice_index table (slot_of twin place) else code_of 0

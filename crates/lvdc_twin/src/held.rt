@@ -1,13 +1,14 @@
-ghost use Rattle.std.specs.Prelude.{◌≡◌, ℕ, ◌<◌, length, slice_index, All, IfOk};
+ghost use Rattle.std.specs.Prelude.{◌≡◌, ℕ, ◌+◌, ◌*◌, ◌<◌, length, slice_index, All, IfOk, OnOk};
+ghost use Rattle.lvdc_word.specs.Cell.{code_of};
 ghost use Rattle.lvdc_map.specs.Address.{Spot};
 ghost use Rattle.lvdc_map.specs.Memory.{word_at};
-ghost use Rattle.lvdc_twin.specs.Cells.{NamesPlace, cells_of, HasCells, AreHeld};
+ghost use Rattle.lvdc_twin.specs.Cells.{NamesPlace, cells_of, HasCells, AreHeld, Gathers};
 ghost use Rattle.lvdc_map.specs.Banks.{IsPlace};
 ghost use Rattle.lvdc_twin.specs.Store.{IsStore, slot_of, stored_in};
 
 use crate::Twins;
 use crate::twins::{PLACES, nothing_stuck, slot, zeros};
-use lvdc_map::{Address, Banks};
+use lvdc_map::{Address, Banks, Sectors};
 use lvdc_word::{Cell, NoMemory, Word};
 use std::alloc::Global;
 
@@ -54,7 +55,7 @@ impl Twins {
         ensures whole { IsStore self.now }
         ensures place { IsPlace at }
     {
-        self.cells[slot(twin, at)]
+        self.cells.at(slot(twin, at))
     }
 
     /// The twins that are selected in the four pairs.
@@ -69,10 +70,23 @@ impl Twins {
     pub fn held(&self, alloc: Global) -> Result<Vec<Held>, NoMemory>
         ensures { IfOk result (λ held. AreHeld self.now held.items) }
     {
-        let zero = Cell::encode(Word::ZERO);
         let mut held = Vec::new(alloc);
-        for slot in 0..2 * PLACES {
-            let cell = self.cells[slot];
+        for sector in 0..Address::SECTORS {
+            if !self.cells.is_blank(sector) {
+                self.gather(sector, &mut held)?;
+            }
+        }
+        Ok(held)
+    }
+
+    /// Adds the cells of a sector, of the 128 of both twins, but for those of the word 0.
+    fn gather(&self, sector: usize, held: &mut Vec<Held>) -> Result<(), NoMemory>
+        requires { sector < 128 }
+        ensures { OnOk result (Gathers self.now.cells (256 * sector) held.old.items → Gathers self.now.cells (256 * sector + 256) held.new.items) }
+    {
+        let zero = Cell::encode(Word::ZERO);
+        for slot in 256 * sector..256 * sector + 256 {
+            let cell = self.cells.at(slot);
             if cell != zero {
                 held.push(Held {
                     twin: (slot / PLACES) as u8,
@@ -81,20 +95,21 @@ impl Twins {
                 })?;
             }
         }
-        Ok(held)
+        Ok(())
     }
 }
 
 /// The tables of both twins with these cells, and that of the word 0 at every other place.
-fn laid_out(alloc: Global, held: &[Held]) -> Result<Vec<Cell>, NoMemory>
+fn laid_out(alloc: Global, held: &[Held]) -> Result<Sectors<Cell>, NoMemory>
     requires { All NamesPlace held.now }
+    ensures blank { IfOk result (λ v. v.blank ≡ code_of 0) }
     ensures length { IfOk result (λ v. length v.items ≡ 32768) }
     ensures cells { IfOk result (λ v. (twin : ℕ) → twin < 2 → (place : Spot) → IsPlace place
         → slice_index v.items (slot_of twin place) ≡ word_at (cells_of held.now twin) place) }
 {
     let mut cells = zeros(alloc)?;
     for one in held {
-        cells[slot(one.twin, one.at)] = one.cell;
+        cells.put(slot(one.twin, one.at), one.cell);
     }
     Ok(cells)
 }

@@ -1,6 +1,8 @@
 //! Physical places: what a twin shows there, and what is damaged, stuck or dead.
 
-ghost use Rattle.std.specs.Prelude.{◌≡◌, ◌-◌, ◌<◌, bit_xor};
+ghost use Rattle.std.specs.Prelude.{◌≡◌, ℕ, ◌-◌, ◌/◌, ◌<◌, true, bit_xor};
+ghost use Rattle.lvdc_word.specs.Cell.{code_of};
+ghost use Rattle.lvdc_map.specs.Address.{Spot, number_of};
 ghost use Rattle.lvdc_map.specs.Banks.{IsPlace};
 ghost use Rattle.lvdc_twin.specs.Store.{IsStore, stored_in, stuck_in, is_dead, selected_in, shown_in, with_cell, with_stuck_bits, with_dead};
 ghost use Rattle.lvdc_twin.specs.Calls.{ChangesAreLocal};
@@ -38,8 +40,34 @@ impl Twins {
             Cell::within(0)
         } else {
             let stuck = self.stuck_at(twin, at);
-            self.cells[slot(twin, at)].stuck(stuck.mask, stuck.value)
+            self.cells.at(slot(twin, at)).stuck(stuck.mask, stuck.value)
         }
+    }
+
+    /// Does each twin show the cell of the word 0 at each place of a sector, of the 64 in the order of places? False says nothing: it tells
+    /// in which sectors nothing was stored, damaged, stuck or dead.
+    pub fn is_blank(&self, sector: usize) -> bool
+        requires { sector < 64 }
+        ensures { result ≡ true → (twin : ℕ) → twin < 2 → (place : Spot) → IsPlace place → number_of place / 256 ≡ sector
+            → shown_in self.now twin place ≡ code_of 0 }
+    {
+        self.shows_zeros(0, sector) && self.shows_zeros(1, sector)
+    }
+
+    /// The same of one twin.
+    fn shows_zeros(&self, twin: u8, sector: usize) -> bool
+        requires twin { twin < 2 }
+        requires sector { sector < 64 }
+        ensures { result ≡ true → (place : Spot) → IsPlace place → number_of place / 256 ≡ sector → shown_in self.now twin place ≡ code_of 0 }
+    {
+        let number = 64 * usize::from(twin) + sector;
+        if !self.cells.is_blank(number) {
+            return false;
+        }
+        if self.bare {
+            return true;
+        }
+        self.stuck.is_blank(number) && !self.is_dead(twin, (sector / 16) as u8)
     }
 
     /// Turns over the bits under the mask in the cell that a twin stores at a physical place, also while the twin is dead.
@@ -52,7 +80,7 @@ impl Twins {
         ensures place { IsPlace at }
     {
         let slot = slot(twin, at);
-        self.cells[slot] = self.cells[slot].flip(mask);
+        self.cells.put(slot, self.cells.at(slot).flip(mask));
     }
 
     /// From now on the bits under the mask are the value's in what a twin shows at a physical place. It replaces what was
@@ -66,7 +94,7 @@ impl Twins {
         ensures place { IsPlace at }
     {
         self.bare = false;
-        self.stuck[slot(twin, at)] = Stuck { mask, value };
+        self.stuck.put(slot(twin, at), Stuck { mask, value });
     }
 
     /// What is stuck at a physical place of a twin.
@@ -77,7 +105,7 @@ impl Twins {
         ensures whole { IsStore self.now }
         ensures place { IsPlace at }
     {
-        self.stuck[slot(twin, at)]
+        self.stuck.at(slot(twin, at))
     }
 
     /// Marks a twin as dead in a pair, or as alive. A dead twin shows 0 and stores no word.

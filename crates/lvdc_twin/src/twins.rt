@@ -6,7 +6,7 @@ ghost use Rattle.lvdc_twin.specs.Store.{nothing, slot_of};
 ghost use Rattle.lvdc_twin.specs.Calls.{Begins};
 
 use crate::Stuck;
-use lvdc_map::{Address, Banks, Placed};
+use lvdc_map::{Address, Banks, Placed, Sectors};
 use lvdc_word::{Cell, NoMemory, Word};
 use std::alloc::Global;
 use std::marker::Model;
@@ -18,8 +18,8 @@ pub(crate) const PLACES: usize = 16384;
 /// repair are this project's profile).
 pub struct Twins {
     pub(crate) banks: Banks,
-    pub(crate) cells: Vec<Cell>,
-    pub(crate) stuck: Vec<Stuck>,
+    pub(crate) cells: Sectors<Cell>,
+    pub(crate) stuck: Sectors<Stuck>,
     pub(crate) dead: [bool; 8],
     pub(crate) selected: [u8; 4],
     /// Where it is true, nothing is stuck at any place and no twin is dead: each twin shows what it stores. False says nothing.
@@ -41,7 +41,9 @@ impl Drop for Twins {
 }
 
 impl Model for Twins {
-    ghost use Rattle.lvdc_twin.specs.Store.{Store, IsNoted};
+    ghost use Rattle.std.specs.Prelude.{◌≡◌};
+    ghost use Rattle.lvdc_word.specs.Cell.{code_of};
+    ghost use Rattle.lvdc_twin.specs.Store.{Store, IsNoted, nothing};
 
     ghost Value = { Store };
 
@@ -59,7 +61,7 @@ impl Model for Twins {
       stuck = t.stuck.items;
       dead = t.dead;
       selected = t.selected;
-    }) t.bare };
+    }) t.bare × (t.cells.blank ≡ code_of 0) × (t.stuck.blank ≡ nothing) };
 }
 
 impl Twins {
@@ -100,26 +102,26 @@ impl Twins {
 }
 
 /// A cell of 0 for each place of both twins.
-pub(crate) fn zeros(alloc: Global) -> Result<Vec<Cell>, NoMemory>
+pub(crate) fn zeros(alloc: Global) -> Result<Sectors<Cell>, NoMemory>
+    ensures blank { IfOk result (λ v. v.blank ≡ code_of 0) }
     ensures length { IfOk result (λ v. length v.items ≡ 32768) }
     ensures zero { IfOk result (λ v. (slot : ℕ) → slot < 32768
         → slice_index v.items slot ≡ code_of 0) }
 {
-    let mut cells = Vec::new(alloc);
-    cells.resize(2 * PLACES, Cell::encode(Word::ZERO))?;
+    let cells = Sectors::filled(alloc, Cell::encode(Word::ZERO))?;
     Ok(cells)
 }
 
 /// Nothing stuck at each place of both twins.
-pub(crate) fn nothing_stuck(alloc: Global) -> Result<Vec<Stuck>, NoMemory>
+pub(crate) fn nothing_stuck(alloc: Global) -> Result<Sectors<Stuck>, NoMemory>
+    ensures blank { IfOk result (λ v. v.blank ≡ nothing) }
     ensures length { IfOk result (λ v. length v.items ≡ 32768) }
     ensures nothing { IfOk result (λ v. (slot : ℕ)
         → slice_index_or v.items slot nothing ≡ nothing) }
 {
     let zero = Cell::within(0);
-    let mut stuck = Vec::new(alloc);
-    stuck.resize(
-        2 * PLACES,
+    let stuck = Sectors::filled(
+        alloc,
         Stuck {
             mask: zero,
             value: zero,

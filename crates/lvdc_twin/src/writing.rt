@@ -57,7 +57,7 @@ impl Twins {
         ensures { (w : ℕ) → cell ≡ code_of w → self.new ≡ with_word self.old twin place w }
     {
         if !self.is_dead(twin, place.pair) {
-            self.cells[slot(twin, place)] = cell;
+            self.cells.put(slot(twin, place), cell);
         }
     }
 }

@@ -1,5 +1,5 @@
 use Rattle.std.proofs.Common.{◌≡◌, true, All, sym, subst}
-use Rattle.std.proofs.lemmas.List.Elements.{All-tail, All-push}
+use Rattle.std.proofs.lemmas.List.Elements.{All-head, All-tail, All-push}
 use Rattle.lvdc_fault.specs.declared.verdict.Verdict.TheVariants.{Admissible}
 use Rattle.lvdc_campaign.specs.Campaign.{program_of, row_of, IsScript}
 use Rattle.lvdc_campaign.specs.declared.row.Row.{Row}
@@ -24,3 +24,7 @@ run_plain-requires c = record { program = record { count = c.requires.count; ris
 
 pub make_row-requires-clause-program : goal.make_row-requires-clause-program
 make_row-requires-clause-program c = record { count = c.requires.count; rising = c.requires.rising; there = c.requires.there }
+
+pub make_row-requires-clause-script : goal.make_row-requires-clause-script
+make_row-requires-clause-script c =
+    All-head IsScript c.in-Some.named c.next.new.self.rest.items (subst (All IsScript) c.in-Some.ensures.steps.0 c.loop-named.invariant.left)

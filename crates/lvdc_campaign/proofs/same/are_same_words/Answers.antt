@@ -1,26 +1,18 @@
-use Rattle.std.proofs.Common.{◌≡◌, ◌*◌, true, false, sym, ap, ◌∙◌}
-use Rattle.lvdc_map.specs.Address.{Spot, spot_at}
+use Rattle.std.proofs.Common.{◌≡◌, ℕ, ◌+◌, ◌*◌, true, sym, ap, ◌∙◌, arith}
 use Rattle.lvdc_model.specs.Runs.{through}
 use Rattle.lvdc_model.specs.Trial.{plain_at}
-use Rattle.lvdc_campaign.specs.Same.{is_same_word}
-use Rattle.lvdc_campaign.proofs.Words.{below-none, below-more, below-differs}
+use Rattle.lvdc_campaign.specs.Same.{are_same_below}
+use Rattle.lvdc_campaign.proofs.Words.{below-none}
 use Rattle.lvdc_campaign.proofs.same.are_same_words.Goals as goal
 
-pub loop-number-init : goal.loop-number-init
-loop-number-init c = λ o times h p. below-none o.opening.banks (through o (3 * times)).intended (plain_at o times).memory
+pub loop-sector-init : goal.loop-sector-init
+loop-sector-init c = λ o times h p. below-none o.opening.banks (through o (3 * times)).intended (plain_at o times).memory
 
-pub returns-then-not-is_same_word : goal.returns-then-not-is_same_word
-returns-then-not-is_same_word c = λ o times h p.
-    let one = (through o (3 * times)).intended in
-    let other = (plain_at o times).memory in
-    let differs : is_same_word o.opening.banks one other (spot_at c.loop-number.number) ≡ false =
-    sym (c.is_same_word.ensures o times h p ∙ ap (λ (at : Spot). is_same_word o.opening.banks one other at) c.numbered.ensures) ∙ c.if-not-is_same_word.true in
-    sym (below-differs o.opening.banks one other 32768 c.loop-number.number c.loop-number-test.true differs)
+pub returns-then-not-is_same_sector : goal.returns-then-not-is_same_sector
+returns-then-not-is_same_sector c = λ o times h p. sym (c.is_same_sector.ensures.differs c.if-not-is_same_sector.true o times h p)
 
-pub loop-number-preserved : goal.loop-number-preserved
-loop-number-preserved c = λ o times h p.
-    let one = (through o (3 * times)).intended in
-    let other = (plain_at o times).memory in
-    let here : is_same_word o.opening.banks one other (spot_at c.loop-number.number) ≡ true =
-    sym (c.is_same_word.ensures o times h p ∙ ap (λ (at : Spot). is_same_word o.opening.banks one other at) c.numbered.ensures) ∙ c.if-not-is_same_word.false in
-    below-more o.opening.banks one other c.loop-number.number (c.loop-number.invariant o times h p) here
+pub loop-sector-preserved : goal.loop-sector-preserved
+loop-sector-preserved c = λ o times h p.
+    let next : 256 * (c.loop-sector.sector + 1) ≡ 256 * c.loop-sector.sector + 256 = omega arith in
+    ap (λ (n : ℕ). are_same_below o.opening.banks (through o (3 * times)).intended (plain_at o times).memory n) next
+    ∙ c.is_same_sector.ensures.same c.if-not-is_same_sector.false o times h p (c.loop-sector.invariant o times h p)

@@ -7,6 +7,11 @@ use Rattle.lvdc_listing.proofs.Sizes.{length-listing}
 use Rattle.lvdc_listing.proofs.Steps.{parts}
 use Rattle.lvdc_listing.proofs.print.listing.Goals as goal
 
+pub put_lines-requires-clause-memory : goal.put_lines-requires-clause-memory
+put_lines-requires-clause-memory c =
+    subst (λ (words : List Placed). IsMemory c.in_ok-memory.memory (memory_of words)) (c.words.ensures.words ∙ ap (λ (image : Contents). image.words) c.image.ensures)
+    c.in_ok-memory.ensures.memory
+
 pub returns-clause-text : goal.returns-clause-text
 returns-clause-text c =
     parts c.args.assembly.now (numbered c.args.bytes.now c.args.lines.now) c.new-out.result.items c.put_lines.new.out.items c.put_pool.new.out.items _ c.new-out.ensures.items

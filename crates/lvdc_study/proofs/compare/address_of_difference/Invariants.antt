@@ -6,7 +6,7 @@ use Rattle.lvdc_campaign.specs.Ran.{HasRun, HasRunPlainly}
 use Rattle.lvdc_study.specs.Outcomes.{least_below}
 use Rattle.lvdc_study.proofs.compare.address_of_difference.Given as goal
 
-abbrev pub invariant-loop-number : goal.invariant-loop-number
-invariant-loop-number l =
+abbrev pub invariant-loop-sector : goal.invariant-loop-sector
+invariant-loop-sector l =
     (o : Trial) (times : ℕ) → HasRun Through o times l.machine → HasRunPlainly o.opening times l.plain
-    → least_below o.opening.banks (through o (3 * times)).intended (plain_at o times).memory l.number ≡ None
+    → least_below o.opening.banks (through o (3 * times)).intended (plain_at o times).memory (256 * l.sector) ≡ None

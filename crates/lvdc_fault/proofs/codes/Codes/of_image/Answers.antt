@@ -26,3 +26,8 @@ loop-placed-preserved c =
 pub returns-clause-words : goal.returns-clause-words
 returns-clause-words c =
     subst (All (λ (p : Placed). p.word < 2 ^ 26)) (take_all c.loop-placed.placed-index c.args.image.now c.loop-placed-test.false) c.loop-placed.invariant.words
+
+pub returns-clause-memory : goal.returns-clause-memory
+returns-clause-memory c =
+    subst (λ (image : List Placed). IsMemory c.loop-placed.codes (loaded image (filled_with 0)))
+    (take_all c.loop-placed.placed-index c.args.image.now c.loop-placed-test.false) c.loop-placed.invariant.memory

@@ -1,34 +1,25 @@
--- Each address's word is taken, unless it is 0.
-use Rattle.std.proofs.Common.{◌≡◌, ℕ, ◌∷◌, [], ◌++◌, get_or, sym, ap, ◌∙◌, subst, arith, add-one}
-use Rattle.lvdc_map.specs.Address.{Spot, spot_at, number_of}
-use Rattle.lvdc_map.specs.declared.placed.Placed.{Placed}
-use Rattle.lvdc_twin.proofs.Holding.{differs, same_as}
-use Rattle.lvdc_fault.specs.Ledger.{Intended, NoneElsewhere}
-use Rattle.lvdc_fault.proofs.Placing.{words-other, words-more}
+-- In a sector in which nothing was put each word is 0.
+use Rattle.std.proofs.Common.{◌≡◌, ℕ, ◌+◌, ◌*◌, ◌<◌, true, get_or, sym, ap, subst, ◌∙◌, arith, rules}
+use Rattle.lvdc_fault.specs.Ledger.{Intended, GathersWords}
+use Rattle.lvdc_fault.proofs.Placing.{words-others}
 use Rattle.lvdc_fault.proofs.ledger.Ledger.placed.Goals as goal
-use Rattle.lvdc_fault.proofs.ledger.Ledger.placed.Goals.{then-ne+in_ok-push, else-ne}
+use Rattle.lvdc_fault.proofs.ledger.Ledger.placed.Goals.{then-not-is_blank+in_ok-gather, else-not-is_blank}
 
-pub loop-number-preserved : goal.loop-number-preserved
-loop-number-preserved c =
-    let n = c.loop-number.number in
+pub loop-sector-preserved : goal.loop-sector-preserved
+loop-sector-preserved c =
     let i = c.args.self.now in
-    let small = c.loop-number-test.true in
-    let at : c.numbered-at.result ≡ spot_at n = c.numbered-at.ensures in
-    let same : number_of (spot_at n) ≡ n = omega arith in
-    let here : c.word-word.result ≡ get_or i.words n 0 =
-    c.word-word.ensures.value ∙ ap (λ (k : Spot). get_or c.self.inside.words (number_of k) 0) at
-    ∙ ap (λ (k : ℕ). get_or c.self.inside.words k 0) same ∙ ap (λ (l : Intended). get_or l.words n 0) c.self.view_is in
-    let elsewhere : NoneElsewhere i.banks i.words = subst (λ (l : Intended). NoneElsewhere l.banks l.words) c.self.view_is c.self.invariant in
-    rw add-one (elim c.if-ne.branch [
-      | then-ne+in_ok-push w ↦
-          let p : Placed = record { at = spot_at n; word = c.word-word.result } in
-          let now : c.if-ne.placed.items ≡ c.loop-number.placed.items ++ p ∷ [] =
-          ap (λ v. v.items) w.placed-is ∙ w.in_ok-push.ensures.items
-          ∙ ap (λ (k : Spot). c.loop-number.placed.items ++ record { at = k; word = c.word-word.result } ∷ []) at in
-          rw now (words-more i.banks i.words n c.loop-number.placed.items p
-          (record { pair = omega (arith, small); sector = omega arith; loc = omega arith })
-          elsewhere same here (differs c.word-word.result 0 w.if-ne.ensures) c.loop-number.invariant)
-      | else-ne w ↦
-          let now : c.if-ne.placed.items ≡ c.loop-number.placed.items = ap (λ v. v.items) w.placed-is in
-          rw now (words-other i.banks i.words n c.loop-number.placed.items (sym here ∙ same_as c.word-word.result 0 w.if-ne.ensures) c.loop-number.invariant)
-    ])
+    let sector = c.loop-sector.sector in
+    let next : 256 * sector + 256 ≡ 256 * (sector + 1) = omega arith in
+    elim c.if-not-is_blank.branch [
+      | then-not-is_blank+in_ok-gather w ↦
+          subst (λ (n : ℕ). GathersWords i.banks i.words n c.if-not-is_blank.placed.items) next
+          (subst (λ v. GathersWords i.banks i.words (256 * sector + 256) v.items) (sym w.placed-is) (w.in_ok-gather.ensures c.loop-sector.invariant))
+      | else-not-is_blank w ↦
+          let blank : c.is_blank.result ≡ true = search rules in
+          let none : (k : ℕ) → k < 256 → get_or i.words (256 * sector + k) 0 ≡ 0 =
+          λ k less. ap (λ (l : Intended). get_or l.words (256 * sector + k) 0) (sym c.self.view_is)
+          ∙ c.is_blank.ensures blank (256 * sector + k) (omega (arith, less, c.loop-sector-test.true)) (omega (arith, less)) in
+          subst (λ (n : ℕ). GathersWords i.banks i.words n c.if-not-is_blank.placed.items) next
+          (subst (λ v. GathersWords i.banks i.words (256 * sector + 256) v.items) (sym w.placed-is)
+          (words-others 256 i.banks i.words (256 * sector) c.loop-sector.placed.items none c.loop-sector.invariant))
+    ]

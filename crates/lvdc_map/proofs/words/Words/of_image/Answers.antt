@@ -1,7 +1,7 @@
-use Rattle.std.proofs.Common.{◌<◌, ◌^◌, All, add-one, subst}
+use Rattle.std.proofs.Common.{◌<◌, ◌^◌, All, List, add-one, subst}
 use Rattle.std.proofs.lemmas.List.{take_all}
 use Rattle.std.proofs.lemmas.List.Elements.{All-more}
-use Rattle.lvdc_map.specs.Memory.{filled_with, IsMemory}
+use Rattle.lvdc_map.specs.Memory.{filled_with, loaded, IsMemory}
 use Rattle.lvdc_map.specs.declared.placed.Placed.{Placed}
 use Rattle.lvdc_map.proofs.Images.{loaded-more}
 use Rattle.lvdc_map.proofs.words.Words.of_image.Goals as goal
@@ -20,3 +20,8 @@ loop-placed-preserved c = record {
 pub returns-clause-words : goal.returns-clause-words
 returns-clause-words c =
     subst (All (λ (p : Placed). p.word < 2 ^ 26)) (take_all c.loop-placed.placed-index c.args.image.now c.loop-placed-test.false) c.loop-placed.invariant.words
+
+pub returns-clause-memory : goal.returns-clause-memory
+returns-clause-memory c =
+    subst (λ (image : List Placed). IsMemory c.loop-placed.words (loaded image (filled_with 0)))
+    (take_all c.loop-placed.placed-index c.args.image.now c.loop-placed-test.false) c.loop-placed.invariant.memory

@@ -1,34 +1,26 @@
--- Each slot's cell is taken, but for that of the word 0.
-use Rattle.std.proofs.Common.{◌≡◌, ◌/◌, ◌%◌, ◌<◌, ◌∷◌, [], ◌++◌, length, get_or, sym, ap, ◌∙◌, arith, add-one}
-use Rattle.std.proofs.lemmas.List.{get_or_default}
+-- A sector in which nothing was put has the cell of the word 0 alone.
+use Rattle.std.proofs.Common.{◌≡◌, ℕ, ◌+◌, ◌*◌, ◌<◌, true, get_or, sym, ap, subst, ◌∙◌, arith, rules}
 use Rattle.lvdc_word.specs.Cell.{code_of}
-use Rattle.lvdc_map.specs.Address.{Spot, spot_at}
+use Rattle.lvdc_twin.specs.Cells.{Gathers}
 use Rattle.lvdc_twin.specs.Store.{Store}
-use Rattle.lvdc_twin.specs.declared.held.Held.{Held}
-use Rattle.lvdc_twin.proofs.Holding.{differs, same_as, gathers-other, gathers-more}
+use Rattle.lvdc_twin.proofs.Holding.{gathers-others}
 use Rattle.lvdc_twin.proofs.twins.Twins.held.Goals as goal
-use Rattle.lvdc_twin.proofs.twins.Twins.held.Goals.{then-ne+in_ok-push, else-ne}
+use Rattle.lvdc_twin.proofs.twins.Twins.held.Goals.{then-not-is_blank+in_ok-gather, else-not-is_blank}
 
-pub loop-slot-preserved : goal.loop-slot-preserved
-loop-slot-preserved c =
-    let n = c.loop-slot.slot in
+pub loop-sector-preserved : goal.loop-sector-preserved
+loop-sector-preserved c =
     let cells = c.args.self.now.cells in
-    let small = c.loop-slot-test.true in
-    let within : n < length c.self.inside.cells.items = let whole = c.self.invariant.whole.cells in omega (arith, whole) in
-    let here : c.index.result.now ≡ get_or cells n 0 =
-    c.index.ensures ∙ get_or_default c.self.inside.cells.items n c.index.result.now 0 within ∙ ap (λ (t : Store). get_or t.cells n 0) c.self.view_is in
-    let zero_cell : c.encode-zero.result ≡ code_of 0 = c.encode-zero.ensures in
-    rw add-one (elim c.if-ne.branch [
-      | then-ne+in_ok-push w ↦
-          let h : Held = record { twin = n / 16384; at = spot_at (n % 16384); cell = c.index.result.now } in
-          let now : c.if-ne.held.items ≡ c.loop-slot.held.items ++ h ∷ [] =
-          ap (λ v. v.items) w.held-is ∙ w.in_ok-push.ensures.items
-          ∙ ap (λ (at : Spot). c.loop-slot.held.items ++ record { twin = n / 16384; at = at; cell = c.index.result.now } ∷ []) w.numbered.ensures in
-          rw now (gathers-more cells n c.loop-slot.held.items h
-          (record { twin = omega (arith, small); pair = omega (arith, small); sector = omega arith; loc = omega arith })
-          (record { pair = omega (arith, small); sector = omega arith; loc = omega arith })
-          (omega arith) here (λ same. differs c.index.result.now c.encode-zero.result w.if-ne.ensures (same ∙ sym zero_cell)) c.loop-slot.invariant)
-      | else-ne w ↦
-          let now : c.if-ne.held.items ≡ c.loop-slot.held.items = ap (λ v. v.items) w.held-is in
-          rw now (gathers-other cells n c.loop-slot.held.items (sym here ∙ same_as c.index.result.now c.encode-zero.result w.if-ne.ensures ∙ zero_cell) c.loop-slot.invariant)
-    ])
+    let sector = c.loop-sector.sector in
+    let next : 256 * sector + 256 ≡ 256 * (sector + 1) = omega arith in
+    elim c.if-not-is_blank.branch [
+      | then-not-is_blank+in_ok-gather w ↦
+          subst (λ (n : ℕ). Gathers cells n c.if-not-is_blank.held.items) next
+          (subst (λ v. Gathers cells (256 * sector + 256) v.items) (sym w.held-is) (w.in_ok-gather.ensures c.loop-sector.invariant))
+      | else-not-is_blank w ↦
+          let blank : c.is_blank.result ≡ true = search rules in
+          let none : (i : ℕ) → i < 256 → get_or cells (256 * sector + i) 0 ≡ code_of 0 =
+          λ i less. ap (λ (t : Store). get_or t.cells (256 * sector + i) 0) (sym c.self.view_is)
+          ∙ c.is_blank.ensures blank (256 * sector + i) 0 (omega (arith, less, c.loop-sector-test.true)) (omega (arith, less)) ∙ c.self.invariant.1 in
+          subst (λ (n : ℕ). Gathers cells n c.if-not-is_blank.held.items) next
+          (subst (λ v. Gathers cells (256 * sector + 256) v.items) (sym w.held-is) (gathers-others 256 cells (256 * sector) c.loop-sector.held.items none c.loop-sector.invariant))
+    ]

@@ -6,5 +6,5 @@ use Rattle.lvdc_twin.proofs.twins.Twins.view.Goals as goal
 
 pub returns-then-self-clause-value : goal.returns-then-self-clause-value
 returns-then-self-clause-value c =
-    let bare : IsBare c.args.self.now = subst IsBare c.self.view_is (c.self.invariant.bare c.if-self.true) in
+    let bare : IsBare c.args.self.now = subst IsBare c.self.view_is (c.self.invariant.0.bare c.if-self.true) in
     c.stored.ensures.value ∙ sym (shown-bare c.args.self.now c.args.twin c.args.at bare)

@@ -1,0 +1,21 @@
+-- The word 0 is intended in the sector, and each twin shows its code there.
+use Rattle.std.proofs.Common.{◌≡◌, sym, ap, subst, ◌∙◌, arith}
+use Rattle.lvdc_word.specs.Cell.{code_of}
+use Rattle.lvdc_map.specs.Banks.{home, IsPlace}
+use Rattle.lvdc_map.specs.Memory.{word_at}
+use Rattle.lvdc_memory.specs.Holds.{Kept, Holds}
+use Rattle.lvdc_memory.proofs.Soundness.{recovered-sound, all-show-both}
+use Rattle.lvdc_memory.proofs.memory.VotedMemory.is_blank.Goals as goal
+
+pub returns-then-is_blank : goal.returns-then-is_blank
+returns-then-is_blank c blank o in_force t i h at ok sector =
+    let inside = subst (λ (m : Kept). Holds o in_force m t i) (sym c.self.view_is) h in
+    let kept : Kept = record { twins = c.self.inside.twins; ledger = c.self.inside.ledger } in
+    let here : IsPlace (home at) = record { pair = omega arith; sector = ok.sector; loc = ok.loc } in
+    let word : word_at i at ≡ 0 = sym (inside.words.same at ok) ∙ c.is_blank.ensures c.if-is_blank.true at ok sector in
+    record {
+      word = word;
+      recovered =
+          recovered-sound o in_force kept t i at (code_of 0) inside ok.pair here (ap code_of (sym word))
+          (all-show-both kept.twins at (code_of 0) ok.pair (λ twin two. c.is_blank-then-is_blank.ensures blank twin two (home at) here (omega (arith, sector, ok.pair, ok.sector, ok.loc))));
+    }
