@@ -21,7 +21,7 @@ from simulation.lines import Refused, lines_of, print_image
 from simulation.macros import expansion, image_of_expansion
 from simulation.plain import Plain
 from simulation.report import Session, front, report, soak_text, status_of, text_of
-from simulation.saved import print_saved, read_saved
+from simulation.saved import begins_saved, print_saved, read_saved
 from simulation.study import study
 from simulation.trace import trace
 from simulation.uplink import uplink
@@ -100,10 +100,14 @@ def debugged(lines: list[str]) -> Answer:
 
 
 def traced(lines: list[str], guarded: bool, first: int, told: int) -> Answer:
-    """trace, a request of the worker: the status is that of a run that is cut behind the last step asked for."""
-    deck, devices = opened(lines)
-    machine = Voted(deck.opening, deck.script, devices, guarded)
-    text = trace(machine, deck.count, first, told)
+    """trace, a request of the worker, over a deck, or guarded over a saved text: the status is that of a run that is cut behind the
+    last step asked for."""
+    if guarded and begins_saved(lines):
+        machine, count = read_saved(lines, of_the_program())
+    else:
+        deck, devices = opened(lines)
+        machine, count = Voted(deck.opening, deck.script, devices, guarded), deck.count
+    text = trace(machine, count, first, told)
     return status_of(machine), text
 
 

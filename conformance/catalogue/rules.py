@@ -52,7 +52,8 @@ OF_GROUP = {
     "modules": "latches steps", "faults": "copies admission", "meetings": "copies twins admission", "memory": "twins admission",
     "refusals": "", "images": "", "sources": "sources",
     "listings": "sources", "debugger": "sessions", "saved-runs": "saved-texts admission", "campaigns": "scripts admission",
-    "uplinks": "messages", "macros": "macros", "usage": "", "traces": "traces steps latches copies", "forms": "scripts",
+    "uplinks": "messages", "macros": "macros", "usage": "", "traces": "traces steps latches copies",
+    "saved-traces": "traces saved-texts steps latches copies admission", "forms": "scripts",
     "studies": "scripts copies admission",
 }
 

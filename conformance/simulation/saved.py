@@ -40,6 +40,12 @@ def print_saved(machine: Voted, deck: Deck) -> str:
 
 # ---- what is read
 
+
+def begins_saved(lines: list[str]) -> bool:
+    """Whether the first line is the title of a saved text."""
+    return lines[:1] == ["LVDC SAVE 1"]
+
+
 CELL = re.compile(r"CELL ([01]) ([0-3]) ([0-7]{2}) ([0-7]{3}) ([0-7]{10})")
 KEPT = re.compile(r"WORD ([0-7]) ([0-7]{2}) ([0-7]{3}) ([0-7]{9})")
 LOGGED = re.compile(r"(IN|OUT) (\d+) ([0-7]{3}) ([0-7]{9})")

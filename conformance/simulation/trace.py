@@ -38,7 +38,8 @@ def step_lines(machine: Voted, step: int, before: Bus | None, repairs: int) -> I
 
 
 def trace(machine: Voted, count: int, first: int, told: int) -> str:
-    """The trace of so many steps from the first on, of a run of so many times."""
+    """The trace of so many steps from the first on, of a run of so many times; from where the machine stands, where that is later."""
+    first = max(first, machine.steps)
     lines = ["LVDC TRACE" if machine.guarded else "LVDC TRACE THROUGH"]
     while machine.steps < min(3 * count, first + told) and machine.end is None:
         step, before, repairs = machine.steps, machine.votes, len(machine.repairs)

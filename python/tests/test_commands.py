@@ -29,6 +29,7 @@ def reads_whole(deck: Deck, asker: Asker) -> None:
     assert str(saved) == saved.text
     if isinstance(saved, Saved):
         assert str(lvdc.resume(saved, worker=asker)) == report.text
+        assert str(lvdc.trace(saved, worker=asker)) == str(lvdc.trace(deck, saved.steps, worker=asker))
 
 
 @FEW

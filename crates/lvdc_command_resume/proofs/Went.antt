@@ -7,18 +7,16 @@ use Rattle.lvdc_port.specs.Devices.{has_port, count_at}
 use Rattle.lvdc_port.specs.declared.requests.Supply.{Supply}
 use Rattle.lvdc_port.proofs.Lists.{rose-has}
 use Rattle.lvdc_plain.specs.Lists.{Since}
-use Rattle.lvdc_plain.specs.declared.records.Unplug.{Unplug}
 use Rattle.lvdc_model.specs.Trial.{Trial}
 use Rattle.lvdc_model.specs.Voted.{Voted}
 use Rattle.lvdc_model.specs.declared.outcome.Outcome.{Outcome}
 use Rattle.lvdc_model.specs.declared.outcome.Outcome.TheVariants.{Done, Stopped, Inadmissible, Device}
 use Rattle.lvdc_machine.specs.Causes.{HasCause}
 use Rattle.lvdc_machine.specs.Resumed.{StandsFrom}
-use Rattle.lvdc_snapshot.specs.Snapshot.{Means}
 use Rattle.lvdc_machine.specs.View.{View, answer_of_end}
 use Rattle.lvdc_machine.specs.declared.mode.Mode.TheVariants.{Guarded}
 use Rattle.lvdc_save.specs.declared.saved.Saved.{Saved}
-use Rattle.lvdc_command_resume.specs.Finished.{HasRun}
+use Rattle.lvdc_command_resume.specs.Finished.{MeansOf, HasRun}
 use Rattle.lvdc_command_resume.specs.Restore.{left_of, with_states, devices_of, HaveTaken}
 use Rattle.lvdc_command_resume.specs.Runs.{IsRunnable, steps_left}
 
@@ -55,17 +53,15 @@ times-left s h =
 
 -- a machine that was made of a saved state has run through the times that are left
 pub has-run : {B : Type 0} (device_of : B → device.Device) (faults : B → ℕ) (s : Saved) (old mid new : List B) (made m : View) (end : Outcome)
-    → IsRunnable s → m.mode ≡ Guarded → map device_of mid ≡ devices_of s (map device_of old) → (unplugs : List Unplug) → unplugs ≡ s.unplugs → (ready : List device.Device)
-    → ((o : Trial) (v : Voted) → o.script ≡ s.script → o.opening.unplugs ≡ unplugs → o.opening.banks ≡ s.snapshot.banks → Means s.snapshot v
-    → v.devices ≡ map device_of mid → StandsFrom o v 0 made ready)
-    → ((o : Trial) (v : Voted) (n : ℕ) → StandsFrom o v n made ready → StandsFrom o v (n + 3 * (s.count - s.snapshot.steps / 3)) m (map device_of new))
-    → end ≡ answer_of_end m.end → (before : List B) → Since device_of faults old before
-    → ((port : ℕ) → has_port device_of port new ≡ true → has_port device_of port before ≡ true) → HasCause device_of faults end before new
+    → IsRunnable s → m.mode ≡ Guarded
+    → ((o : Trial) (v : Voted) → MeansOf s (map device_of old) o v → StandsFrom o v 0 made (map device_of mid))
+    → ((o : Trial) (v : Voted) (n : ℕ) → StandsFrom o v n made (map device_of mid) → StandsFrom o v (n + 3 * (s.count - s.snapshot.steps / 3)) m (map device_of new))
+    → end ≡ answer_of_end m.end → Since device_of faults old mid
+    → ((port : ℕ) → has_port device_of port new ≡ true → has_port device_of port mid ≡ true) → HasCause device_of faults end mid new
     → HasRun device_of faults s old new m
-has-run device_of faults s old mid new made m end runnable mode restored unplugs is ready begins goes answer before since left cause = record {
+has-run device_of faults s old mid new made m end runnable mode begins goes answer since left cause = record {
   mode = mode;
   stands = λ o v means.
-      subst (λ (n : ℕ). StandsFrom o v n m (map device_of new)) (times-left s runnable)
-      (goes o v 0 (begins o v means.script (means.unplugs ∙ sym is) means.banks means.state (means.left ∙ sym restored)));
+      subst (λ (n : ℕ). StandsFrom o v n m (map device_of new)) (times-left s runnable) (goes o v 0 (begins o v means));
   cause = subst (λ (e : Outcome). HasCause device_of faults e old new) answer (since-caused since new end left cause);
 }

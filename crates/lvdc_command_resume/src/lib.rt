@@ -8,5 +8,6 @@ mod restore;
 mod run;
 
 pub use laws::resume_statuses;
-pub use reply::{LIMIT, ROOM, resume_bytes};
+pub use reply::{LIMIT, ROOM, refuse_device, refuse_saved, resume_bytes};
 pub use restore::{Unrestored, restore_devices};
+pub use run::{Opened, open_saved};

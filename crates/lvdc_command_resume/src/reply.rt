@@ -54,7 +54,7 @@ fn report(alloc: Global, machine: &Machine) -> Result<Reply, NoMemory>
 }
 
 /// The reply where the device at this port fails at a word of its state.
-fn refuse_device(alloc: Global, port: u8) -> Result<Reply, NoMemory>
+pub fn refuse_device(alloc: Global, port: u8) -> Result<Reply, NoMemory>
     ensures status { IfOk result (λ reply. reply.status ≡ 10) }
     ensures text { IfOk result (λ reply. reply.text ≡ device_text port) }
     ensures short { IfOk result (λ reply. length reply.text < LONGEST_REPORT) }
@@ -97,7 +97,7 @@ fn resume(
 }
 
 /// The reply to a refused text.
-fn refuse(alloc: Global, fault: SaveFault) -> Result<Reply, NoMemory>
+pub fn refuse_saved(alloc: Global, fault: SaveFault) -> Result<Reply, NoMemory>
     ensures refused { OnOk result (fault ≢ WantsMemory) }
     ensures status { IfOk result (λ reply. reply.status ≡ 2) }
     ensures text { IfOk result (λ reply. reply.text ≡ refusal_text (name_of fault) (line_of fault)) }
@@ -144,7 +144,7 @@ pub fn resume_bytes(
             Ok(reply)
         }
         Err(fault) => {
-            let reply = refuse(alloc, fault)?;
+            let reply = refuse_saved(alloc, fault)?;
             Ok(reply)
         }
     }

@@ -1,6 +1,6 @@
 -- A machine that goes on: where it then stands, and that what it had run before is the same.
-use Rattle.std.proofs.Common.{◌≡◌, ℕ, zero, suc, ◌+◌, ◌*◌, ◌≤◌, List, [], ◌∷◌, map, Bool, true, false, None, Some, IsSome, IsNone, Result, Ok, Err, OnErr, refl, sym, ap, subst, ◌∙◌, arith}
-use Rattle.std.specs.Prelude.{nat_lt, ◌==◌, if◌then◌else◌}
+use Rattle.std.proofs.Common.{◌≡◌, ℕ, zero, suc, ◌+◌, ◌*◌, ◌≤◌, List, map, true, false, None, Some, IsSome, IsNone, Result, Ok, Err, OnErr, refl, sym, ap, subst, ◌∙◌, arith}
+use Rattle.std.specs.Prelude.{nat_lt}
 use Rattle.std.specs.declared.option.Option.{Option}
 use Rattle.std.proofs.lemmas.Bool.Decides.{nat_tests}
 use Rattle.lvdc_port.specs.Causes.{Rose}
@@ -16,7 +16,7 @@ use Rattle.lvdc_machine.specs.Calls.{Leaves, Answers}
 use Rattle.lvdc_machine.specs.Causes.{Caused}
 use Rattle.lvdc_machine.specs.Resumed.{StandsFrom, EndsFrom, state_from, steps_after}
 use Rattle.lvdc_machine.specs.Shows.{Shows}
-use Rattle.lvdc_machine.specs.Stands.{Stands, EndsAs, state_by}
+use Rattle.lvdc_machine.specs.Stands.{Stands}
 use Rattle.lvdc_machine.specs.View.{View, answer_of_end}
 use Rattle.lvdc_machine.specs.declared.mode.Mode.{Mode}
 use Rattle.lvdc_debug.specs.Session.{state_after}
@@ -39,14 +39,15 @@ ends_first : (end : Option Outcome) (o : Trial) (first : Voted) (mode : Mode) (s
 ends_first None o first mode steps is at = omega (arith, at, after-none first.steps)
 ends_first (Some e) o first mode steps is at = absurd (cc)
 
-steps_made : (end : Option Outcome) (o : Trial) (t : ℕ) (mode : Mode) (steps : ℕ) → end ≡ None → EndsAs end o t mode steps → steps ≡ t
-steps_made None o t mode steps is at = at
-steps_made (Some e) o t mode steps is at = absurd (cc)
+steps_made : (end : Option Outcome) (o : Trial) (begin : Voted) (t : ℕ) (mode : Mode) (steps : ℕ) → end ≡ None → EndsFrom end o begin t mode steps
+    → steps ≡ steps_after begin.steps t
+steps_made None o begin t mode steps is at = at
+steps_made (Some e) o begin t mode steps is at = absurd (cc)
 
-module _ (o : Trial) (t more : ℕ) (m after : View) (ds later : List device.Device) (going : m.end ≡ None) (s : Stands o t m ds)
+module _ (o : Trial) (begin : Voted) (t more : ℕ) (m after : View) (ds later : List device.Device) (going : m.end ≡ None) (s : StandsFrom o begin t m ds)
     (resumes : (o : Trial) (first : Voted) (n : ℕ) → StandsFrom o first n m ds → StandsFrom o first (n + more) after later) where
   abbrev first : Voted
-  first = state_by m.end m.mode o t
+  first = state_from m.end m.mode o begin t
 
   at_first : StandsFrom o first 0 m ds
   at_first = record {
@@ -56,11 +57,11 @@ module _ (o : Trial) (t more : ℕ) (m after : View) (ds later : List device.Dev
   }
 
   -- a device that then fails fails in a later step
-  pub fails_later : (step port : ℕ) → after.end ≡ Some (Device step port) → t ≤ step
+  pub fails_later : (step port : ℕ) → after.end ≡ Some (Device step port) → steps_after begin.steps t ≤ step
   fails_later step port is =
       let there = resumes o first 0 at_first in
       let ends = subst (λ (e : Option Outcome). EndsFrom e o first (0 + more) after.mode after.steps) is there.ends in
-      let steps = steps_made m.end o t m.mode m.steps going s.ends in
+      let steps = steps_made m.end o begin t m.mode m.steps going s.ends in
       let later = ends.later in
       let at = s.shows.steps in
       omega (arith, later, at, steps)
@@ -92,7 +93,7 @@ goes_on o from times m after ds later s stands resumes kept = record {
   where
     by : (end : Option Outcome) → m.end ≡ end → (k : ℕ) → k ≤ from → state_after (failure_of after.end) o k ≡ state_after (failure_of m.end) o k
     by None is k h =
-        unfailed o from after.end (fails_later o (3 * from) (3 * times) m after ds later is s resumes) k h
+        unfailed o from after.end (fails_later o (voted_start o) (3 * from) (3 * times) m after ds later is s resumes) k h
         ∙ sym (ap (λ (e : Option Outcome). state_after (failure_of e) o k) is)
     by (Some e) is k h = ap (λ (v : View). state_after (failure_of v.end) o k) (kept (rw is refl))
 

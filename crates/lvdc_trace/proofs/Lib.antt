@@ -1,4 +1,5 @@
 mod Rows
+mod SavedRows
 pub mod Onward
 pub mod Making
 pub mod Faithful
@@ -6,3 +7,5 @@ pub mod Lengths
 pub mod Telling
 pub mod Answering
 pub mod Untelling
+pub mod Resuming
+pub mod NoDeck

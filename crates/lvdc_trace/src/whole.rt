@@ -1,10 +1,11 @@
 //! A whole trace.
 
-ghost use Rattle.std.specs.Prelude.{◌≡◌, ℕ, ◌+◌, ◌*◌, ◌≤◌, ◌<◌, ◌^◌, ◌++◌, List, map, length, IfOk, OnOk, OnErr, None};
+ghost use Rattle.std.specs.Prelude.{◌≡◌, ℕ, ◌+◌, ◌-◌, ◌*◌, ◌≤◌, ◌<◌, ◌^◌, ◌++◌, List, map, length, IfOk, OnOk, OnErr, None};
 ghost use Rattle.lvdc_plain.specs.Lists.{AreFit};
 ghost use Rattle.lvdc_model.specs.Trial.{Trial};
+ghost use Rattle.lvdc_model.specs.Voted.{Voted};
+ghost use Rattle.lvdc_machine.specs.Resumed.{StandsFrom};
 ghost use Rattle.lvdc_machine.specs.Room.{exchanges_to_come};
-ghost use Rattle.lvdc_machine.specs.Stands.{Stands};
 ghost use Rattle.lvdc_trace.specs.Going.{GoesOn, GoesPart, count_by, text_by};
 ghost use Rattle.lvdc_trace.specs.Traces.{title_line, last_line, blocks, steps_asked};
 
@@ -83,8 +84,8 @@ fn put_steps(
     requires fit { AreFit device_of spare (exchanges_to_come machine.old) devices.old.items }
     ensures goes { OnOk result (GoesOn device_of spare faults count machine.old machine.new devices.old.items devices.new.items) }
     ensures part { OnErr result (GoesPart device_of spare faults count machine.old machine.new devices.old.items devices.new.items) }
-    ensures text { OnOk result ((o : Trial) (from : ℕ) → Stands o from machine.old (map device_of devices.old.items)
-        → out.new.items ≡ out.old.items ++ blocks machine.old.mode o from (count_by machine.new.end from count)) }
+    ensures text { OnOk result ((o : Trial) (begin : Voted) (from : ℕ) → StandsFrom o begin from machine.old (map device_of devices.old.items)
+        → out.new.items ≡ out.old.items ++ blocks machine.old.mode o begin from (count_by machine.new.end begin.steps from count)) }
     ensures short { OnOk result (length out.new.items ≤ length out.old.items + 1115 * count) }
 {
     for index in 0..count {
@@ -94,7 +95,8 @@ fn put_steps(
     Ok(())
 }
 
-/// The trace of a run: the steps of a window as far as they are made, over a machine that has made none. Each line ends with LF.
+/// The trace of a run that goes on from where the machine stands: the steps of a window, which is counted from there, as far as they
+/// are made. Each line ends with LF.
 pub fn trace(
     alloc: Global,
     machine: &mut Machine,
@@ -102,34 +104,34 @@ pub fn trace(
     window: Window,
     devices: &mut Vec<Box<dyn PortDevice>>,
 ) -> Result<Vec<u8>, NoMemory>
-    requires steps { machine.old.steps ≡ 0 }
+    requires steps { machine.old.steps ≤ 3 * machine.old.limit }
     requires limit { machine.old.limit ≤ Machine.LIMIT }
     requires first { window.first ≤ Window.LAST }
     requires count { window.count ≤ Window.MOST }
     requires fit { AreFit device_of spare (exchanges_to_come machine.old) devices.old.items }
 
-    // The trace of the definition, over the run of each trial at whose start the machine stood. Where a device fails, it is that of
-    // the run up to this exchange.
-    ensures text { IfOk result (λ text. (o : Trial) → Stands o 0 machine.old (map device_of devices.old.items)
-        → text.items ≡ text_by machine.new.end machine.old.mode o machine.old.limit window) }
+    // The trace of the definition, over the run of each trial from each state at which the machine stood. Where a device fails, it is
+    // that of the run up to this exchange.
+    ensures text { IfOk result (λ text. (o : Trial) (begin : Voted) → StandsFrom o begin 0 machine.old (map device_of devices.old.items)
+        → text.items ≡ text_by machine.new.end machine.old.mode o begin (3 * machine.old.limit - machine.old.steps) window) }
 
     // The run has gone on to the end of the window; after a want of memory by some of these steps.
-    ensures goes { OnOk result (GoesOn device_of spare faults (steps_asked window machine.old.limit) machine.old machine.new
-        devices.old.items devices.new.items) }
-    ensures part { OnErr result (GoesPart device_of spare faults (steps_asked window machine.old.limit) machine.old machine.new
-        devices.old.items devices.new.items) }
+    ensures goes { OnOk result (GoesOn device_of spare faults (steps_asked window (3 * machine.old.limit - machine.old.steps))
+        machine.old machine.new devices.old.items devices.new.items) }
+    ensures part { OnErr result (GoesPart device_of spare faults (steps_asked window (3 * machine.old.limit - machine.old.steps))
+        machine.old machine.new devices.old.items devices.new.items) }
 
     // A step has 1,115 bytes at most, and the whole no more than a report.
     ensures short { IfOk result (λ text. length text.items ≤ 1115 * window.count + 100) }
     ensures size { IfOk result (λ text. length text.items ≤ LONGEST_REPORT) }
 {
-    let steps = 3 * machine.limit();
-    let asked = (window.first + window.count).min(steps);
-    let from = window.first.min(steps);
+    let left = 3 * machine.limit() - machine.steps();
+    let asked = (window.first + window.count).min(left);
+    let from = window.first.min(left);
     let mut out = Vec::new(alloc);
     make_steps(machine, orders, from, devices);
     out.extend_from_slice(title_line(machine.mode()))?;
     put_steps(&mut out, machine, orders, asked - from, devices)?;
-    put_last(&mut out, machine, steps <= window.first + window.count)?;
+    put_last(&mut out, machine, left <= window.first + window.count)?;
     Ok(out)
 }

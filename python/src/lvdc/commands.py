@@ -170,28 +170,32 @@ def debug(deck: Given, commands: Sequence[str] | None = None, *, worker: Asker |
     return Session.read(_asked(["debug"], text, worker, limit))
 
 
-def trace(deck: Given, first: int = 0, count: int | None = None, *, through: bool = False, worker: Asker | None = None,
+def trace(given: Given, first: int = 0, count: int | None = None, *, through: bool = False, worker: Asker | None = None,
           limit: float | None = None) -> Trace:
     """What happens in so many steps from the first one on, as far as they are made; without a count in all. Steps count from 0, three to an
-    instruction time. They are asked in pieces of 100,000.
+    instruction time. They are asked in pieces of 100,000. What is given is a deck, or, but through every fault, a saved run, whose steps
+    keep their numbers: where the first one was made before it was saved, the first that is left takes its place.
 
     >>> import lvdc
     >>> found = lvdc.trace("IMAGE\\nLVDC 1\\n0 00 000 000017000\\nEND\\nRUN 1\\n")
     >>> len(found), str(found[0].exchange)
     (3, 'FETCH 0 00 000 000017000')
+    >>> [step.number for step in lvdc.trace(lvdc.save("IMAGE\\nLVDC 1\\nEND\\nRUN 3\\n", 2))]
+    [6, 7, 8]
     """
     check("a first step", first, END_OF_NUMBERS)
     if count is not None:
         check("a count of steps", count, END_OF_NUMBERS)
-    text, flags = _deck(deck), ["--through"] * bool(through)
+    text, flags = text_of(given, "a deck or a saved run", (Deck, Saved)), ["--through"] * bool(through)
     found: list[Trace] = []
     left = count
     while True:
         piece = MOST_STEPS if left is None else min(left, MOST_STEPS)
-        found.append(Trace.read(_asked(["trace", *flags, str(first), str(piece)], text, worker, limit)))
-        first += piece
+        part = Trace.read(_asked(["trace", *flags, str(first), str(piece)], text, worker, limit))
+        found.append(part)
+        first = part[-1].number + 1 if part else first + piece
         left = None if left is None else left - piece
-        if left == 0 or found[-1].end is not None:
+        if left == 0 or part.end is not None:
             return Trace.joined(found)
 
 

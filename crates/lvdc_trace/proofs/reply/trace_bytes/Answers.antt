@@ -1,33 +1,9 @@
-use Rattle.std.proofs.Common.{◌≡◌, map, subst}
-use Rattle.lvdc_deck.specs.declared.deck.Deck.{Deck}
-use Rattle.lvdc_trace.specs.Plainly.{TellsPlainly}
-use Rattle.lvdc_command_run.specs.Trials.{trial_of}
-use Rattle.lvdc_reply.proofs.Statuses.{on_err}
-use Rattle.lvdc_trace.specs.Replies.{traced, begun}
-use Rattle.lvdc_trace.proofs.Answering.{trace_reply, refused_by}
+use Rattle.std.proofs.Common.{sym, ◌∙◌}
+use Rattle.std.proofs.lemmas.Result.{IfOk-weaker}
+use Rattle.lvdc_trace.proofs.NoDeck.{no-deck}
 use Rattle.lvdc_trace.proofs.reply.trace_bytes.Goals as goal
 
-pub returns-in_ok-reply-in-Ok-clause-reply : goal.returns-in_ok-reply-in-Ok-clause-reply
-returns-in_ok-reply-in-Ok-clause-reply g c =
-    trace_reply (λ b. (goal.PortDevice-dyn g (b.vtable, b.value)).device_of b.value) (λ b. (goal.PortDevice-dyn g (b.vtable, b.value)).faults b.value)
-    c.args.mode c.args.window c.args.bytes.now c.args.devices.now.items c.trace_deck.new.devices.items _
-    (traced c.in-Ok.deck _ c.in-Ok.ensures.deck c.in_ok-reply-in-Ok.ensures.traced)
-
-pub returns-in_ok-reply-in-Err-clause-reply : goal.returns-in_ok-reply-in-Err-clause-reply
-returns-in_ok-reply-in-Err-clause-reply g c =
-    trace_reply (λ b. (goal.PortDevice-dyn g (b.vtable, b.value)).device_of b.value) (λ b. (goal.PortDevice-dyn g (b.vtable, b.value)).faults b.value)
-    c.args.mode c.args.window c.args.bytes.now c.args.devices.now.items c.args.devices.now.items _
-    (refused_by _ _ c.args.mode c.args.window c.args.bytes.now c.args.devices.now.items c.in-Err.fault c.in_ok-reply-in-Err.reply.status c.in_ok-reply-in-Err.reply.text
-    (c.in-Err.ensures.refusal c.in_ok-reply-in-Err.ensures.refused) c.in_ok-reply-in-Err.ensures.status c.in_ok-reply-in-Err.ensures.text)
-
-pub returns-in_err-reply-in-Ok-clause-unanswered : goal.returns-in_err-reply-in-Ok-clause-unanswered
-returns-in_err-reply-in-Ok-clause-unanswered g c = on_err _ (begun c.in-Ok.deck c.in-Ok.ensures.deck c.in_err-reply-in-Ok.ensures.untold)
-
-pub returns-in_ok-reply-in-Ok-clause-plain : goal.returns-in_ok-reply-in-Ok-clause-plain
-returns-in_ok-reply-in-Ok-clause-plain g c = λ deck means.
-    let same : c.in-Ok.deck ≡ deck = let there = c.in-Ok.ensures.deck in cc (there, means) in
-    subst (λ (d : Deck). TellsPlainly (trial_of (map (λ b. (goal.PortDevice-dyn g (b.vtable, b.value)).device_of b.value) c.args.devices.now.items) d)) same c.in_ok-reply-in-Ok.ensures.plain
-
-pub returns-in_ok-reply-in-Err-clause-plain : goal.returns-in_ok-reply-in-Err-clause-plain
-returns-in_ok-reply-in-Err-clause-plain g c = λ deck means.
-    let refused = c.in-Err.ensures.refusal c.in_ok-reply-in-Err.ensures.refused in absurd (cc (refused, means))
+pub returns-then-saved-clause-plain : goal.returns-then-saved-clause-plain
+returns-then-saved-clause-plain g c =
+    IfOk-weaker c.trace_saved_text.result _ _
+    (λ reply is deck means. absurd (no-deck c.args.mode c.args.bytes.now _ _ (sym c.in_ok-saved.ensures ∙ c.if-saved.true) deck means)) c.trace_saved_text.ensures.reply
