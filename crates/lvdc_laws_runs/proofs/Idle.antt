@@ -1,5 +1,6 @@
--- Before its first event no event of a script is active, and in a step without active events a script does nothing.
+-- Before its first event and after its last one no event of a script is active, and in a step without active events a script does nothing.
 use Rattle.std.proofs.Common.{◌≡◌, ℕ, bit_xor, ◌+◌, ◌<◌, ◌≤◌, Bool, true, false, cond, ◌∷◌, [], List, refl, sym, ap, ◌∙◌, find, arith}
+use Rattle.std.specs.Prelude.{All}
 use Rattle.std.specs.List.{list_any}
 use Rattle.std.specs.declared.option.Option.TheVariants.{None}
 use Rattle.std.proofs.lemmas.Bool.Decides.{nat_tests}
@@ -20,6 +21,15 @@ use Rattle.lvdc_model.specs.Voted.{next_copy, next_copies}
 use Rattle.lvdc_model.specs.Exchanges.{damages_by, damages}
 use Rattle.lvdc_model.proofs.Latching.{right_copy}
 use Rattle.lvdc_laws_runs.specs.Early.{BeginsFrom, AllBeginFrom}
+use Rattle.lvdc_laws_runs.specs.Joined.{EndsBefore, AllEndBefore}
+
+-- where each event of a script is one that isn't active in a step, none is
+none-of : (P : Event → Type 0) (step : ℕ) → ((e : Event) → P e → is_active step e ≡ false) → (script : List Event) → All P script → active_events script step ≡ []
+none-of P step idle [] all = refl
+none-of P step idle (e ∷ es) all =
+    let here = idle e (All-head P e es all) in
+    let rest = none-of P step idle es (All-tail P e es all) in
+    λ i. cond (here i) (e ∷ rest i) (rest i)
 
 -- ---- before the first event
 
@@ -39,11 +49,27 @@ module _ (first step : ℕ) (early : step < first) where
 
   -- so none of the script is
   pub none-before : (script : List Event) → AllBeginFrom first script → active_events script step ≡ []
-  none-before [] later = refl
-  none-before (e ∷ es) later =
-      let here = event-none e (All-head (BeginsFrom first) e es later) in
-      let rest = none-before es (All-tail (BeginsFrom first) e es later) in
-      λ i. cond (here i) (e ∷ rest i) (rest i)
+  none-before script later = none-of (BeginsFrom first) step event-none script later
+
+-- ---- after the last event
+
+module _ (last step : ℕ) (late : last ≤ step) where
+  within-over : (begin end : ℕ) → end < last → is_within begin end step ≡ false
+  within-over begin end over = grind (arith, nat_tests)
+
+  -- an event that has ended isn't active
+  event-over : (e : Event) → EndsBefore last e → is_active step e ≡ false
+  event-over (Flip number copy begin end index mask) over = within-over begin end over
+  event-over (Force number copy begin end index mask value) over = within-over begin end over
+  event-over (Lag number copy begin end) over = within-over begin end over
+  event-over (Deaf number copy begin end) over = within-over begin end over
+  event-over (Damage twin at d mask) over = grind (arith, nat_tests)
+  event-over (Stick twin at begin end mask value) over = within-over begin end over
+  event-over (Dead twin pair begin end) over = within-over begin end over
+
+  -- so none of the script is
+  pub none-after : (script : List Event) → AllEndBefore last script → active_events script step ≡ []
+  none-after script over = none-of (EndsBefore last) step event-over script over
 
 -- ---- a step without active events
 
@@ -60,6 +86,12 @@ damages_step step false e es fs t idle rest = rest t ∙ ap (damages step es) (s
 damages_active : (step : ℕ) (es : List Event) (t : Twins) → damages step (active_events es step) t ≡ damages step es t
 damages_active step [] t = refl
 damages_active step (e ∷ es) t = damages_step step (is_active step e) e es (active_events es step) t (still_by step e t) (damages_active step es)
+
+-- a script does nothing to memory in a step
+pub record LeavesMemory (script : List Event) (step : ℕ) : Type 0 where
+  pub dead : (twin pair : ℕ) → is_dead script step twin pair ≡ false
+  pub shown : (twin : ℕ) (place : Spot) (cell : ℕ) → shown_of script step twin place cell ≡ shown_of [] step twin place cell
+  pub damaged : (twin : ℕ) (place : Spot) (cell : ℕ) → damaged step twin place script cell ≡ cell
 
 module _ (script : List Event) (step : ℕ) (none : active_events script step ≡ []) where
   -- no copy is wrong
@@ -86,6 +118,9 @@ module _ (script : List Event) (step : ℕ) (none : active_events script step �
   -- no cell is damaged
   pub damaged-none : (twin : ℕ) (place : Spot) (cell : ℕ) → damaged step twin place script cell ≡ cell
   damaged-none twin place cell = sym (damaged_active step twin place script cell) ∙ ap (λ es. damaged step twin place es cell) none
+
+  pub leaves-none : LeavesMemory script step
+  leaves-none = record { dead = dead-none; shown = shown-same; damaged = damaged-none }
 
   -- nor are the twins
   pub damages-none : (t : Twins) → damages step script t ≡ t

@@ -15,29 +15,29 @@ use Rattle.lvdc_model.specs.Trial.{Trial, plain_in, read_at, store_at}
 use Rattle.lvdc_model.specs.CellsBefore.{reads_it, damaged_at, mended, overwritten, cell_after, cell_before, shown_at}
 use Rattle.lvdc_model.specs.Judging.{is_recoverable, judged_memory, judged_logic, judged, is_begun, or_else, first_bad_below}
 use Rattle.lvdc_laws_runs.specs.Early.{AllBeginFrom, fault_free}
-use Rattle.lvdc_laws_runs.proofs.Idle.{none-before, module-none, dead-none, shown-same, damaged-none}
+use Rattle.lvdc_laws_runs.proofs.Idle.{LeavesMemory, none-before, module-none, leaves-none, shown-same, damaged-none}
 
--- ---- a step without active events
+-- ---- a step in which a script does nothing to memory
 
-module _ (o : Trial) (step : ℕ) (none : active_events o.script step ≡ []) (twin : ℕ) (at : Spot) where
+module _ (o : Trial) (step : ℕ) (leaves : LeavesMemory o.script step) (twin : ℕ) (at : Spot) where
   mended-same : (cell : ℕ) → mended o step twin at cell ≡ mended (fault_free o) step twin at cell
   mended-same cell =
       λ i. cond
       (reads_it (read_at o step) at && not (is_simplex o.opening.banks (home at).pair)
-      && not (dead-none o.script step none twin (home at).pair i) && not (is_good (shown-same o.script step none twin (home at) cell i)))
+      && not (leaves.dead twin (home at).pair i) && not (is_good (leaves.shown twin (home at) cell i)))
       (code_of (word_at (plain_in o step).memory at)) cell
 
   overwritten-same : (s : Option Store) (cell : ℕ) → overwritten o step twin at s cell ≡ overwritten (fault_free o) step twin at s cell
   overwritten-same None cell = refl
   overwritten-same (Some s) cell =
-      λ i. cond (is_same at s.at && holds o.opening.banks twin at && not (dead-none o.script step none twin (home at).pair i)) (code_of s.word) cell
+      λ i. cond (is_same at s.at && holds o.opening.banks twin at && not (leaves.dead twin (home at).pair i)) (code_of s.word) cell
 
   -- it leaves the stored cell that it leaves under no script
-  after-same : (cell : ℕ) → cell_after o step twin at cell ≡ cell_after (fault_free o) step twin at cell
+  pub after-same : (cell : ℕ) → cell_after o step twin at cell ≡ cell_after (fault_free o) step twin at cell
   after-same cell =
       overwritten-same (store_at o step) (mended o step twin at (damaged_at o step twin at cell))
       ∙ ap (overwritten (fault_free o) step twin at (store_at o step))
-      (mended-same (damaged_at o step twin at cell) ∙ ap (mended (fault_free o) step twin at) (damaged-none o.script step none twin (home at) cell))
+      (mended-same (damaged_at o step twin at cell) ∙ ap (mended (fault_free o) step twin at) (leaves.damaged twin (home at) cell))
 
 -- ---- up to the first event
 
@@ -45,7 +45,7 @@ module _ (o : Trial) (first : ℕ) (later : AllBeginFrom first o.script) where
   cell-same : (twin : ℕ) (at : Spot) (step : ℕ) → step ≤ first → cell_before o twin at step ≡ cell_before (fault_free o) twin at step
   cell-same twin at zero early = refl
   cell-same twin at (suc step) early =
-      after-same o step (none-before first step (omega arith) o.script later) twin at (cell_before o twin at step)
+      after-same o step (leaves-none o.script step (none-before first step (omega arith) o.script later)) twin at (cell_before o twin at step)
       ∙ ap (cell_after (fault_free o) step twin at) (cell-same twin at step (omega arith))
 
   module _ (step : ℕ) (early : step < first) where

@@ -6,4 +6,7 @@ pub mod Steps
 pub mod Runs
 pub mod Judged
 pub mod Machines
+pub mod Spared
+pub mod Counted
+pub mod Staying
 mod Rows

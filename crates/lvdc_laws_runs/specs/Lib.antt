@@ -1,2 +1,3 @@
 pub mod Guarded
 pub mod Early
+pub mod Joined

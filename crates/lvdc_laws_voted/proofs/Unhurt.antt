@@ -15,7 +15,7 @@ use Rattle.lvdc_plain.specs.declared.records.Stop.{Stop}
 use Rattle.lvdc_laws_phases.specs.Exchanges.{made}
 use Rattle.lvdc_fault.specs.declared.verdict.Verdict.TheVariants as verdicts
 use Rattle.lvdc_model.specs.Trial.{Trial, plain_in, read_at, store_in_phase}
-use Rattle.lvdc_model.specs.CellsBefore.{cell_before, is_mended, mended, overwritten}
+use Rattle.lvdc_model.specs.CellsBefore.{cell_after, cell_before, is_mended, mended, overwritten}
 use Rattle.lvdc_model.specs.Judging.{is_recoverable, judged, judged_memory, is_begun, first_bad_below}
 use Rattle.lvdc_model.specs.Runs.{guarded}
 use Rattle.lvdc_model.proofs.Stuck.{nothing-stuck}
@@ -98,15 +98,19 @@ store-in law o n (suc (suc zero)) twin at held is cell e =
     ∙ sym (ap (λ (i : ℕ). code_of (memory.word_at (run o i).plain.memory at)) next)
 store-in law o n (suc (suc (suc r))) twin at held is cell e = absurd (omega arith)
 
+-- a step leaves the code of the plain run's word where it finds it
+pub cell-next : PortLaw → (o : Opening) (twin : ℕ) (at : Spot) → holds o.banks twin at ≡ true → (n cell : ℕ) → cell ≡ code_of (memory.word_at (plain_in (without_events o) n).memory at)
+    → cell_after (without_events o) n twin at cell ≡ code_of (memory.word_at (plain_in (without_events o) (suc n)).memory at)
+cell-next law o twin at held n cell e =
+    let t = without_events o in
+    store-in law o n (n % 3) twin at held refl (mended t n twin at cell)
+    (mended-plain (is_mended t n twin at cell) cell (code_of (memory.word_at (plain_in t n).memory at)) e)
+
 -- each twin stores the code of the plain run's word at every address that it holds
 cell-plain : PortLaw → (o : Opening) (twin : ℕ) (at : Spot) → holds o.banks twin at ≡ true → (n : ℕ)
     → cell_before (without_events o) twin at n ≡ code_of (memory.word_at (plain_in (without_events o) n).memory at)
 cell-plain law o twin at held zero = refl
-cell-plain law o twin at held (suc n) =
-    let t = without_events o in
-    let cell = cell_before t twin at n in
-    store-in law o n (n % 3) twin at held refl (mended t n twin at cell)
-    (mended-plain (is_mended t n twin at cell) cell (code_of (memory.word_at (plain_in t n).memory at)) (cell-plain law o twin at held n))
+cell-plain law o twin at held (suc n) = cell-next law o twin at held n (cell_before (without_events o) twin at n) (cell-plain law o twin at held n)
 
 -- ---- no verdict
 

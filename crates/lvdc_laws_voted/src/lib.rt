@@ -118,7 +118,7 @@ pub fn all_times_made()
 }
 
 /// All laws of one step, and that an opening of words opens a run.
-fn laws_of_a_step()
+pub fn laws_of_a_step()
     ensures steps { StepLaws Standing }
     ensures opens { (o : Trial) → IsOpening o.opening → Opens Standing o }
 {
