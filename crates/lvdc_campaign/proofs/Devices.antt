@@ -26,7 +26,7 @@ use Rattle.lvdc_machine.specs.Stands.{Stands}
 use Rattle.lvdc_machine.specs.View.{View, answer_of_end}
 use Rattle.lvdc_machine.specs.declared.mode.Mode.TheVariants.{Guarded}
 use Rattle.lvdc_campaign.specs.Campaign.{program_of, trial_under}
-use Rattle.lvdc_campaign.specs.Ran.{HasRunGuarded, HasRunPlainly, NoneFailed, NonePlainlyFailed}
+use Rattle.lvdc_campaign.specs.Ran.{HasRunWithin, HasRunPlainly, NoneFailed, NonePlainlyFailed}
 use Rattle.lvdc_campaign.specs.Same.{end_by}
 
 -- a list without a port is empty
@@ -102,17 +102,17 @@ module _ {B : Type 0} (device_of : B → device.Device) (faults : B → ℕ) (im
       absurd (none port (rose-has device_of faults port (count_at device_of faults port ready) new c.rose))
 
   -- the voted machine
-  pub has_run_judged : (script : List Event) (times : ℕ) (m : View) (answer : Outcome)
+  pub has_run_judged : (script : List Event) (times most : ℕ) (m : View) (answer : Outcome)
       → IsOpening (record { image = image; banks = banks; start = start; unplugs = unplugs; devices = map device_of old })
-      → m.mode ≡ Guarded → m.limit ≡ times → AreDistinct (map device_of new)
+      → m.mode ≡ Guarded → m.limit ≡ most → AreDistinct (map device_of new)
       → Stands (record {
         opening = record { image = image; banks = banks; start = start; unplugs = unplugs; devices = map device_of old };
         script = script;
       }) (0 + 3 * times) m (map device_of new)
       → answer ≡ answer_of_end m.end
       → HasCause device_of faults answer ready new
-      → HasRunGuarded (trial_under (program_of image start banks) script) times m (map device_of new)
-  has_run_judged script times m answer opens mode_is limit distinct stands is cause =
+      → HasRunWithin (trial_under (program_of image start banks) script) times most m (map device_of new)
+  has_run_judged script times most m answer opens mode_is limit distinct stands is cause =
       let o = trial_under (program_of image start banks) script in
       let S : Opening → Type 0 = λ p. Stands (trial_under p script) (0 + 3 * times) m (map device_of new) in
       let C : Outcome → Type 0 = λ e. HasCause device_of faults e ready new in

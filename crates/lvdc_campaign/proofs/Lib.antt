@@ -10,3 +10,4 @@ mod Unhurt
 mod LimitRows
 pub mod Stationed
 pub mod Onward
+mod Windowed

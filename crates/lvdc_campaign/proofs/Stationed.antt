@@ -30,7 +30,7 @@ use Rattle.lvdc_machine.specs.declared.mode.Mode.TheVariants.{Guarded}
 use Rattle.lvdc_machine.specs.declared.mode.Pace.{Pace}
 use Rattle.lvdc_snapshot.specs.declared.snapshot.Snapshot.{Snapshot}
 use Rattle.lvdc_campaign.specs.Campaign.{program_of, trial_under}
-use Rattle.lvdc_campaign.specs.Ran.{HasRunGuarded, NoneFailed}
+use Rattle.lvdc_campaign.specs.Ran.{HasRunWithin, NoneFailed}
 use Rattle.lvdc_campaign.specs.Stations.{fault_free_at, IsUnderWay, IsStation}
 use Rattle.lvdc_campaign.proofs.Devices.{none-there}
 
@@ -166,31 +166,32 @@ module _ (p : Opening) (count : ℕ) (s : Snapshot) (script : List Event) where
       law o s.steps later s.steps (le_refl s.steps) m new fresh.end fresh.steps_are
       (subst (λ (k : Mode). StandsFrom o (run_of k (fault_free o) s.steps) 0 m new) (sym fresh.mode_is) begins)
 
-  -- the times that are left end with the last
-  pub all-left : IsStation p count s → s.steps + 3 * (count - s.steps / 3) ≡ 3 * count
-  all-left h = let within = h.within in let times = h.whole.times in omega (arith, within, times)
+  module _ (times : ℕ) (ahead : s.steps ≤ 3 * times) where
+    -- the times that are left end with the last
+    pub all-left : IsStation p count s → s.steps + 3 * (times - s.steps / 3) ≡ 3 * times
+    all-left h = let whole = h.whole.times in omega (arith, ahead, whole)
 
-  -- and after them it has run
-  pub has_run-late : (before after : View) (left : List device.Device) → IsStation p count s → (pace : Pace) → IsFresh Guarded pace count s.steps before → Keeps before after
-      → NoneFailed after.end → AreDistinct left → Stands (trial_under p script) (s.steps + 3 * (count - s.steps / 3)) after left
-      → HasRunGuarded (trial_under p script) count after left
-  has_run-late before after left h pace fresh keeps unfailed distinct stands =
-      let o = trial_under p script in
-      let whole : Stands o (3 * count) after left = subst (λ (n : ℕ). Stands o n after left) (all-left h) stands in
-      record {
-        run = record {
-          opening = h.opening;
-          banks = whole.shows.banks;
-          script = whole.shows.script;
-          mode_is = keeps.mode ∙ fresh.mode_is;
-          left = left;
+    -- and after them it has run
+    pub has_run-late : (before after : View) (left : List device.Device) → IsStation p count s → (pace : Pace) → IsFresh Guarded pace count s.steps before → Keeps before after
+        → NoneFailed after.end → AreDistinct left → Stands (trial_under p script) (s.steps + 3 * (times - s.steps / 3)) after left
+        → HasRunWithin (trial_under p script) times count after left
+    has_run-late before after left h pace fresh keeps unfailed distinct stands =
+        let o = trial_under p script in
+        let whole : Stands o (3 * times) after left = subst (λ (n : ℕ). Stands o n after left) (all-left h) stands in
+        record {
+          run = record {
+            opening = h.opening;
+            banks = whole.shows.banks;
+            script = whole.shows.script;
+            mode_is = keeps.mode ∙ fresh.mode_is;
+            left = left;
+            stands = whole;
+            unfailed = unfailed;
+          };
           stands = whole;
-          unfailed = unfailed;
-        };
-        stands = whole;
-        distinct = distinct;
-        limit = keeps.limit ∙ fresh.limit_is;
-      }
+          distinct = distinct;
+          limit = keeps.limit ∙ fresh.limit_is;
+        }
 
 -- ---- a station for a script
 
@@ -198,13 +199,23 @@ module _ (p : Opening) (count : ℕ) (s : Snapshot) (script : List Event) where
 pub begins-later : (least step : ℕ) (script : List Event) → least ≤ step → AllBeginFrom step script → AllBeginFrom least script
 begins-later least step script less later = All-weaker (BeginsFrom step) (BeginsFrom least) (λ e from. omega (arith, less, from)) script later
 
-before-script : (found : Option Snapshot) (step : ℕ) (script : List Event) → AllBeginFrom step script → IsSomeAnd found (λ s. s.steps ≤ step)
-    → IsSomeAnd found (λ s. AllBeginFrom s.steps script)
-before-script None step script later h = h
-before-script (Some s) step script later h = begins-later s.steps step script h later
+some-weaker : (P Q : Snapshot → Type 0) → ((s : Snapshot) → P s → Q s) → (found : Option Snapshot) → IsSomeAnd found P → IsSomeAnd found Q
+some-weaker P Q weaker None h = h
+some-weaker P Q weaker (Some s) h = weaker s h
 
--- the station that is found lies before it
-pub found-before : (found : Option ℕ) (stations : List Snapshot) (step : ℕ) (script : List Event) → AllBeginFrom step script
-    → IfSome found (λ at. IsSomeAnd (slice_get stations at) (λ s. s.steps ≤ step)) → IfSome found (λ at. IsSomeAnd (slice_get stations at) (λ s. AllBeginFrom s.steps script))
-found-before None stations step script later h = tt
-found-before (Some at) stations step script later h = before-script (slice_get stations at) step script later h
+found-weaker : (P Q : Snapshot → Type 0) → ((s : Snapshot) → P s → Q s) → (found : Option ℕ) (stations : List Snapshot)
+    → IfSome found (λ at. IsSomeAnd (slice_get stations at) P) → IfSome found (λ at. IsSomeAnd (slice_get stations at) Q)
+found-weaker P Q weaker None stations h = tt
+found-weaker P Q weaker (Some at) stations h = some-weaker P Q weaker (slice_get stations at) h
+
+module _ (found : Option ℕ) (stations : List Snapshot) (step : ℕ) (h : IfSome found (λ at. IsSomeAnd (slice_get stations at) (λ s. s.steps ≤ step))) where
+  -- the station that is found lies before a script
+  pub found-before : (first : ℕ) (script : List Event) → step ≤ first → AllBeginFrom first script
+      → IfSome found (λ at. IsSomeAnd (slice_get stations at) (λ s. AllBeginFrom s.steps script))
+  found-before first script least later =
+      found-weaker (λ s. s.steps ≤ step) (λ s. AllBeginFrom s.steps script)
+      (λ s early. begins-later s.steps first script (omega (arith, early, least)) later) found stations h
+
+  -- and at no later step
+  pub found-ahead : (last : ℕ) → step ≤ last → IfSome found (λ at. IsSomeAnd (slice_get stations at) (λ s. s.steps ≤ last))
+  found-ahead last least = found-weaker (λ s. s.steps ≤ step) (λ s. s.steps ≤ last) (λ s early. omega (arith, early, least)) found stations h

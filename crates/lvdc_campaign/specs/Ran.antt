@@ -59,10 +59,14 @@ pub record HasRun (mode : Mode) (o : Trial) (times : ℕ) (m : View) : Type 0 wh
   pub stands : Stands o (3 * times) m left
   pub unfailed : NoneFailed m.end
 
--- a machine that judges has run so many times of a trial, over these devices that are left, of which none has failed, and it may make no
--- more times in all
-pub record HasRunGuarded (o : Trial) (times : ℕ) (m : View) (left : List device.Device) : Type 0 where
+-- a machine that judges has run so many times of a trial, over these devices that are left, of which none has failed, and it may make so
+-- many in all
+pub record HasRunWithin (o : Trial) (times most : ℕ) (m : View) (left : List device.Device) : Type 0 where
   pub run : HasRun Guarded o times m
   pub stands : Stands o (3 * times) m left
   pub distinct : AreDistinct left
-  pub limit : m.limit ≡ times
+  pub limit : m.limit ≡ most
+
+-- it has run all the times that it may make
+abbrev pub HasRunGuarded : Trial → ℕ → View → List device.Device → Type 0
+HasRunGuarded o times m left = HasRunWithin o times times m left

@@ -1,7 +1,8 @@
 //! Where a script begins, and the last station before that.
 
-ghost use Rattle.std.specs.Prelude.{◌≡◌, ◌≤◌, IfSome, IsSomeAnd, slice_get};
+ghost use Rattle.std.specs.Prelude.{◌≡◌, ◌*◌, ◌≤◌, IfSome, IsSomeAnd, slice_get};
 ghost use Rattle.lvdc_fault.specs.Script.{first_of};
+ghost use Rattle.lvdc_fault.specs.declared.TheConstants.{MOST_TIMES};
 ghost use Rattle.lvdc_laws_runs.specs.Early.{AllBeginFrom};
 
 use lvdc_fault::{Event, Script};
@@ -49,9 +50,12 @@ fn last_before(stations: &[Snapshot], step: u64) -> Option<usize>
     last
 }
 
-/// The position of a station at which a script may begin, since none of its events begins before it: the last such one.
-pub fn station_for(stations: &[Snapshot], script: &Script) -> Option<usize>
-    ensures { IfSome result (λ at. IsSomeAnd (slice_get stations.now at) (λ station. AllBeginFrom station.steps script.now)) }
+/// The position of a station at which a script may begin, since none of its events begins before it: the last such one that is not
+/// behind so many times.
+pub fn station_before(stations: &[Snapshot], script: &Script, times: u64) -> Option<usize>
+    requires { times ≤ MOST_TIMES }
+    ensures begins { IfSome result (λ at. IsSomeAnd (slice_get stations.now at) (λ station. AllBeginFrom station.steps script.now)) }
+    ensures ahead { IfSome result (λ at. IsSomeAnd (slice_get stations.now at) (λ station. station.steps ≤ 3 * times)) }
 {
-    last_before(stations, first_step(script))
+    last_before(stations, first_step(script).min(3 * times))
 }

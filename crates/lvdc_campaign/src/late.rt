@@ -13,10 +13,10 @@ ghost use Rattle.lvdc_machine.specs.declared.mode.Pace.TheVariants.{ByStep};
 ghost use Rattle.lvdc_model.specs.Trial.{Trial};
 ghost use Rattle.lvdc_model.specs.Voted.{Voted};
 ghost use Rattle.lvdc_campaign.specs.Campaign.{opening_of, trial_under, IsProgram};
-ghost use Rattle.lvdc_campaign.specs.Ran.{HasRunGuarded, NoneFailed};
+ghost use Rattle.lvdc_campaign.specs.Ran.{HasRunWithin, NoneFailed};
 ghost use Rattle.lvdc_campaign.specs.Stations.{IsStation};
 
-use crate::early::station_for;
+use crate::early::station_before;
 use crate::program::Program;
 use crate::runs::run_script;
 use crate::stations::{are_worth_stations, machine_at, stations_of};
@@ -96,45 +96,51 @@ fn machine_alone(
     Ok(machine)
 }
 
-/// The machine that judges, after the times of a program under a script that begins at a station or later.
+/// The machine that judges, after so many of the times of a program under a script that begins at a station or later.
 fn run_from(
     alloc: Global,
     program: &Program<'_>,
     station: &Snapshot,
     script: Script,
+    times: u64,
 ) -> Result<Machine, NoMemory>
     requires program { IsProgram program.now }
+    requires within { times ≤ program.now.count }
+    requires ahead { station.now.steps ≤ 3 * times }
     requires few { length script ≤ MOST_EVENTS }
     requires events { All IsEvent script }
     requires station { IsStation (opening_of program.now) program.now.count station.now }
     requires later { AllBeginFrom station.now.steps script }
-    ensures { IfOk result (λ machine. HasRunGuarded (trial_under (opening_of program.now) script) program.now.count machine []) }
+    ensures { IfOk result (λ machine. HasRunWithin (trial_under (opening_of program.now) script) times program.now.count machine []) }
 {
     let mut machine = machine_alone(alloc, program, station, script)?;
     go_on(
         alloc,
         program.orders,
         &mut machine,
-        program.count - station.steps / 3,
+        times - station.steps / 3,
     );
     Ok(machine)
 }
 
-/// The machine that judges, after the times of a program under a script. It makes those from the last station before the first event.
+/// The machine that judges, after so many of the times of a program under a script. It makes those from the last station before the first
+/// event.
 pub(crate) fn run_late(
     alloc: Global,
     program: &Program<'_>,
     stations: &[Snapshot],
     script: Script,
+    times: u64,
 ) -> Result<Machine, NoMemory>
     requires program { IsProgram program.now }
+    requires within { times ≤ program.now.count }
     requires few { length script ≤ MOST_EVENTS }
     requires events { All IsEvent script }
     requires stations { All (IsStation (opening_of program.now) program.now.count) stations.now }
-    ensures { IfOk result (λ machine. HasRunGuarded (trial_under (opening_of program.now) script) program.now.count machine []) }
+    ensures { IfOk result (λ machine. HasRunWithin (trial_under (opening_of program.now) script) times program.now.count machine []) }
 {
-    match station_for(stations, &script) {
-        Some(at) => run_from(alloc, program, &stations[at], script),
-        None => run_script(alloc, program, script),
+    match station_before(stations, &script, times) {
+        Some(at) => run_from(alloc, program, &stations[at], script, times),
+        None => run_script(alloc, program, script, times),
     }
 }

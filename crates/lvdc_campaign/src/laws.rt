@@ -15,6 +15,7 @@ ghost use Rattle.lvdc_model.specs.Trial.{Trial};
 ghost use Rattle.lvdc_campaign.specs.Campaign.{is_same};
 ghost use Rattle.lvdc_campaign.specs.Ran.{HasRun, HasRunPlainly, NonePlainlyFailed};
 ghost use Rattle.lvdc_campaign.specs.Stations.{fault_free_at};
+ghost use Rattle.lvdc_campaign.specs.Window.{IsWindow, TellsAll};
 
 /// A law, which does nothing when it runs: under a script whose steps are all admissible the run through every fault comes to
 /// what the plain run comes to.
@@ -64,3 +65,14 @@ pub fn plain_machine_has_run()
 pub fn through_is_shown()
     ensures { (o : Trial) (times : ℕ) (m : View) (run : HasRun Through o times m) → Shows o m run.left (through o (3 * times)) }
 {}
+
+/// A law: where the times in which the events of a script act are admissible, so are all, and the run through every fault has counted and
+/// repaired then what it will have in the end.
+pub fn window_tells_all()
+    ensures { (o : Trial) (times count : ℕ) → IsOpening o.opening → IsWindow o.script times count → first_bad o times ≡ Admissible
+        → TellsAll o times count }
+{
+    through_is_guarded();
+    lvdc_laws_runs::joined_runs_stay_joined();
+    lvdc_laws_runs::spared_memory_stores_words();
+}

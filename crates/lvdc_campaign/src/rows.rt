@@ -10,10 +10,11 @@ ghost use Rattle.lvdc_campaign.specs.Stations.{IsStation};
 
 use crate::Row;
 use crate::late::{run_late, stations_for};
-use crate::laws::admissible_is_same;
+use crate::laws::{admissible_is_same, window_tells_all};
 use crate::program::Program;
 use crate::runs::{is_admissible, run_plain, verdict_of};
 use crate::same::is_same;
+use crate::window::window_of;
 use lvdc_fault::Named;
 use lvdc_machine::{Orders, Snapshot};
 use lvdc_map::{Banks, Hop, Placed};
@@ -21,7 +22,8 @@ use lvdc_plain::Plain;
 use lvdc_word::NoMemory;
 use std::alloc::Global;
 
-/// The row of a script. The machine that judges a script that isn't admissible goes on from there, through every fault.
+/// The row of a script. The machine makes the times in which its events act, where no event is on memory; that which judged a script
+/// that isn't admissible goes on from there, through every fault.
 fn make_row(
     alloc: Global,
     program: &Program<'_>,
@@ -37,8 +39,10 @@ fn make_row(
     ensures admissible { IfOk result (λ row. row.verdict ≡ verdicts.Admissible → row.same ≡ true) }
 {
     admissible_is_same();
+    window_tells_all();
     let Named { name, script } = named;
-    let mut machine = run_late(alloc, program, stations, script)?;
+    let times = window_of(&script, program.count);
+    let mut machine = run_late(alloc, program, stations, script, times)?;
     let verdict = verdict_of(&machine);
     if is_admissible(&verdict) {
         let same = true;

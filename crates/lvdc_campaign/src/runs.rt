@@ -8,7 +8,7 @@ ghost use Rattle.lvdc_fault.specs.Events.{IsEvent};
 ghost use Rattle.lvdc_machine.specs.declared.mode.Mode.TheVariants.{Guarded};
 ghost use Rattle.lvdc_fault.specs.declared.TheConstants.{MOST_EVENTS};
 ghost use Rattle.lvdc_campaign.specs.Campaign.{opening_of, trial_under, IsProgram};
-ghost use Rattle.lvdc_campaign.specs.Ran.{HasRun, HasRunPlainly, HasRunGuarded, verdict_in};
+ghost use Rattle.lvdc_campaign.specs.Ran.{HasRun, HasRunPlainly, HasRunWithin, verdict_in};
 
 use crate::program::Program;
 use lvdc_fault::{Script, Verdict};
@@ -38,16 +38,18 @@ pub(crate) fn run_plain(alloc: Global, program: &Program<'_>) -> Result<Plain, N
     Ok(plain)
 }
 
-/// The voted machine that judges, after the times of a program under a script.
+/// The voted machine that judges, after so many of the times of a program under a script.
 pub(crate) fn run_script(
     alloc: Global,
     program: &Program<'_>,
     script: Script,
+    times: u64,
 ) -> Result<Machine, NoMemory>
     requires program { IsProgram program.now }
+    requires within { times ≤ program.now.count }
     requires few { length script ≤ MOST_EVENTS }
     requires events { All IsEvent script }
-    ensures { IfOk result (λ machine. HasRunGuarded (trial_under (opening_of program.now) script) program.now.count machine []) }
+    ensures { IfOk result (λ machine. HasRunWithin (trial_under (opening_of program.now) script) times program.now.count machine []) }
 {
     let mut devices = Vec::new(alloc);
     let mut machine = Machine::new(
@@ -61,7 +63,7 @@ pub(crate) fn run_script(
         program.count,
         &mut devices,
     )?;
-    machine.run(program.orders, program.count, &mut devices);
+    machine.run(program.orders, times, &mut devices);
     Ok(machine)
 }
 

@@ -1,6 +1,5 @@
 -- In a step without active events all copies of a module latch the same words, so none is counted.
-use Rattle.std.proofs.Common.{◌≡◌, ℕ, zero, suc, ◌+◌, Bool, true, false, not, ◌&&◌, List, [], ◌∷◌, ◌++◌, length, slice_index, map, refl, sym, ap, ◌∙◌, inl, arith, add-zero, Result, Ok, Err}
-use Rattle.std.specs.Prelude.{◌==◌}
+use Rattle.std.proofs.Common.{◌≡◌, ℕ, zero, suc, ◌+◌, true, false, not, ◌&&◌, List, [], ◌∷◌, length, slice_index, refl, sym, ap, ◌∙◌, inl, arith, add-zero, Result, Ok, Err}
 use Rattle.std.specs.declared.option.Option.{Option}
 use Rattle.std.specs.declared.option.Option.TheVariants.{None, Some}
 use Rattle.std.proofs.lemmas.Bool.{eq-eqb}
@@ -8,7 +7,7 @@ use Rattle.lvdc_word.specs.Word.{bit_of}
 use Rattle.lvdc_map.specs.Address.{Spot}
 use Rattle.lvdc_twin.specs.declared.both_bad.BothBad.{BothBad}
 use Rattle.lvdc_twin.specs.declared.read_out.ReadOut.{ReadOut}
-use Rattle.lvdc_vote.specs.Copies.{Copies, settled, vote_of, differs_of}
+use Rattle.lvdc_vote.specs.Copies.{Copies, settled}
 use Rattle.lvdc_vote.specs.Latches.{majority_of, same_words}
 use Rattle.lvdc_modules.specs.Rows.{rows}
 use Rattle.lvdc_modules.specs.declared.bus.Bus.{Bus}

@@ -1,7 +1,5 @@
 -- The stored cells are the codes of the plain run's words, as long as a script does nothing to memory.
-use Rattle.std.proofs.Common.{◌≡◌, ℕ, zero, suc, ◌+◌, ◌<◌, ◌≤◌, Bool, true, false, cond, ◌||◌, List, [], ◌∷◌, refl, sym, ap, ◌∙◌, arith}
-use Rattle.std.specs.Prelude.{All}
-use Rattle.std.specs.List.{list_any}
+use Rattle.std.proofs.Common.{◌≡◌, ℕ, zero, suc, ◌<◌, true, false, cond, ◌||◌, List, [], ◌∷◌, refl, ap, ◌∙◌}
 use Rattle.std.proofs.lemmas.List.Elements.{All-head, All-tail}
 use Rattle.lvdc_word.specs.Cell.{code_of, with_stuck}
 use Rattle.lvdc_map.specs.Address.{Spot}
@@ -9,9 +7,9 @@ use Rattle.lvdc_map.specs.Banks.{home, holds}
 use Rattle.lvdc_map.specs.Memory.{word_at}
 use Rattle.lvdc_twin.specs.declared.stuck.Stuck.{Stuck}
 use Rattle.lvdc_twin.specs.Store.{nothing}
-use Rattle.lvdc_fault.specs.Damage.{damaged_by, damaged, stuck_by, stuck_after, stuck, kills, is_dead, shown_of}
+use Rattle.lvdc_fault.specs.Damage.{damaged_by, damaged, stuck_by, stuck_after, kills, is_dead}
 use Rattle.lvdc_fault.specs.declared.event.Event.{Event}
-use Rattle.lvdc_fault.specs.declared.event.Event.TheVariants.{Flip, Force, Lag, Deaf, Damage, Stick, Dead}
+use Rattle.lvdc_fault.specs.declared.event.Event.TheVariants.{Damage, Stick, Dead}
 use Rattle.lvdc_model.proofs.Stuck.{nothing-stuck}
 use Rattle.lvdc_model.specs.Trial.{Trial, plain_in}
 use Rattle.lvdc_model.specs.CellsBefore.{damaged_at, cell_before, shown_at}

@@ -1,5 +1,5 @@
 -- The rest of a run that has joined the plain run is the plain run.
-use Rattle.std.proofs.Common.{◌≡◌, ℕ, zero, suc, ◌-◌, ◌/◌, ◌%◌, ◌^◌, ◌<◌, ◌≤◌, ◌⊎◌, inl, inr, Bool, true, false, cond, List, [], ◌∷◌, ◌++◌, slice_index, refl, sym, ap, ◌∙◌, subst, arith, Result, Ok, Err}
+use Rattle.std.proofs.Common.{◌≡◌, ℕ, zero, suc, ◌-◌, ◌/◌, ◌%◌, ◌^◌, ◌<◌, ◌≤◌, ◌⊎◌, inl, inr, Bool, true, false, cond, [], ◌++◌, slice_index, refl, sym, ap, ◌∙◌, subst, arith, Result, Ok, Err}
 use Rattle.std.specs.declared.option.Option.{Option}
 use Rattle.std.specs.declared.option.Option.TheVariants.{None, Some}
 use Rattle.std.proofs.lemmas.Bool.{cases_lt}
@@ -16,16 +16,12 @@ use Rattle.lvdc_modules.specs.declared.wanted.Wanted.{Wanted}
 use Rattle.lvdc_modules.specs.declared.wanted.Wanted.TheVariants as wanted
 use Rattle.lvdc_plain.specs.Accesses.{fetched, operand}
 use Rattle.lvdc_plain.specs.Plain.{PlainState, World}
-use Rattle.lvdc_plain.specs.Run.{run}
-use Rattle.lvdc_plain.specs.declared.records.Stop.{Stop}
 use Rattle.lvdc_fault.specs.Script.{active_events}
-use Rattle.lvdc_fault.specs.declared.event.Event.{Event}
 use Rattle.lvdc_fault.specs.declared.verdict.Verdict.{Verdict}
 use Rattle.lvdc_fault.specs.declared.verdict.Verdict.TheVariants.{Admissible}
 use Rattle.lvdc_laws_phases.specs.Exchanges.{read_wish, exchange_in, made}
 use Rattle.lvdc_laws_phases.specs.Standing.{Standing}
 use Rattle.lvdc_model.specs.declared.outcome.Outcome.{Outcome}
-use Rattle.lvdc_model.specs.declared.repair.Repair.{Repair}
 use Rattle.lvdc_model.specs.Trial.{Trial, plain_in, read_at, read_in_phase}
 use Rattle.lvdc_model.specs.CellsBefore.{shown_at, shown_with}
 use Rattle.lvdc_model.specs.Twins.{shows, answer_by, read_answer}
@@ -44,7 +40,7 @@ use Rattle.lvdc_laws_voted.proofs.PlainTimes.{made-reads_none}
 use Rattle.lvdc_laws_voted.proofs.Recovered.{recovered-code}
 use Rattle.lvdc_laws_voted.proofs.Run.{begun-at, follows, guarded-stays, kept-here, or_else-first}
 use Rattle.lvdc_laws_voted.proofs.Steps.{HasBanks}
-use Rattle.lvdc_laws_runs.specs.Joined.{AllEndBefore, StoresWords, HasJoined, StaysJoined}
+use Rattle.lvdc_laws_runs.specs.Joined.{StoresWords, HasJoined, StaysJoined}
 use Rattle.lvdc_laws_runs.proofs.Idle.{LeavesMemory, none-after, module-none, leaves-none}
 use Rattle.lvdc_laws_runs.proofs.Counted.{run-seven, step-still}
 use Rattle.lvdc_laws_runs.proofs.Spared.{words-next, word-shown}

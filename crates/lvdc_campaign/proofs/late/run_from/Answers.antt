@@ -8,5 +8,5 @@ pub returns : goal.returns
 returns c =
     let at = c.in_ok-machine.ensures in
     let on = c.go_on.ensures in
-    has_run-late (opening_of c.args.program.now) c.args.program.now.count c.args.station.now c.args.script c.in_ok-machine.machine c.go_on.new.machine []
+    has_run-late (opening_of c.args.program.now) c.args.program.now.count c.args.station.now c.args.script c.args.times c.requires.ahead c.in_ok-machine.machine c.go_on.new.machine []
     c.requires.station ByStep at.fresh on.keeps (on.unfailed at.fresh.end) tt (on.stands _ _ c.args.station.now.steps at.stands)
