@@ -1,5 +1,6 @@
 -- Runs over devices that have the words of the TAPE lines.
-use Rattle.std.proofs.Common.{◌≡◌, ℕ, ◌+◌, ◌-◌, ◌*◌, ◌/◌, ◌==◌, true, List, [], ◌∷◌, map, refl, sym, subst, ◌∙◌, zero-add}
+use Rattle.std.proofs.Common.{◌≡◌, ℕ, ◌+◌, ◌-◌, ◌*◌, ◌/◌, ◌≤◌, ◌==◌, true, List, [], ◌∷◌, map, refl, sym, subst, ◌∙◌, arith, zero-add, Result, Ok, Err}
+use Rattle.std.specs.Prelude.{IfErr}
 use Rattle.std.specs.Bool.{if◌then◌else◌}
 use Rattle.std.specs.declared.option.Option.{Option}
 use Rattle.std.specs.declared.option.Option.TheVariants.{None, Some}
@@ -29,10 +30,10 @@ use Rattle.lvdc_machine.specs.declared.mode.Mode.{Mode}
 use Rattle.lvdc_snapshot.specs.declared.snapshot.Snapshot.{Snapshot}
 use Rattle.lvdc_machine.specs.declared.mode.Mode.TheVariants.{Guarded}
 use Rattle.lvdc_campaign.specs.Campaign.{trial_under}
-use Rattle.lvdc_campaign.specs.Ran.{HasRunGuarded, HasRunPlainly, NoneFailed, NonePlainlyFailed}
+use Rattle.lvdc_campaign.specs.Ran.{HasRunWithin, HasRunPlainly, NoneFailed, NonePlainlyFailed}
 use Rattle.lvdc_campaign.specs.Stations.{IsUnderWay, IsStation}
 use Rattle.lvdc_campaign.proofs.Stationed.{under_way-start, all-left}
-use Rattle.lvdc_study.specs.Failures.{HasFailed, EndsIn, EndsPlainlyIn, Exchanges, ExchangesPlainly}
+use Rattle.lvdc_study.specs.Failures.{HasFailed, FailsUnder, EndsIn, EndsPlainlyIn, Exchanges, ExchangesPlainly}
 use Rattle.lvdc_study.specs.declared.fault.Unstudied.{Unstudied}
 use Rattle.lvdc_study.specs.declared.fault.Unstudied.TheVariants.{NoMemory, Device as DeviceFailed}
 use Rattle.lvdc_study.specs.Study.{opening_over}
@@ -66,12 +67,39 @@ voted-exchange o times mode steps port (Some (Device step failed)) e is =
     subst (λ (q : ℕ). (step : ℕ) × Exchanges o times step q) is (step, record { mode = mode; exchange = e })
 
 -- the same of a machine that went on from a station
-pub late-exchange : (p : Opening) (count : ℕ) (s : Snapshot) (script : List Event) (m : View) (now : List device.Device) (port : ℕ) → IsStation p count s
-    → Stands (trial_under p script) (s.steps + 3 * (count - s.steps / 3)) m now → EndsIn m.end port → (step : ℕ) × Exchanges (trial_under p script) count step port
-late-exchange p count s script m now port at stands is =
+pub late-exchange : (p : Opening) (count times : ℕ) (s : Snapshot) (script : List Event) (m : View) (now : List device.Device) (port : ℕ) → IsStation p count s
+    → s.steps ≤ 3 * times → Stands (trial_under p script) (s.steps + 3 * (times - s.steps / 3)) m now → EndsIn m.end port
+    → (step : ℕ) × Exchanges (trial_under p script) times step port
+late-exchange p count times s script m now port at ahead stands is =
     let o = trial_under p script in
-    let all : Stands o (3 * count) m now = subst (λ (n : ℕ). Stands o n m now) (all-left p count s script at) stands in
-    voted-exchange o count m.mode m.steps port m.end all.ends is
+    let all : Stands o (3 * times) m now = subst (λ (n : ℕ). Stands o n m now) (all-left p count s script times ahead at) stands in
+    voted-exchange o times m.mode m.steps port m.end all.ends is
+
+-- a run comes to an exchange in more times too
+exchanges-within : (o : Trial) (times count step port : ℕ) → times ≤ count → Exchanges o times step port → Exchanges o count step port
+exchanges-within o times count step port within exchanges =
+    let there = exchanges.exchange in
+    let early = there.early in
+    record {
+      mode = exchanges.mode;
+      exchange = record {
+        later = there.later;
+        early = omega (arith, early, within);
+        going = there.going;
+        steps = there.steps;
+        admitted = there.admitted;
+        asked = there.asked;
+      };
+    }
+
+fails-within : (o : Trial) (times count : ℕ) → times ≤ count → (e : Unstudied) → FailsUnder o times e → FailsUnder o count e
+fails-within o times count within NoMemory fails = tt
+fails-within o times count within (DeviceFailed port) fails = (fails.0, exchanges-within o times count fails.0 port within fails.1)
+
+pub answer-within : {A : Type 0} (o : Trial) (times count : ℕ) → times ≤ count → (answer : Result A Unstudied) → IfErr answer (λ e. FailsUnder o times e)
+    → IfErr answer (λ e. FailsUnder o count e)
+answer-within o times count within (Ok machine) fails = tt
+answer-within o times count within (Err e) fails = fails-within o times count within e fails
 
 -- ---- what a machine was made of is the opening of the program over the devices
 
@@ -86,13 +114,13 @@ module _ (p : Program) (devices ready : List device.Device) (unplugs : List Unpl
       let here : plain.Stands (opening_over p devices) (0 + p.count) m now = subst (λ (o : Opening). plain.Stands o (0 + p.count) m now) opening-same stands in
       subst (λ (n : ℕ). plain.Stands (opening_over p devices) n m now) (zero-add p.count) here
 
-  stands-under : (script : List Event) (m : View) (now : List device.Device)
-      → Stands (trial_under (record { image = p.image.now; banks = p.banks; start = p.start; unplugs = unplugs; devices = ready }) script) (0 + 3 * p.count) m now
-      → Stands (trial_under (opening_over p devices) script) (3 * p.count) m now
-  stands-under script m now stands =
+  stands-under : (script : List Event) (times : ℕ) (m : View) (now : List device.Device)
+      → Stands (trial_under (record { image = p.image.now; banks = p.banks; start = p.start; unplugs = unplugs; devices = ready }) script) (0 + 3 * times) m now
+      → Stands (trial_under (opening_over p devices) script) (3 * times) m now
+  stands-under script times m now stands =
       let o = trial_under (opening_over p devices) script in
-      let here : Stands o (0 + 3 * p.count) m now = subst (λ (q : Opening). Stands (trial_under q script) (0 + 3 * p.count) m now) opening-same stands in
-      subst (λ (n : ℕ). Stands o n m now) (zero-add (3 * p.count)) here
+      let here : Stands o (0 + 3 * times) m now = subst (λ (q : Opening). Stands (trial_under q script) (0 + 3 * times) m now) opening-same stands in
+      subst (λ (n : ℕ). Stands o n m now) (zero-add (3 * times)) here
 
   pub plainly-run : ((program : Opening) (times : ℕ) (m : plain_view.View) (ds : List device.Device) → m.banks ≡ program.banks → plain.Stands program times m ds
       → NonePlainlyFailed m.end → HasRunPlainly program times m)
@@ -121,13 +149,13 @@ module _ (p : Program) (devices ready : List device.Device) (unplugs : List Unpl
       under_way-start (opening_over p devices) (pace_of Guarded) p.count m now (subst IsOpening opening-same opens) fresh
       (subst (λ (o : Trial). Stands o 0 m now) (λ i. trial_under (opening-same i) (none i)) stands)
 
-  pub has-judged : (script : List Event) (m : View) (now : List device.Device)
+  pub has-judged : (script : List Event) (times : ℕ) (m : View) (now : List device.Device)
       → IsOpening (record { image = p.image.now; banks = p.banks; start = p.start; unplugs = unplugs; devices = ready }) → m.mode ≡ Guarded
       → m.limit ≡ p.count → AreDistinct now
-      → Stands (trial_under (record { image = p.image.now; banks = p.banks; start = p.start; unplugs = unplugs; devices = ready }) script) (0 + 3 * p.count) m now
-      → NoneFailed m.end → HasRunGuarded (trial_under (opening_over p devices) script) p.count m now
-  has-judged script m now opens mode_is limit distinct stands unfailed =
-      let later = stands-under script m now stands in
+      → Stands (trial_under (record { image = p.image.now; banks = p.banks; start = p.start; unplugs = unplugs; devices = ready }) script) (0 + 3 * times) m now
+      → NoneFailed m.end → HasRunWithin (trial_under (opening_over p devices) script) times p.count m now
+  has-judged script times m now opens mode_is limit distinct stands unfailed =
+      let later = stands-under script times m now stands in
       record {
         run = record {
           opening = subst IsOpening opening-same opens;
@@ -143,11 +171,11 @@ module _ (p : Program) (devices ready : List device.Device) (unplugs : List Unpl
         limit = limit;
       }
 
-  pub asked-under : (script : List Event) (m : View) (now : List device.Device) (port : ℕ)
-      → Stands (trial_under (record { image = p.image.now; banks = p.banks; start = p.start; unplugs = unplugs; devices = ready }) script) (0 + 3 * p.count) m now
-      → EndsIn m.end port → (step : ℕ) × Exchanges (trial_under (opening_over p devices) script) p.count step port
-  asked-under script m now port stands =
-      voted-exchange (trial_under (opening_over p devices) script) p.count m.mode m.steps port m.end (stands-under script m now stands).ends
+  pub asked-under : (script : List Event) (times : ℕ) (m : View) (now : List device.Device) (port : ℕ)
+      → Stands (trial_under (record { image = p.image.now; banks = p.banks; start = p.start; unplugs = unplugs; devices = ready }) script) (0 + 3 * times) m now
+      → EndsIn m.end port → (step : ℕ) × Exchanges (trial_under (opening_over p devices) script) times step port
+  asked-under script times m now port stands =
+      voted-exchange (trial_under (opening_over p devices) script) times m.mode m.steps port m.end (stands-under script times m now stands).ends
 
 -- ---- devices that fail
 

@@ -19,6 +19,7 @@ use Rattle.lvdc_machine.specs.View.{View}
 use Rattle.lvdc_machine.specs.declared.mode.Mode.TheVariants.{Guarded, Through}
 use Rattle.lvdc_campaign.specs.Campaign.{trial_under}
 use Rattle.lvdc_campaign.specs.Ran.{HasRun, HasRunPlainly}
+use Rattle.lvdc_campaign.specs.Window.{IsWindow, TellsAll}
 use Rattle.lvdc_study.specs.declared.difference.Difference.{Difference}
 use Rattle.lvdc_study.specs.declared.program.Program.{Program}
 use Rattle.lvdc_study.specs.Outcomes.{first_difference}
@@ -30,25 +31,30 @@ row-is : (opening : Opening) (times : ℕ) (named : Named) (verdict : Verdict) (
     → form ≡ masks named.script opening.banks times → row_with named.name verdict difference counts repairs form ≡ row_of opening times named
 row-is opening times named verdict difference counts repairs form v d c r f = λ i. row_with named.name (v i) (d i) (c i) (r i) (f i)
 
+-- where a machine has judged the times in which the events of a script act, and its verdict is Admissible
+pub admissible-row : (p : Program) (devices : List Device) (named : Named) (judged : View) (times : ℕ) → IsWindow named.script times p.count
+    → HasRun Guarded (trial_under (opening_over p devices) named.script) times judged
+    → (verdict : Verdict) → ((o : Trial) (times : ℕ) → HasRun Guarded o times judged → verdict ≡ first_bad o times)
+    → (form : Bool) → form ≡ masks named.script p.banks p.count → verdict ≡ Admissible
+    → ((o : Trial) (times : ℕ) → IsOpening o.opening → first_bad o times ≡ Admissible → IsSame o times)
+    → ((o : Trial) (times count : ℕ) → IsOpening o.opening → IsWindow o.script times count → first_bad o times ≡ Admissible → TellsAll o times count)
+    → ((o : Trial) (times : ℕ) (m : View) → HasRun Guarded o times m → first_bad o times ≡ Admissible
+    → (m.counts ≡ (through o (3 * times)).counts) × (m.repairs ≡ (through o (3 * times)).repairs))
+    → row_with named.name verdict None judged.counts judged.repairs form ≡ row_of (opening_over p devices) p.count named
+admissible-row p devices named judged times window run verdict tells form is_form admitted same tells-all done =
+    let o = trial_under (opening_over p devices) named.script in
+    let good = sym (tells o times run) ∙ admitted in
+    let all = tells-all o times p.count run.opening window good in
+    let counted = done o times judged run good in
+    row-is (opening_over p devices) p.count named verdict None judged.counts judged.repairs form (admitted ∙ sym all.admissible)
+    (sym (same o p.count run.opening all.admissible).difference) (counted.0 ∙ all.counts) (counted.1 ∙ all.repairs) is_form
+
 -- a machine has judged a script over these devices, and this is what it tells of the verdict; and whether the script masks by form is this
 module _ (p : Program) (devices : List Device) (named : Named) (judged : View) (run : HasRun Guarded (trial_under (opening_over p devices) named.script) p.count judged)
     (verdict : Verdict) (tells : (o : Trial) (times : ℕ) → HasRun Guarded o times judged → verdict ≡ first_bad o times)
     (form : Bool) (is_form : form ≡ masks named.script p.banks p.count) where
   abbrev o : Trial
   o = trial_under (opening_over p devices) named.script
-
-  -- where the verdict is Admissible
-  pub admissible-row : verdict ≡ Admissible
-      → ((o : Trial) (times : ℕ) → IsOpening o.opening → first_bad o times ≡ Admissible → IsSame o times)
-      → ((o : Trial) (times : ℕ) (m : View) → HasRun Guarded o times m → first_bad o times ≡ Admissible
-      → (m.counts ≡ (through o (3 * times)).counts) × (m.repairs ≡ (through o (3 * times)).repairs))
-      → row_with named.name verdict None judged.counts judged.repairs form ≡ row_of (opening_over p devices) p.count named
-  admissible-row admitted same done =
-      let is = tells o p.count run in
-      let good = sym is ∙ admitted in
-      let counted = done o p.count judged run good in
-      row-is (opening_over p devices) p.count named verdict None judged.counts judged.repairs form is (sym (same o p.count run.opening good).difference)
-      counted.0 counted.1 is_form
 
   -- the machine has gone through every fault
   pub through-row : (m : View) → HasRun Through o p.count m

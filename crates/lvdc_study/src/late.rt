@@ -1,6 +1,6 @@
 //! Runs that go on from stations of the fault-free run, each over devices of its own, which the plain machine brings there.
 
-ghost use Rattle.std.specs.Prelude.{◌≡◌, ◌≤◌, ◌/◌, length, map, All, OnOk, IfOk, IfErr};
+ghost use Rattle.std.specs.Prelude.{◌≡◌, ◌≤◌, ◌*◌, ◌/◌, length, map, All, OnOk, IfOk, IfErr};
 ghost use Rattle.lvdc_fault.specs.Events.{IsEvent};
 ghost use Rattle.lvdc_fault.specs.declared.TheConstants.{MOST_EVENTS};
 ghost use Rattle.lvdc_laws_runs.specs.Early.{AllBeginFrom};
@@ -8,7 +8,7 @@ ghost use Rattle.lvdc_port.specs.Devices.{AreDistinct};
 ghost use Rattle.lvdc_plain.specs.Lists.{Since};
 ghost use Rattle.lvdc_plain.specs.Run.{run};
 ghost use Rattle.lvdc_campaign.specs.Campaign.{trial_under};
-ghost use Rattle.lvdc_campaign.specs.Ran.{HasRunGuarded};
+ghost use Rattle.lvdc_campaign.specs.Ran.{HasRunWithin};
 ghost use Rattle.lvdc_campaign.specs.Stations.{IsStation};
 ghost use Rattle.lvdc_study.specs.Failures.{HasFailed, FailsUnder, FailsPlainly};
 ghost use Rattle.lvdc_study.specs.Study.{opening_over, IsProgram};
@@ -16,7 +16,7 @@ ghost use Rattle.lvdc_study.specs.Study.{opening_over, IsProgram};
 use crate::laws::fails_early;
 use crate::runs::{failed_port, run_plain, run_script};
 use crate::{Program, Unstudied};
-use lvdc_campaign::{machine_at, station_for, stations_of};
+use lvdc_campaign::{machine_at, station_before, stations_of};
 use lvdc_fault::Script;
 use lvdc_machine::{Machine, Mode, Snapshot};
 use lvdc_port::{PortDevice, supply_all};
@@ -75,64 +75,69 @@ fn bring(
     }
 }
 
-/// The voted machine that judges, after the times of a program under a script that begins at a station or later, over devices in their
-/// first states.
+/// The voted machine that judges, after so many of the times of a program under a script that begins at a station or later, over devices
+/// in their first states.
 fn run_from(
     alloc: Global,
     program: &Program<'_>,
     station: &Snapshot,
     script: Script,
+    times: u64,
     devices: &mut Vec<Box<dyn PortDevice>>,
 ) -> Result<Machine, Unstudied>
     requires program { IsProgram program.now }
+    requires within { times ≤ program.now.count }
+    requires ahead { station.now.steps ≤ 3 * times }
     requires few { length script ≤ MOST_EVENTS }
     requires events { All IsEvent script }
     requires station { IsStation (opening_over program.now (map device_of devices.old.items)) program.now.count station.now }
     requires later { AllBeginFrom station.now.steps script }
     requires distinct { AreDistinct (map device_of devices.old.items) }
-    ensures judged { IfOk result (λ machine. HasRunGuarded (trial_under (opening_over program.now (map device_of devices.old.items)) script) program.now.count machine
+    ensures judged { IfOk result (λ machine. HasRunWithin (trial_under (opening_over program.now (map device_of devices.old.items)) script) times program.now.count machine
         (map device_of devices.new.items)) }
     ensures since { OnOk result (Since device_of faults devices.old.items devices.new.items) }
     ensures failed { IfErr result (λ e. HasFailed device_of faults e devices.old.items devices.new.items) }
-    ensures fails { IfErr result (λ e. FailsUnder (trial_under (opening_over program.now (map device_of devices.old.items)) script) program.now.count e) }
+    ensures fails { IfErr result (λ e. FailsUnder (trial_under (opening_over program.now (map device_of devices.old.items)) script) times e) }
 {
     fails_early();
-    let times = station.steps / 3;
-    match bring(alloc, program, times, devices) {
+    let begin = station.steps / 3;
+    match bring(alloc, program, begin, devices) {
         Ok(()) => {}
         Err(e) => return Err(e),
     }
     let unplugs = Vec::from_slice(alloc, program.unplugs)?;
     let mut machine = machine_at(alloc, station, script, unplugs, program.count, devices)?;
-    machine.run(program.orders, program.count - times, devices);
+    machine.run(program.orders, times - begin, devices);
     match failed_port(&machine) {
         Some(port) => Err(Unstudied::Device(port)),
         None => Ok(machine),
     }
 }
 
-/// The voted machine that judges, after the times of a program under a script, over devices in their first states. It makes those from
-/// the last station before the first event.
+/// The voted machine that judges, after so many of the times of a program under a script, over devices in their first states. It makes
+/// those from the last station before the first event.
 pub(crate) fn run_late(
     alloc: Global,
     program: &Program<'_>,
     stations: &[Snapshot],
     script: Script,
+    times: u64,
     devices: &mut Vec<Box<dyn PortDevice>>,
 ) -> Result<Machine, Unstudied>
     requires program { IsProgram program.now }
+    requires within { times ≤ program.now.count }
     requires few { length script ≤ MOST_EVENTS }
     requires events { All IsEvent script }
     requires stations { All (IsStation (opening_over program.now (map device_of devices.old.items)) program.now.count) stations.now }
     requires distinct { AreDistinct (map device_of devices.old.items) }
-    ensures judged { IfOk result (λ machine. HasRunGuarded (trial_under (opening_over program.now (map device_of devices.old.items)) script) program.now.count machine
+    ensures judged { IfOk result (λ machine. HasRunWithin (trial_under (opening_over program.now (map device_of devices.old.items)) script) times program.now.count machine
         (map device_of devices.new.items)) }
     ensures since { OnOk result (Since device_of faults devices.old.items devices.new.items) }
     ensures failed { IfErr result (λ e. HasFailed device_of faults e devices.old.items devices.new.items) }
     ensures fails { IfErr result (λ e. FailsUnder (trial_under (opening_over program.now (map device_of devices.old.items)) script) program.now.count e) }
 {
-    match station_for(stations, &script) {
-        Some(at) => run_from(alloc, program, &stations[at], script, devices),
-        None => run_script(alloc, program, script, devices),
+    match station_before(stations, &script, times) {
+        Some(at) => run_from(alloc, program, &stations[at], script, times, devices),
+        None => run_script(alloc, program, script, times, devices),
     }
 }

@@ -10,7 +10,7 @@ ghost use Rattle.lvdc_machine.specs.declared.mode.Mode.TheVariants.{Through};
 ghost use Rattle.lvdc_model.specs.Trial.{Trial};
 ghost use Rattle.lvdc_fault.specs.declared.TheConstants.{MOST_EVENTS};
 ghost use Rattle.lvdc_campaign.specs.Campaign.{trial_under};
-ghost use Rattle.lvdc_campaign.specs.Ran.{HasRun, HasRunPlainly, HasRunGuarded, NoneFailed, NonePlainlyFailed};
+ghost use Rattle.lvdc_campaign.specs.Ran.{HasRun, HasRunPlainly, HasRunGuarded, HasRunWithin, NoneFailed, NonePlainlyFailed};
 ghost use Rattle.lvdc_study.specs.Failures.{HasFailed, FailsUnder, FailsPlainly, EndsIn, EndsPlainlyIn};
 ghost use Rattle.lvdc_study.specs.Study.{opening_over, IsProgram};
 
@@ -77,22 +77,24 @@ pub fn run_plain(
     }
 }
 
-/// The voted machine that judges, after the times of a program under a script, over devices in their first states.
+/// The voted machine that judges, after so many of the times of a program under a script, over devices in their first states.
 pub(crate) fn run_script(
     alloc: Global,
     program: &Program<'_>,
     script: Script,
+    times: u64,
     devices: &mut Vec<Box<dyn PortDevice>>,
 ) -> Result<Machine, Unstudied>
     requires program { IsProgram program.now }
+    requires within { times ≤ program.now.count }
     requires few { length script ≤ MOST_EVENTS }
     requires events { All IsEvent script }
     requires distinct { AreDistinct (map device_of devices.old.items) }
-    ensures judged { IfOk result (λ machine. HasRunGuarded (trial_under (opening_over program.now (map device_of devices.old.items)) script) program.now.count machine
+    ensures judged { IfOk result (λ machine. HasRunWithin (trial_under (opening_over program.now (map device_of devices.old.items)) script) times program.now.count machine
         (map device_of devices.new.items)) }
     ensures since { OnOk result (Since device_of faults devices.old.items devices.new.items) }
     ensures failed { IfErr result (λ e. HasFailed device_of faults e devices.old.items devices.new.items) }
-    ensures fails { IfErr result (λ e. FailsUnder (trial_under (opening_over program.now (map device_of devices.old.items)) script) program.now.count e) }
+    ensures fails { IfErr result (λ e. FailsUnder (trial_under (opening_over program.now (map device_of devices.old.items)) script) times e) }
 {
     supply_all(devices, program.supplies)?;
     let unplugs = Vec::from_slice(alloc, program.unplugs)?;
@@ -107,7 +109,7 @@ pub(crate) fn run_script(
         program.count,
         devices,
     )?;
-    machine.run(program.orders, program.count, devices);
+    machine.run(program.orders, times, devices);
     match failed_port(&machine) {
         Some(port) => Err(Unstudied::Device(port)),
         None => Ok(machine),

@@ -16,7 +16,7 @@ use crate::late::run_late;
 use crate::laws::{admissible_comes_to_the_same, judged_goes_through};
 use crate::runs::go_through;
 use crate::{Difference, Program, Row, Unstudied};
-use lvdc_campaign::{is_admissible, through_is_shown, verdict_of};
+use lvdc_campaign::{is_admissible, through_is_shown, verdict_of, window_of, window_tells_all};
 use lvdc_fault::{Named, Script, Verdict};
 use lvdc_machine::{Machine, Snapshot};
 use lvdc_model::Repair;
@@ -66,7 +66,8 @@ fn masks(alloc: Global, program: &Program<'_>, script: &Script) -> Result<bool, 
 }
 
 /// The row of a script, beside the plain run of the same program, over devices in their first states. The machine that judges makes the
-/// times from the last station before the first event; where the script isn't admissible it goes on from there, through every fault.
+/// times from the last station before the first event up to the last event, or all that are left where an event is on memory; where the
+/// script isn't admissible it goes on from there, through every fault.
 pub fn study_script(
     alloc: Global,
     program: &Program<'_>,
@@ -94,9 +95,11 @@ pub fn study_script(
     form_masks();
     judged_goes_through();
     through_is_shown();
+    window_tells_all();
     let Named { name, script } = named;
     let masks = masks(alloc, program, &script)?;
-    let mut machine = run_late(alloc, program, stations, script, devices)?;
+    let times = window_of(&script, program.count);
+    let mut machine = run_late(alloc, program, stations, script, times, devices)?;
     let verdict = verdict_of(&machine);
     if is_admissible(&verdict) {
         return Ok(row_with(name, verdict, None, &machine, masks));

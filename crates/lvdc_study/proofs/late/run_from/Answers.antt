@@ -15,7 +15,7 @@ returns-in-None-clause-judged g c =
     let p = opening_over program (map (λ b. (goal.PortDevice-dyn g (b.vtable, b.value)).device_of b.value) c.args.devices.now.items) in
     let at = c.in_ok-machine.ensures in
     let leaves = c.run.ensures.leaves in
-    has_run-late p program.count c.args.station.now c.args.script c.in_ok-machine.machine c.run.new.self _ c.requires.station ByStep at.fresh leaves.keeps
+    has_run-late p program.count c.args.station.now c.args.script c.args.times c.requires.ahead c.in_ok-machine.machine c.run.new.self _ c.requires.station ByStep at.fresh leaves.keeps
     c.in-None.ensures leaves.fit.distinct
     (c.run.ensures.stands _ _ c.args.station.now.steps (at.stands p c.requires.station (sym c.in_ok-unplugs.ensures.items) c.in-Ok.ensures.brought))
 
@@ -42,7 +42,7 @@ pub returns-in-Some-clause-fails : goal.returns-in-Some-clause-fails
 returns-in-Some-clause-fails g c =
     let program = c.args.program.now in
     let p = opening_over program (map (λ b. (goal.PortDevice-dyn g (b.vtable, b.value)).device_of b.value) c.args.devices.now.items) in
-    late-exchange p program.count c.args.station.now c.args.script c.run.new.self _ c.in-Some.port c.requires.station
+    late-exchange p program.count c.args.times c.args.station.now c.args.script c.run.new.self _ c.in-Some.port c.requires.station c.requires.ahead
     (c.run.ensures.stands _ _ c.args.station.now.steps (c.in_ok-machine.ensures.stands p c.requires.station (sym c.in_ok-unplugs.ensures.items) c.in-Ok.ensures.brought))
     c.in-Some.ensures
 
@@ -51,8 +51,8 @@ returns-in-Err-clause-fails g c =
     let program = c.args.program.now in
     let p = opening_over program (map (λ b. (goal.PortDevice-dyn g (b.vtable, b.value)).device_of b.value) c.args.devices.now.items) in
     let steps = c.args.station.now.steps in
-    let within = c.requires.station.within in
+    let ahead = c.requires.ahead in
     let times = c.requires.station.whole.times in
     let whole : 3 * (steps / 3) ≡ steps = omega (arith, times) in
-    c.fails_early.ensures p c.args.script (steps / 3) program.count c.requires.station.opening
-    (subst (λ (n : ℕ). AllBeginFrom n c.args.script) (sym whole) c.requires.later) (omega (arith, within)) c.in-Err.e c.in-Err.ensures.fails
+    c.fails_early.ensures p c.args.script (steps / 3) c.args.times c.requires.station.opening
+    (subst (λ (n : ℕ). AllBeginFrom n c.args.script) (sym whole) c.requires.later) (omega (arith, ahead)) c.in-Err.e c.in-Err.ensures.fails

@@ -14,7 +14,7 @@ pub returns-in-None-clause-judged : goal.returns-in-None-clause-judged
 returns-in-None-clause-judged g c =
     let begins = c.in_ok-machine.ensures.begins in
     let leaves = c.run.ensures.leaves in
-    has-judged c.args.program.now _ _ _ c.in_ok-unplugs.ensures.items c.in_ok-supply_all.ensures.ok c.args.script
+    has-judged c.args.program.now _ _ _ c.in_ok-unplugs.ensures.items c.in_ok-supply_all.ensures.ok c.args.script c.args.times
     c.run.new.self _ begins.opening (leaves.keeps.mode ∙ begins.fresh.mode_is)
     (leaves.keeps.limit ∙ begins.fresh.limit_is) leaves.fit.distinct (c.run.ensures.stands _ _ 0 begins.stands) c.in-None.ensures
 
@@ -27,5 +27,5 @@ returns-in-None-clause-since g c =
 
 pub returns-in-Some-clause-fails : goal.returns-in-Some-clause-fails
 returns-in-Some-clause-fails g c =
-    asked-under c.args.program.now _ _ _ c.in_ok-unplugs.ensures.items c.in_ok-supply_all.ensures.ok c.args.script
+    asked-under c.args.program.now _ _ _ c.in_ok-unplugs.ensures.items c.in_ok-supply_all.ensures.ok c.args.script c.args.times
     c.run.new.self _ c.in-Some.port (c.run.ensures.stands _ _ 0 c.in_ok-machine.ensures.begins.stands) c.in-Some.ensures
