@@ -3,7 +3,7 @@ from pathlib import Path
 
 import pytest
 from conftest import TOP
-from hypothesis import given, settings
+from hypothesis import example, given, settings
 from hypothesis import strategies as st
 
 import lvdc
@@ -52,6 +52,7 @@ def test_all_refusals_of_a_file_are_found(worker: Worker, tmp_path: Path) -> Non
 
 
 @given(st.lists(st.sampled_from([line for line, _, _, _ in CODE_SLIPS]), min_size=1, max_size=6), st.booleans())
+@example(["        USE   0,02\n        CLA   X", "FAR:    CLA   X"], False)
 @settings(max_examples=30)
 def test_what_is_mended_is_asked_until_nothing_is_refused(worker: Worker, slips: list[str], is_deck: bool) -> None:
     source = FRONT + "".join(f"{it}\n" for it in slips) + BACK
@@ -78,8 +79,50 @@ def test_a_deck_and_an_image_and_macros_are_checked(worker: Worker, tmp_path: Pa
     assert [(it.cause, it.number) for it in findings_of(macros.replace("TIMES N,X,SUM", "TIMES N,X,NONE"), worker)] == [("UndefinedName", 18)]
     front, _, back = macros.rpartition("        MEND\n")
     assert [(it.cause, it.number) for it in findings_of(front + back, worker)] == [("BadMacro", macros.count("\n"))]
+    a_block = "        CODE\nHALF    MACRO\n        WORDS 0,01\n        MEND\n{}        DEC   5\n        END\n"
+    coded = "        WORDS 0,02\nCODED   MACRO\n        CODE\n        MEND\n        CODED\n"
+    for call, number in (("", 5), ("        HALF\n        ORG   0,00,0,000\n", 7), (coded, 10)):
+        assert [(it.cause, it.number) for it in findings_of(a_block.format(call), worker)][:1] == [("BadDirective", number)]
     macro_deck = f"SOURCE\n{macros}FAULTS\nLAG 0 1 0 0\nRUN 5\n"
     assert [(it.cause, it.line) for it in findings_of(macro_deck, worker)] == [("BadLine", "LAG 0 1 0 0")]
+
+
+def test_one_wrong_address_of_an_image_is_told_once(worker: Worker) -> None:
+    lines = ["LVDC 1", "0 00 000 000017000", "0 00 377 000007001", "0 00 002 400000000", "0 0 003 000000001", "0 00 004 000000001",
+             "0 00 004 000000002"]
+    due = [("AddressOrder", 4), ("BadWord", 4), ("BadImageLine", 5), ("AddressOrder", 7)]
+    texts: list[tuple[str, list[tuple[str, int]]]] = [
+        ("IMAGE\n{}END\nFAULTS\nLAG 9 1 0 0\nRUN 5\n", [("BadLine", 11)]), ("{}END\n", []), ("{}", [("BadSection", 1)])]
+    for text, more in texts:
+        numbers = [(cause, number + text.startswith("IMAGE")) for cause, number in due]
+        found = list(findings_of(text.format("".join(f"{it}\n" for it in lines)), worker))
+        assert sorted((it.cause, it.number) for it in found) == sorted(numbers + more) and not any(it.is_last for it in found)
+    late = list(findings_of("LVDC 2\nSTART 000000016\n0 00 000 000000001\nSIMPLEX 0\n4 00 000 000000001\nEND\n", worker))
+    assert [(it.cause, it.number, it.is_last) for it in late] == [("BadImageLine", 4, True)]
+
+
+HEADINGS = [["LVDC 1"], ["LVDC 2", "START 000000016", "SIMPLEX 0 2"], ["LVDC 2", "START 000000017", "SIMPLEX 1"]]
+IMAGE_LINES = ["0 00 000 000017000", "0 00 001 000007001", "0 01 000 400000000", "0 1 000 000000001", "4 00 000 000000001", "5 00 000 000000001",
+               "3 17 377 377777777", "3 18 000 000000001", "", "START 000000016"]
+
+
+@given(st.sampled_from(HEADINGS), st.lists(st.sampled_from(IMAGE_LINES), min_size=1, max_size=9))
+def test_what_is_refused_of_an_image_is_so_beside_the_line_above_it_alone(worker: Worker, heading: list[str], lines: list[str]) -> None:
+    text = "".join(f"{it}\n" for it in (*heading, *lines, "END"))
+    found = list(findings_of(text, worker))
+    without_form = {it.number for it in found if it.cause == "BadImageLine"}
+    for it in found:
+        at = it.number - 1 - len(heading)
+        above = [f"{lines[at - 1][:9]}000000000"] if at > 0 and it.number - 1 not in without_form else []
+        alone = [*heading[:1], *(it.replace("17", "16") for it in heading[1:]), *above, lines[at], "END"] if at >= 0 else text.splitlines()
+        with pytest.raises(lvdc.Refused) as refused:
+            lvdc.form("".join(f"{it}\n" for it in ("IMAGE", *alone, "RUN 0")), worker=worker)
+        assert refused.value.cause == it.cause or (it.cause, refused.value.cause) == ("BadWord", "AddressOrder")
+    try:
+        lvdc.form(f"IMAGE\n{text}RUN 0\n", worker=worker)
+        assert not found
+    except lvdc.Refused as refused_first:
+        assert (refused_first.cause, (refused_first.number or 0) - 1) == (found[0].cause, found[0].number)
 
 
 def test_a_refusal_that_was_told_elsewhere_is_shown(tmp_path: Path) -> None:

@@ -5,9 +5,10 @@ ends, and says so."""
 import difflib
 import re
 from collections.abc import Iterator, Sequence
-from dataclasses import dataclass, field
+from dataclasses import dataclass, field, replace
 
 from lvdc import commands
+from lvdc.check.images import mend_image
 from lvdc.check.slips import LABEL, OPERAND, OPERATION, Slip, block_at, name_in, slip_of
 from lvdc.lines import sections, tokens
 from lvdc.parts import CONSTANTS, DIRECTIVES, OPERATIONS, Parts
@@ -18,11 +19,12 @@ MOST_FINDINGS = 20
 _NO_NAME, _LONGEST_NAME = re.compile("[^A-Z0-9]"), 8
 _OF_ASSEMBLY = 3
 _FILLER = {"CODE": "HOP   000", "WORDS": "OCT   0"}
-# refusals of a deck and of an image whose line can be left out, and of each what to look at first
+# refusals of a deck whose line can be left out, those of an image, and all else: of each what to look at first
 _LEFT_OUT = {
     "BadLine": "The line hasn't the form of its section: count its fields, and look for a digit 8 or 9, a leading zero, a small letter, a step or a "
                "number out of range; no comment stands behind it.",
-    "NoDevice": "TAPE wants a tape, at a port from 000 to 013; UNPLUG a device, from 000 to 017.",
+    "NoDevice": "TAPE wants a tape, at a port from 000 to 013; UNPLUG a device, from 000 to 017."}
+_OF_IMAGES = {
     "BadImageLine": "A line of an image has 1, 2, 3 and 9 octal digits with single blanks, and nothing else.",
     "AddressOrder": "The address doesn't come after the one above it: sort the lines.",
     "BadWord": "A word is 377777777 at most."}
@@ -31,6 +33,7 @@ _ALL_ELSE = {
     "BadSection": "After END come START, SIMPLEX, PORTS, FAULTS, ORDER, RUN and DEBUG, each once at most and in this order; RUN has to be there.",
     "CountTooLarge": "RUN has 1000000 at most.", "TooManyEvents": "There are 65,536 fault lines at most.",
     "TooLong": "The file is above 1,048,576 bytes."}
+_NO_END = "The program's END is missing, alone on its line."
 
 
 @dataclass(frozen=True, slots=True)
@@ -51,13 +54,15 @@ class Finding:
 
 @dataclass
 class _File:
-    """A file as it is mended: its lines, and which of them are those of the source, first and past the last, from 0. `asked` has the
-    number in the file of each line that was asked last."""
+    """A file as it is mended: its lines, and which of them are those of the source, first and past the last, from 0, or those of the image,
+    and of these the ones that aren't asked again. `asked` has the number in the file of each line that was asked last."""
 
     lines: list[str]
     kind: str
     first: int = 0
     past: int = 0
+    image: range = range(0)
+    left_out: set[int] = field(default_factory=set)
     asked: list[int] = field(default_factory=list)
 
     @property
@@ -76,10 +81,11 @@ class _File:
 
     def ask(self, asker: Asker) -> None:
         """Asks the program. Raises Refused."""
-        numbers = list(range(1, len(self.lines) + 1))
-        if self.kind == "image":
-            self.asked = [1, *numbers, len(numbers) + 1]
-            commands.form(_joined(["IMAGE", *self.lines, "RUN 0"]), worker=asker)
+        numbers = [it for it in range(1, len(self.lines) + 1) if it - 1 not in self.left_out]
+        if self.image:
+            self.asked = numbers if self.kind == "deck" else [1, *numbers, len(self.lines) + 1]
+            text = _joined([self.lines[it - 1] for it in numbers])
+            commands.form(text if self.kind == "deck" else f"IMAGE\n{text}RUN 0\n", worker=asker)
             return
         if self.kind == "source" or self.has_macros:
             self.asked = numbers[self.first:self.past]
@@ -101,17 +107,18 @@ def file_of(text: str) -> _File:
     lines = sections(text)
     first: list[str] = next((tokens(it) for it in lines if tokens(it) and not it.startswith("*")), [])
     if first[:1] == ["LVDC"]:
-        return _File(lines, "image")
+        return _File(lines, "image", image=range(len(lines)))
     if first not in (["IMAGE"], ["SOURCE"]):
         return _File(lines, "source", 0, len(lines))
     heading = next(at for at, it in enumerate(lines) if tokens(it) in (["IMAGE"], ["SOURCE"]))
     end = next((at for at, it in enumerate(lines) if at > heading and tokens(it) == ["END"]), len(lines) - 1)
-    return _File(lines, "deck", heading + 1, end + 1) if first == ["SOURCE"] else _File(lines, "deck")
+    return _File(lines, "deck", heading + 1, end + 1) if first == ["SOURCE"] else _File(lines, "deck", image=range(heading + 1, end + 1))
 
 
 def findings_of(text: str, asker: Asker) -> Iterator[Finding]:
     """The refusals of a text."""
     file, lost = file_of(text), set[str]()
+    written = list(file.lines)
     for _ in range(MOST_FINDINGS):
         try:
             file.ask(asker)
@@ -121,7 +128,8 @@ def findings_of(text: str, asker: Asker) -> Iterator[Finding]:
         is_mended = _mend(file, found, lost)
         is_own = found.cause in ("UndefinedName", "OutOfSector") and name_in(Parts.of(found.line).operand)[:_LONGEST_NAME] in lost
         if not is_own:
-            yield found if is_mended else Finding(found.cause, found.number, found.line, found.slip, True)
+            line = written[found.number - 1] if 0 < found.number <= len(written) else found.line
+            yield replace(found, line=line, is_last=not is_mended)
         if not is_mended:
             return
 
@@ -139,9 +147,11 @@ def finding_of(file: _File, refused: Refused) -> Finding:
     line = file.lines[number - 1] if 0 < number <= len(file.lines) else ""
     if refused.status == _OF_ASSEMBLY and file.first < number <= file.past + 1:
         return Finding(refused.cause, number, line, slip_of(refused.cause, number - file.first, file.source))
-    sentence = {**_LEFT_OUT, **_ALL_ELSE}.get(refused.cause, "")
+    sentence = {**_LEFT_OUT, **_OF_IMAGES, **_ALL_ELSE}.get(refused.cause, "")
     if refused.cause in ("UndefinedName", "OutOfSector"):
         sentence = "START wants the name of a line of code."
+    if refused.cause == "BadSection" and number == (1 if file.kind == "image" else max(file.first, file.image.start)):
+        sentence = _NO_END
     return Finding(refused.cause, number, line, Slip(sentence))
 
 
@@ -157,7 +167,14 @@ def _mend(file: _File, found: Finding, lost: set[str]) -> bool:
     if not 0 <= at < len(file.lines):
         return False
     if found.cause in _LEFT_OUT:
-        return _leave_out(file, at)
+        file.lines[at] = "*"
+        return True
+    if found.cause in _OF_IMAGES:
+        return at in file.image and mend_image(file.lines, file.image, found.cause, at, file.left_out)
+    if found.cause == "BadSection" and file.kind == "image" and at == 0:
+        file.lines.append("END")
+        file.image = range(len(file.lines))
+        return True
     parts = Parts.of(found.line)
     if not file.first <= at < file.past or _is_of_macros(file, parts):
         return False
@@ -168,13 +185,6 @@ def _mend(file: _File, found: Finding, lost: set[str]) -> bool:
         lost.add(_NO_NAME.sub("", parts.label.upper())[:_LONGEST_NAME])
     file.lines[at] = mended
     return True
-
-
-def _leave_out(file: _File, at: int) -> bool:
-    """Puts a comment in the place of a line of a deck; an image has none."""
-    if file.kind == "deck":
-        file.lines[at] = "*"
-    return file.kind == "deck"
 
 
 def _is_of_macros(file: _File, parts: Parts) -> bool:

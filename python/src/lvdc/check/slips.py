@@ -182,7 +182,7 @@ def _bad_directive(parts: Parts, number: int, lines: Sequence[str]) -> Slip:
     if operation in INSTRUCTIONS:
         return Slip("Instructions stand in a block of code: write CODE above them." if block == "" else
                     "This is a block of words: write CODE above the instructions.", OPERATION)
-    if operation in CONSTANTS and block != "WORDS":
+    if operation in CONSTANTS and (block != "WORDS" or operation != "BSS"):
         return Slip(f"{operation} stands in a block of words: write WORDS 0,01 above it, or another sector.", OPERATION)
     form = {"ORG": "pair, sector, syllable and location: ORG 0,01,0,000", "WORDS": "pair and sector, and a location where it has to be: WORDS 0,01",
             "USE": "pair and sector: USE 0,02", "BSS": "how many words, decimal, 1 to 256"}[operation]
@@ -196,10 +196,13 @@ def _bad_directive(parts: Parts, number: int, lines: Sequence[str]) -> Slip:
 
 
 def block_at(number: int, lines: Sequence[str]) -> str:
-    """The directive whose block a line stands in: CODE (of ORG too), WORDS, or empty."""
+    """The directive whose block a line stands in: CODE (of ORG too), WORDS, or empty. The lines of a definition of a macro stand in none."""
     kinds = {"CODE": "CODE", "ORG": "CODE", "WORDS": "WORDS"}
-    above = (kinds.get(Parts.of(it).operation) for it in reversed(lines[:number - 1]))
-    return next((it for it in above if it), "")
+    block, is_defined = "", False
+    for operation in (Parts.of(it).operation for it in lines[:number - 1]):
+        is_defined = operation == "MACRO" or is_defined and operation != "MEND"
+        block = block if is_defined else kinds.get(operation, block)
+    return block
 
 
 def _unknown_operation(parts: Parts, lines: Sequence[str]) -> Slip:
