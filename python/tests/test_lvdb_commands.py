@@ -277,7 +277,7 @@ def test_an_image_and_a_deck_with_macros_are_loaded(worker: Worker, tmp_path: Pa
     program = load(deck, Options(), worker)
     assert program.has_macros and program.deck.count == 100
     assert "".join(f"{it}\n" for it in program.lines) == deck.read_text()
-    written = [program.line_at(program.number_of(it)) for it in program.rows.values() if program.is_written_out(it)]
+    written = [program.line_at(program.number_of(it)) for it in program.rows.values() if program.body_of(it)]
     assert written == ["        TIMES N,X,SUM"] * 8
 
 

@@ -114,6 +114,17 @@ def test_who_wrote_a_word_and_what_it_came_from(worker: Worker) -> None:
     assert "is read 7 times" in told(console, "reads PASSES")
 
 
+def test_a_product_that_is_waited_for_is_told_as_the_next_instruction_finds_it(worker: Worker) -> None:
+    console = sitting(EXAMPLES / "programs" / "ascent.deck", worker)
+    lines = told(console, "continue", "last ANGLE").split("\n")
+    assert lines[0].endswith("at time 1197 by line 19: STO ANGLE")
+    assert [it.split(", ")[1].split(" (")[0] for it in lines[2:]] == ["PIO 400", "ADD AIM", "SUB ANGLE", "MPH QUARTER", "ADD ANGLE"]
+    assert lines[5].endswith("A is 377777723  -45")
+    assert "time    1195  377777515 -> 377777723 -45  line 17: MPH QUARTER" in told(console, "writes A")
+    assert told(console, "info ports").endswith("OUT 1198 017 000005112  line 20: PIO 017")
+    assert told(console, "list ANGLE").split("\n")[5].endswith("ANGLE   DEC   9000       UPRIGHT")
+
+
 def test_registers_and_reads_are_watched(worker: Worker, tmp_path: Path) -> None:
     path, options = written(tmp_path, source(MADE["early"][0]))
     console = sitting(path, worker, options)
@@ -202,6 +213,13 @@ def test_where_a_fault_begins_to_show_and_why_a_run_ended(worker: Worker) -> Non
 
 def test_calls_of_macros_are_shown_with_what_they_come_to(worker: Worker) -> None:
     console = sitting(EXAMPLES / "five-threes.macros", worker, Options(200))
-    assert told(console, "step").split("\n")[1:3] == ["   18          TIMES N,X,SUM", "     =>        SUB   =O1"]
+    assert told(console, "step").split("\n")[1:3] == ["   18          TIMES N,X,SUM", "   11=>        SUB   =O1"]
+    lines = told(console, "info lines").split("\n")
+    assert [it[8:] for it in lines[8:21]] == [
+        "     9  TIMES   MACRO", "    10  L&0     CLA   &1", "    11          SUB   =O1", "    12          STO   &1", "    13          ADDTO &2,&3",
+        "    14          CLA   &1", "    15          TNZ   L&0", "    16          MEND", "    17          ORG   0,00,0,000",
+        "    18          TIMES N,X,SUM", "    10=>L001     CLA   N", "    11=>        SUB   =O1", "    12=>        STO   N"]
+    assert lines[21].startswith("       5     4=>") and "by line 18, from line 6: STO SUM" in told(console, "until 19", "last SUM")
+    told(console, "goto 1")
     assert told(console, "macro 18").count("=>") == 8 and told(console, "until 19").split("\n")[0].endswith("at STOP (0 00 0 010)")
     assert console.word(Address(0, 1, 2)) == Word(15)

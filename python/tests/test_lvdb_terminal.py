@@ -151,7 +151,7 @@ def test_a_tape_is_supplied_by_the_command_line(worker: Worker, tmp_path: Path) 
     (tmp_path / "reads.source").write_text("        CODE\n        PIO   400\n        PIO   017\nSTOP    TRA   STOP\n        END\n")
     status, told, _ = script("until STOP\ninfo ports\n", "reads.source", "--tape", "000", "5", "7", "--times", "10", folder=tmp_path)
     assert status == 0
-    assert "TAPE 000, 2 words\nIN 0 000 000000005\nOUT 1 017 000000005" in told
+    assert "TAPE 000, 2 words\nIN 0 000 000000005  line 2: PIO 400\nOUT 1 017 000000005  line 3: PIO 017" in told
 
 
 def test_a_source_with_macros_says_whose_lines_are_shown(worker: Worker) -> None:

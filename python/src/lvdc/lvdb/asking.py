@@ -141,13 +141,14 @@ def why(console: Console, words: list[str]) -> Told:
     return reason_lines(debugger.replay, end, debugger.position, name, debugger.asker)
 
 
-@command("[LINE]", "shows what the lines that call macros are written out to, or one of them", "mac")
+@command("[LINE]", "shows what the lines that call macros are written out to, or one of them; before `=>` stands the number of the line of the "
+         "definition", "mac")
 def macro(console: Console, words: list[str]) -> Iterator[str]:
     """Expansions."""
     program = console.debugger.program
     if len(words) > 1 or words and not words[0].isdigit():
         raise COMMANDS["macro"].wrong(f"{' '.join(words)!r} is no line")
-    rows = [] if program.listing is None else [it for it in program.listing.rows if program.is_written_out(it)]
+    rows = [] if program.listing is None else [it for it in program.listing.rows if program.body_of(it)]
     shown = [it for it in rows if not words or program.number_of(it) == int(words[0])]
     if not shown:
         raise CommandError("no such line calls a macro" if rows else "the source has no line that calls a macro")
@@ -156,5 +157,5 @@ def macro(console: Console, words: list[str]) -> Iterator[str]:
         number = program.number_of(row)
         if number != before:
             yield f"{number:5d}  {program.line_at(number)}"
-        yield f"     =>{str(row.field or ''):20} {row.line}".rstrip()
+        yield f"{program.body_of(row):5d}=>{str(row.field or ''):20} {row.line}".rstrip()
         before = number

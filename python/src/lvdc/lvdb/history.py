@@ -1,8 +1,8 @@
 """Who wrote a word: all stores and reads of it that a run makes, and the instructions that a stored word came from."""
 from collections.abc import Iterator
-from dataclasses import dataclass
+from dataclasses import dataclass, replace
 
-from lvdc.lvdb.made import CLA, MPH, PIO, Made, made_between
+from lvdc.lvdb.made import CLA, PIO, Made, made_between
 from lvdc.lvdb.replays import Replay
 from lvdc.lvdb.searches import pieces_back, pieces_onward
 from lvdc.lvdb.states import A, PQ, SAVER
@@ -84,9 +84,16 @@ def place_at(replay: Replay, time: int) -> Place:
 def source_of(replay: Replay, time: int) -> list[Made]:
     """The instructions up to a time that A came from, the first of which takes nothing of an older A."""
     found: list[Made] = []
-    for made in reversed(list(made_between(replay, max(0, time - _MOST_BEFORE), time))):
-        if made.makes_a:
-            found.insert(0, made)
-        if made.makes_a and made.code in (CLA, MPH, PIO):
+    made = list(made_between(replay, max(0, time - _MOST_BEFORE), time))
+    for at, it in reversed(list(enumerate(made))):
+        if it.makes_a:
+            found.insert(0, _to_its_end(made, at))
+        if it.makes_a and it.code in (CLA, PIO):
             break
     return found
+
+
+def _to_its_end(made: list[Made], at: int) -> Made:
+    """An instruction with what it left behind the times that were held for it, in which MPH waits for its product."""
+    past = next((it for it in range(at + 1, len(made)) if not made[it].is_held), len(made))
+    return replace(made[at], after=made[past - 1].after)

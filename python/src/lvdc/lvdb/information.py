@@ -9,7 +9,7 @@ from lvdc.lvdb.errors import CommandError
 from lvdc.lvdb.expressions import in_all_forms
 from lvdc.lvdb.made import made_between
 from lvdc.lvdb.mistakes import MOST_LOOKED
-from lvdc.lvdb.show import copies_lines, place_text
+from lvdc.lvdb.show import copies_lines, made_text, place_text
 from lvdc.reports import Exchange
 from lvdc.traces import PortExchange
 from lvdc.values import STEPS_A_TIME, Address, Word
@@ -81,7 +81,9 @@ def ports(console: Console) -> Iterator[str]:
     for step in debugger.replay.steps(debugger.position - rest, debugger.position):
         if isinstance(step.exchange, PortExchange):
             log.append(Exchange(time, step.exchange.port, step.exchange.word, step.exchange.kind == "OUT"))
-    yield from _at_most(list(map(str, log)), "exchanges")
+    if len(log) > _MOST_LINES:
+        yield f"{len(log)} exchanges, the last {_MOST_LINES} of them:"
+    yield from (f"{it}  {made_text(debugger, it.time)}" for it in log[-_MOST_LINES:])
     if not log:
         yield "nothing went through a port so far"
 
@@ -105,14 +107,18 @@ def calls(console: Console) -> Iterator[str]:
 
 
 def lines(console: Console) -> Iterator[str]:
-    """Each line with an instruction, and how often the whole run makes it."""
+    """The source, with how often the whole run makes each instruction; below a line that calls a macro stands what it is written out to."""
     debugger, program = console.debugger, console.debugger.program
     if program.listing is None:
         raise CommandError("an image has no lines of a source")
     counts = Counter(it.place for it in made_between(debugger.replay, 0, MOST_LOOKED) if not it.is_held)
+    last = min([*program.numbers[:1], *(it - 1 for it in program.bodies if it)]) - 1
     for row in program.listing.rows:
+        number, body = program.number_of(row), program.body_of(row)
         count = str(counts[row.field.place]) if isinstance(row.field, Instruction) else ""
-        yield f"{count:>8} {program.number_of(row):5d}  {row.line}".rstrip()
+        yield from (f"{'':8} {it:5d}  {program.line_at(it)}".rstrip() for it in range(last + 1, number + bool(body)))
+        yield (f"{count:>8} {body:5d}=>{row.line}" if body else f"{count:>8} {number:5d}  {row.line}").rstrip()
+        last = number
 
 
 INFORMATION: dict[str, Callable[[Console], Iterable[str]]] = {

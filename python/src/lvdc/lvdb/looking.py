@@ -12,6 +12,7 @@ from lvdc.lvdb.information import INFORMATION
 from lvdc.lvdb.made import made_between
 from lvdc.lvdb.mistakes import MOST_LOOKED
 from lvdc.lvdb.places import address_of, comma, hop_of, read_address, run_of
+from lvdc.lvdb.program import Program
 from lvdc.lvdb.registry import COMMANDS, COUNT, Told, command, want_nothing
 from lvdc.lvdb.session import SYLLABLE
 from lvdc.lvdb.show import copies_lines
@@ -135,13 +136,13 @@ def _word_line(console: Console, address: Address, word: Word | None, form: str)
     return f"{address}  {console.debugger.program.name_of(address):10} {_formed(console, word, form, address)}"
 
 
-@command("[LINE|NAME|PLACE]", "shows ten lines of the source, around here or there; again, the next ten", "l", repeats=True)
+@command("[LINE|NAME|PLACE|ADDRESS]", "shows ten lines of the source, around here or there; again, the next ten", "l", repeats=True)
 def list_(console: Console, words: list[str]) -> Iterator[str]:
     """Lines of the source, or of the file of an image."""
     program = console.debugger.program
     here = program.line_of(console.debugger.place)
     if words:
-        number = int(words[0]) if len(words) == 1 and COUNT.fullmatch(words[0]) else program.line_of(program.find_place(words))
+        number = int(words[0]) if len(words) == 1 and COUNT.fullmatch(words[0]) else _line_there(program, words)
         first = max(1, (number or 1) - _LINES_SHOWN // 2)
     else:
         first = console.next_line or max(1, (here or 1) - _LINES_SHOWN // 2)
@@ -150,6 +151,12 @@ def list_(console: Console, words: list[str]) -> Iterator[str]:
     for number in range(first, min(first + _LINES_SHOWN, len(program.lines) + 1)):
         yield f"{number:5d}{'=>' if number == here else '  '}{program.lines[number - 1]}"
     console.next_line = first + _LINES_SHOWN
+
+
+def _line_there(program: Program, words: list[str]) -> int | None:
+    """The number of the line of a word, or of a place of code."""
+    is_word = read_address(words) is not None or isinstance(program.names.get(words[0].partition("+")[0]), Address)
+    return program.line_of_word(program.find_address(words)) if is_word else program.line_of(program.find_place(words))
 
 
 @command("[/s] [PLACE [N]]", "shows N instructions as memory has them now, beside their lines, from here or there on; eight without N; with /s "

@@ -121,8 +121,8 @@ class Finder:
         under_way = pending_of(made.before.control)
         whose = "what is under way"
         if under_way and self.issued:
-            line = self.program.line_of(self.issued.place)
-            whose = f"the {under_way.name} of time {self.issued.time}" + (f", line {line}," if line is not None else "")
+            line = self.program.line_called(self.issued.place)
+            whose = f"the {under_way.name} of time {self.issued.time}" + (f" ({line})" if line else "")
         if made.reads_pq and under_way:
             more = under_way.instructions
             yield "early", f"reads PQ, and {whose} lands in it {more} instruction{'s' * (more != 1)} later"
@@ -289,8 +289,8 @@ class Finder:
 
     def _called(self, place: Place) -> str:
         """A place by its name and its line."""
-        line = self.program.line_of(place)
-        return (self.program.label(place) or str(place)) + (f" (line {line})" if line is not None else "")
+        line = self.program.line_called(place)
+        return (self.program.label(place) or str(place)) + (f" ({line})" if line else "")
 
 
 @dataclass(frozen=True)

@@ -44,13 +44,14 @@ class Options:
 @dataclass(frozen=True)
 class Program:
     """A deck with the lines of its file. `numbers` has for each row of the listing the number of its line there: of a source with macros
-    that of the outermost call."""
+    that of the outermost call. `bodies` has then the number of the line of the definition, 0 where a row isn't written out."""
 
     path: str
     deck: Deck
     lines: tuple[str, ...]
     listing: Listing | None = None
     numbers: tuple[int, ...] = ()
+    bodies: tuple[int, ...] = ()
     simplex: tuple[int, ...] = field(default=())
     options: Options = Options()
 
@@ -90,7 +91,7 @@ class Program:
     @cached_property
     def has_macros(self) -> bool:
         """Whether its source was written out."""
-        return self.listing is not None and any(self.is_written_out(it) for it in self.listing.rows)
+        return any(self.bodies)
 
     def number_of(self, row: Row) -> int:
         """The number of the line that a row comes from."""
@@ -100,9 +101,15 @@ class Program:
         """A line by its number."""
         return self.lines[number - 1]
 
-    def is_written_out(self, row: Row) -> bool:
-        """Whether a row isn't the line that it comes from, but one of its expansion."""
-        return self.line_at(self.number_of(row)) != row.line
+    def body_of(self, row: Row) -> int:
+        """The number of the line of the definition that a row was written out of; 0 where it wasn't."""
+        return self.bodies[row.number - 1] if self.bodies else 0
+
+    def line_called(self, place: Place) -> str:
+        """The line whose instruction stands at a place, in words; empty where there is none."""
+        number, row = self.line_of(place), self.rows.get(place)
+        body = 0 if row is None else self.body_of(row)
+        return "" if number is None else f"line {number}" + (f", from line {body}" if body else "")
 
     def line_of(self, place: Place) -> int | None:
         """The number of the line whose instruction stands there; over an image that of the word."""
@@ -313,12 +320,12 @@ def _of_source(path: Path, text: str, deck: Deck, offset: int, options: Options,
         return _checked(Program(str(path), deck, tuple(sections(text)), listing, tuple(numbers), options=options), asker)
     commands.assemble_image(source, macros=True, worker=asker)
     expansion, ours = commands.expand(source, worker=asker), written_out(sections(source))
-    if expansion.lines != tuple(line for line, _ in ours):
+    if expansion.lines != tuple(it.line for it in ours):
         raise CommandError(f"{path} has macros that are written out in another way here: debug what `lvdc macro` writes of it")
     deck = replace(deck, program=Source(expansion.text))
-    numbers = [offset + number for _, number in ours]
+    numbers, bodies = [offset + it.number for it in ours], [offset + it.body if it.body else 0 for it in ours]
     listing = commands.assemble(expansion.text, worker=asker)
-    return _checked(Program(str(path), deck, tuple(sections(text)), listing, tuple(numbers), options=options), asker)
+    return _checked(Program(str(path), deck, tuple(sections(text)), listing, tuple(numbers), tuple(bodies), options=options), asker)
 
 
 def _checked(program: Program, asker: Asker) -> Program:

@@ -301,8 +301,7 @@ class Debugger:
 
     def described(self, made: Made) -> str:
         """An instruction time in words."""
-        line = self.program.line_of(made.place)
-        where = f"line {line}" if line is not None else str(made.place)
+        where = self.program.line_called(made.place) or str(made.place)
         return f"time {made.time}, {self.named(made.syllable, made.place, hop_of(made.before.data))} ({where})"
 
     def named(self, syllable: int, place: Place, data: Hop | None = None) -> str:

@@ -73,8 +73,8 @@ def instruction_lines(debugger: Debugger) -> Iterator[str]:
     if row is not None:
         number = program.number_of(row)
         yield f"{number:5d}  {program.line_at(number)}"
-        if program.is_written_out(row):
-            yield f"     =>{row.line}"
+        if program.body_of(row):
+            yield f"{program.body_of(row):5d}=>{row.line}"
     due = row.field.syllable if row is not None and isinstance(row.field, Instruction) else None
     if syllable is not None and syllable != due:
         instruction = debugger.named(syllable, place, hop_of(debugger.state.latch(DATA)))
@@ -88,14 +88,16 @@ def _writer_of(debugger: Debugger, place: Place) -> str:
 
 
 def made_text(debugger: Debugger, time: int) -> str:
-    """The instruction of an instruction time: its name, its line and what it is."""
+    """The instruction of an instruction time, of one that is held that which waits: its line and what it is."""
     replay = debugger.replay
     state = replay.state(STEPS_A_TIME * time)
+    while state.hold:
+        time -= 1
+        state = replay.state(STEPS_A_TIME * time)
     place = state.place(replay.simplex)
     syllable = replay.state(STEPS_A_TIME * time + 1).latch(INSTR) & SYLLABLE
-    line = debugger.program.line_of(place)
-    where = f"line {line}: " if line is not None else f"{place}: "
-    return f"{where}{debugger.named(syllable, place, hop_of(state.latch(DATA)))}"
+    where = debugger.program.line_called(place) or str(place)
+    return f"{where}: {debugger.named(syllable, place, hop_of(state.latch(DATA)))}"
 
 
 def last_steps(debugger: Debugger, state: State) -> list[Step]:
