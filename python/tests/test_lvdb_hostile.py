@@ -23,8 +23,8 @@ FILES = sorted([*TOP.glob("examples/*.deck"), *TOP.glob("examples/*.source"), *T
 WORDS = [
     "STOP", "LIST", "LIST+2", "X", "A", "$A", "$PQ", "775", "777", "0,01,002", "0 01 002", "0,00,0,003", "9,99,999", "1", "0", "-1", "7",
     "for", "if", "flip", "force", "A", "==", "1 +", "(", ")", "~", "*", "=D-7", "=O17", "/8d", "/cells", "/s", "registers", "memory",
-    "ports", "accumulator", "5", "2", "1000000", "99999999999", "early", "B", "é", "\udcff", "\0", "\t", "<", "&", "x" * 300, "(" * 80,
-    "1" * 5000]
+    "ports", "port 017", "port", "accumulator", "5", "2", "1000000", "99999999999", "early", "B", "é", "\udcff", "\0", "\t", "<", "&", "x" * 300,
+    "(" * 80, "1" * 5000]
 REQUESTS = ["initialize", "launch", "configurationDone", "threads", "setBreakpoints", "setFunctionBreakpoints", "setExceptionBreakpoints",
             "dataBreakpointInfo", "setDataBreakpoints", "stackTrace", "scopes", "variables", "evaluate", "disassemble", "readMemory", "completions",
             "continue", "next", "stepIn", "stepOut", "stepBack", "reverseContinue", "fly"]

@@ -1,4 +1,5 @@
 """The commands that ask of the whole run: who wrote a word, which mistakes are made, where a fault begins to show, and why a run ended."""
+import re
 from collections import Counter
 from collections.abc import Iterator
 
@@ -6,7 +7,7 @@ from lvdc.lvdb.comparing import difference_lines, reason_lines
 from lvdc.lvdb.console import Console
 from lvdc.lvdb.errors import CommandError
 from lvdc.lvdb.expressions import in_all_forms
-from lvdc.lvdb.history import Access, Watched, all_accesses, last_access, source_of
+from lvdc.lvdb.history import Access, Port, Watched, all_accesses, last_access, source_of
 from lvdc.lvdb.made import Made
 from lvdc.lvdb.mistakes import KINDS
 from lvdc.lvdb.registry import COMMANDS, Told, command, want_nothing
@@ -16,9 +17,10 @@ from lvdc.parts import Parts
 from lvdc.values import Address, Word
 
 _MOST_LINES = 20
+_PORT = re.compile("[0-3]?[0-7]{1,2}")
 
 
-@command("WORD|A|PQ|SAVER", "says who wrote the word last, up to here, and what it came from", "la")
+@command("WORD|A|PQ|SAVER|port PORT", "says who wrote the word last, or to the port, up to here, and what it came from", "la")
 def last(console: Console, words: list[str]) -> Iterator[str]:
     """The last store."""
     at = _wanted(console, "last", words)
@@ -27,7 +29,8 @@ def last(console: Console, words: list[str]) -> Iterator[str]:
     if found is None:
         yield f"{_called(console, at)} hasn't been written up to here{_given_by(console, at)}"
         return
-    yield f"{_called(console, at)} {_word_text(found.before)} -> {_word_text(found.word)} at time {found.time} by {made_text(debugger, found.time)}"
+    change = f"was given {_word_text(found.word)}" if isinstance(at, Port) else f"{_word_text(found.before)} -> {_word_text(found.word)}"
+    yield f"{_called(console, at)} {change} at time {found.time} by {made_text(debugger, found.time)}"
     chain = [] if at in ("PQ", "SAVER") else source_of(debugger.replay, found.time + (at == "A"))
     yield from ["A came from:"] * bool(chain)
     yield from (_source_line(console, it) for it in chain)
@@ -39,13 +42,13 @@ def _source_line(console: Console, made: Made) -> str:
     return f"  {console.debugger.described(made)}{operand}  A is {Word(made.after.a)}  {Word(made.after.a).signed}"
 
 
-@command("WORD|A|PQ|SAVER", "shows all stores of the run to the word, or all changes of the register", "wr")
+@command("WORD|A|PQ|SAVER|port PORT", "shows all stores of the run to the word, all changes of the register, or all that the port was given", "wr")
 def writes(console: Console, words: list[str]) -> Told:
     """All stores."""
     return _all(console, _wanted(console, "writes", words), False)
 
 
-@command("WORD", "shows all reads of the run that take the word as an operand")
+@command("WORD|port PORT", "shows all reads of the run that take the word as an operand, or a word of the port")
 def reads(console: Console, words: list[str]) -> Told:
     """All reads."""
     at = _wanted(console, "reads", words)
@@ -82,16 +85,21 @@ def _word_text(word: Word | None) -> str:
 
 
 def _wanted(console: Console, name: str, words: list[str]) -> Watched:
-    """The word or the register that is asked for."""
-    if not words:
-        raise COMMANDS[name].wrong("the word is missing")
+    """The word, the register or the port that is asked for."""
+    match words:
+        case []:
+            raise COMMANDS[name].wrong("the word is missing")
+        case ["port", number] if _PORT.fullmatch(number):
+            return Port(int(number, 8))
+        case ["port", *_]:
+            raise COMMANDS[name].wrong("a port has an octal number up to 377")
     return watched(console, words)
 
 
 def _called(console: Console, at: Watched) -> str:
-    """A word by its name and address, or a register."""
-    name = at if isinstance(at, str) else console.debugger.program.name_of(at)
-    return f"{name} ({at})" if name and not isinstance(at, str) else str(at)
+    """A word by its name and address, a register, or a port."""
+    name = console.debugger.program.name_of(at) if isinstance(at, Address) else ""
+    return f"{name} ({at})" if name else str(at)
 
 
 def _given_by(console: Console, at: Watched) -> str:

@@ -1,4 +1,5 @@
-"""Who wrote a word: all stores and reads of it that a run makes, and the instructions that a stored word came from."""
+"""Who wrote a word: all stores and reads of it that a run makes, and the instructions that a stored word came from. The same of a port, whose
+stores are the words that it is given."""
 from collections.abc import Iterator
 from dataclasses import dataclass, replace
 
@@ -16,7 +17,8 @@ _LATCHES = {"A": A, "PQ": PQ, "SAVER": SAVER}
 
 @dataclass(frozen=True, slots=True)
 class Access:
-    """A store to a word, a read of it, or a change of a register: in which step, and which word it was before and then."""
+    """A store to a word, a read of it, or a change of a register: in which step, and which word it was before and then. Of a port, and of a
+    read, none was before."""
 
     step: int
     before: Word | None
@@ -28,16 +30,29 @@ class Access:
         return self.step // STEPS_A_TIME
 
 
-Watched = Address | str
+@dataclass(frozen=True, slots=True)
+class Port:
+    """A port by its number."""
+
+    number: int
+
+    def __str__(self) -> str:
+        return f"port {self.number:03o}"
+
+
+Watched = Address | str | Port
 
 
 def accesses(window: Window, at: Watched, is_read: bool) -> Iterator[Access]:
-    """The stores to a word that a piece tells, or the operand reads of it; of a register its changes."""
+    """The stores to a word that a piece tells, or the operand reads of it; of a register its changes, of a port what went out or came in."""
     if isinstance(at, str):
         yield from _changes_of(window, at)
         return
-    kind = "OPERAND" if is_read else "STORE"
-    for step, line, _ in window.told(f"{kind} {at} "):
+    if isinstance(at, Port):
+        beginning = f"{'IN' if is_read else 'OUT'} {at.number:03o} "
+    else:
+        beginning = f"{'OPERAND' if is_read else 'STORE'} {at} "
+    for step, line, _ in window.told(beginning):
         yield Access(step, None, Word.read(line[:9]))
 
 
@@ -57,7 +72,7 @@ def all_accesses(replay: Replay, at: Watched, is_read: bool) -> list[Access]:
     found: list[Access] = []
     for window in pieces_onward(replay, 0):
         found += [it for it in accesses(window, at, is_read) if not found or it.step > found[-1].step]
-    if is_read or isinstance(at, str):
+    if is_read or not isinstance(at, Address):
         return found
     words = [*replay.words(0, [at]), *(it.word for it in found)]
     return [Access(it.step, before, it.word) for it, before in zip(found, words)]
@@ -71,7 +86,7 @@ def last_access(replay: Replay, position: int, at: Watched, pieces: int | None =
             return None
         found = [it for it in accesses(window, at, False) if it.step < position]
         if found:
-            before = found[-1].before if isinstance(at, str) else replay.words(found[-1].step, [at])[0]
+            before = replay.words(found[-1].step, [at])[0] if isinstance(at, Address) else found[-1].before
             return Access(found[-1].step, before, found[-1].word)
     return None
 
