@@ -124,8 +124,9 @@ def test_a_product_that_is_waited_for_is_told_as_the_next_instruction_finds_it(w
     assert told(console, "info ports").endswith("OUT 1198 017 000005112  line 20: PIO 017")
     sent = told(console, "last port 17").split("\n")
     assert sent[0] == "port 017 was given 000005112 (2634) at time 1198 by line 20: PIO 017" and sent[1:] == lines[1:]
-    assert told(console, "writes port 017").split("\n")[::20] == ["port 017 is written 60 times in the run, the last 20:",
-                                                                 "=> time    1198  000005112 2634  line 20: PIO 017"]
+    assert told(console, "writes port 017").split("\n")[:21:10] == [
+        "port 017 is written 60 times in the run, the first 10 and the last 10:", "   time     198  000021150 8808  line 20: PIO 017",
+        "=> time    1198  000005112 2634  line 20: PIO 017"]
     assert told(console, "reads port 000").startswith("port 000 is read 60 times in the run")
     assert told(console, "goto 5", "last port 017") == "port 017 hasn't been written up to here"
     with pytest.raises(CommandError, match="a port has an octal number up to 377"):

@@ -16,7 +16,7 @@ from lvdc.lvdb.stopping import watched
 from lvdc.parts import Parts
 from lvdc.values import Address, Word
 
-_MOST_LINES = 20
+_MOST_LINES, _AT_EACH_END = 20, 10
 _PORT = re.compile("[0-3]?[0-7]{1,2}")
 
 
@@ -58,13 +58,13 @@ def reads(console: Console, words: list[str]) -> Told:
 
 
 def _all(console: Console, at: Watched, is_read: bool) -> Iterator[str]:
-    """All stores or reads, the last of them where they are many."""
+    """All stores or reads, the first and the last of them where they are many."""
     debugger = console.debugger
     found = all_accesses(debugger.replay, at, is_read)
-    kind = "read" if is_read else "written"
+    kind, are_many = "read" if is_read else "written", len(found) > _MOST_LINES
     yield f"{_called(console, at)} is {kind} {len(found)} time{'s' * (len(found) != 1)} in the run" + (
-        f", the last {_MOST_LINES}:" if len(found) > _MOST_LINES else "") + ("" if found or is_read else _given_by(console, at))
-    for it in found[-_MOST_LINES:]:
+        f", the first {_AT_EACH_END} and the last {_AT_EACH_END}:" if are_many else "") + ("" if found or is_read else _given_by(console, at))
+    for it in [*found[:_AT_EACH_END], *found[-_AT_EACH_END:]] if are_many else found:
         yield f"{'=>' if _is_last(debugger.position, it, found) else '  '} time {it.time:7d}  {_words(it)}  {made_text(debugger, it.time)}"
 
 
