@@ -3,7 +3,7 @@ from collections.abc import Callable, Iterator
 
 import lvdc
 from lvdc import Address, Deck, Hop, Place, Trace, Word
-from lvdc.traces import Latches, MemoryExchange
+from lvdc.steps import Latches, MemoryExchange
 from lvdc.workers import Asker
 
 Votes = dict[int, Latches]

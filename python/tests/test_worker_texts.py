@@ -9,7 +9,7 @@ from test_cases import OF_WORKER
 from lvdc import (Address, Damage, Differs, Done, Error, Form, Inadmissible, Logic, NoMemory, Refused, StudyRows, TimeLimit, Trace, Word,
                   Worker, WorkerFailed)
 from lvdc.lines import Unread, decode
-from lvdc.traces import MemoryExchange, PortExchange, ReadRepair
+from lvdc.steps import MemoryExchange, PortExchange, ReadRepair
 from lvdc.values import Port
 
 TEXTS = Path(__file__).resolve().parent / "texts"

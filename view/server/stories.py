@@ -11,7 +11,8 @@ from lvdc.refusals import NotACommand
 from lvdc.reports import Report
 from lvdc.scripts import Script
 from lvdc.studies import campaign, study
-from lvdc.traces import MemoryExchange, PortExchange, Step, Trace
+from lvdc.steps import MemoryExchange, PortExchange, Step
+from lvdc.traces import Trace
 from lvdc.values import COPIES, MODULES
 
 # what the page is given: texts by their names

@@ -28,9 +28,10 @@ from lvdc.rows import CampaignRow, CampaignRows, Differs, Outcome, Same, StudyRo
 from lvdc.saved import Saved
 from lvdc.scripts import Script
 from lvdc.sessions import Session
+from lvdc.steps import Step
 from lvdc.studies import Findings, campaign, study, study_each
 from lvdc.tables import is_admissible, is_different, is_inadmissible
-from lvdc.traces import Difference, Form, Step, Trace
+from lvdc.traces import Difference, Form, Trace
 from lvdc.uplinks import Uplink
 from lvdc.values import Address, Cell, Hop, Place, Port, Word
 from lvdc.version import __version__

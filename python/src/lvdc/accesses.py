@@ -7,7 +7,8 @@ from collections.abc import Iterator, Mapping
 from dataclasses import dataclass
 from typing import NamedTuple
 
-from lvdc.traces import Latches, MemoryExchange, Step, Trace
+from lvdc.steps import Latches, MemoryExchange, Step
+from lvdc.traces import Trace
 from lvdc.values import USED, Address
 
 HOP, MPY, SUB, DIV, TNZ, MPH, AND, ADD, TRA, XOR, PIO, STO, TMI, RSU, OTHER, CLA = range(16)

@@ -107,6 +107,12 @@ def end_of(line: re.Match[str]) -> End:
     return Done() if failed is None else DeviceFailed(int(failed), int(port, 8))
 
 
+def read_end(line: str) -> End | None:
+    """The end that a line says; None where it says none."""
+    found = END.fullmatch(line)
+    return None if found is None else end_of(found)
+
+
 @functools.lru_cache(maxsize=1 << 14)
 def verdict_of(groups: tuple[str, ...]) -> Verdict:
     """The verdict that the five groups of VERDICT say."""

@@ -2,8 +2,9 @@
 
 A text of the program is bytes. Here it is a str in which each byte that is no UTF-8 stands as a lone surrogate (`surrogateescape`),
 so that no byte is lost either way. A line ends with LF and with nothing else."""
+import operator
 import re
-from collections.abc import Callable, Iterator
+from collections.abc import Callable, Iterator, Sequence
 from typing import Any, Protocol, TypeVar
 
 from lvdc.errors import Error
@@ -34,6 +35,21 @@ def encode(text: str) -> bytes:
 def pattern(*parts: str) -> re.Pattern[str]:
     """A pattern for a whole line: its parts with single spaces between them."""
     return re.compile(" ".join(parts))
+
+
+def uncaptured(form: str) -> str:
+    """The same form without groups."""
+    return re.sub(r"\((?!\?)", "(?:", form)
+
+
+def is_all(form: re.Pattern[str], text: str) -> bool:
+    """Whether a text is nothing but what has this form, one behind the other. The form has no groups."""
+    return not text or sum(map(len, form.findall(text))) == len(text)
+
+
+def rises(keys: Sequence[Any]) -> bool:
+    """Whether each comes before the next."""
+    return all(map(operator.lt, keys, keys[1:]))
 
 
 def tokens(line: str) -> list[str]:
@@ -141,3 +157,14 @@ def rows_first(text: str, row: re.Pattern[str]) -> tuple[list[re.Match[str]], Li
         found.append(this)
         at = this.end()
     return found, Lines(text[at:], len(found))
+
+
+def first_fault(text: str, need: Callable[[Lines], None]) -> Unread:
+    """The line at fault of a text that isn't what `need` passes over, from its first line to its last."""
+    try:
+        lines = Lines(text)
+        need(lines)
+        lines.end()
+    except Unread as fault:
+        return fault
+    raise AssertionError("no line of the text is at fault")

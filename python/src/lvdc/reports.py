@@ -1,22 +1,22 @@
 """Reports of runs: how a run ended, its registers, exchanges, words, wrong counts and repairs. Each object keeps the text that it was
 read from, and `str` prints it again from what was read."""
-from collections.abc import Iterator, Mapping
+import re
+from collections.abc import Callable, Iterator, Mapping, Sequence
 from dataclasses import dataclass, field
 from enum import Enum
-from typing import Self
+from typing import Any, ClassVar, NamedTuple, Self
 
-from lvdc.ends import END, End, end_of
+from lvdc.ends import END, End, end_of, read_end
 from lvdc.frozen import Frozen
-from lvdc.lines import ADDRESS, COPY, MODULE, NUMBER, PORT, TWIN, WORD, Lines, pattern
+from lvdc.lazy import Lazy
+from lvdc.lines import ADDRESS, COPY, MODULE, NUMBER, PORT, TWIN, WORD, Lines, first_fault, is_all, pattern, rises, uncaptured
 from lvdc.tabled import html_table
 from lvdc.values import Address, Place, Port, Word
 
 PLACE = r"([0-7] (?:0[0-7]|1[0-7]) [01] [0-3][0-7]{2})"
-_TIMES = pattern("TIMES", NUMBER)
-_PLACE = pattern("PLACE", PLACE)
-_DATA = pattern("DATA", "([0-7])", "(0[0-7]|1[0-7])")
-_DUP = pattern("DUP", "([01])", "([01])")
-_REGISTER = {name: pattern(name, WORD) for name in ("A", "PQ", "SAVER")}
+_REGISTERS = {"TIMES": pattern("TIMES", NUMBER), "PLACE": pattern("PLACE", PLACE), "DATA": pattern("DATA", "([0-7])", "(0[0-7]|1[0-7])"),
+              "DUP": pattern("DUP", "([01])", "([01])"), **{name: pattern(name, WORD) for name in ("A", "PQ", "SAVER")}}
+_ALL_REGISTERS = re.compile("".join(f"{it.pattern}\n" for it in _REGISTERS.values()))
 EXCHANGE = pattern("(IN|OUT)", NUMBER, PORT, WORD)
 MEM = pattern("MEM", ADDRESS, rf"(?:{WORD}|\?)")
 _WRONG = pattern("WRONG", MODULE, COPY, "([1-9][0-9]*)")
@@ -36,6 +36,11 @@ class Kind(Enum):
 _TITLE = pattern("LVDC", "(" + "|".join(it.value for it in Kind) + ")")
 
 
+_HEAD = re.compile(rf"{_TITLE.pattern}\n(?P<end>{uncaptured(END.pattern)})\n(?P<registers>{uncaptured(_ALL_REGISTERS.pattern)})")
+_EXCHANGES, _WORDS, _WRONGS, _REPAIRS = (re.compile(uncaptured(it.pattern) + "\n") for it in (EXCHANGE, MEM, _WRONG, REPAIR))
+_ADDRESS_OF_MEM, _COPY_OF_WRONG = re.compile(f"MEM {ADDRESS}"), re.compile(f"WRONG {MODULE} {COPY}")
+
+
 @dataclass(frozen=True, slots=True)
 class Registers:
     """The registers: how many instruction times were made, the place, the data place, both DUP bits, and three words."""
@@ -53,11 +58,20 @@ class Registers:
     @classmethod
     def take(cls, lines: Lines) -> Self:
         """Reads the seven lines."""
-        times = int(lines.need(_TIMES, "TIMES")[1])
-        place = Place.read(lines.need(_PLACE, "PLACE")[1])
-        data, dup = lines.need(_DATA, "DATA"), lines.need(_DUP, "DUP")
-        a, pq, saver = (Word.read(lines.need(_REGISTER[name], name)[1]) for name in ("A", "PQ", "SAVER"))
-        return cls(times, place, int(data[1], 8), int(data[2], 8), int(dup[1]), int(dup[2]), a, pq, saver)
+        return cls._of([it for name, form in _REGISTERS.items() for it in lines.need(form, name).groups()])
+
+    @classmethod
+    def read(cls, text: str) -> Self:
+        """Reads the seven lines, which are there."""
+        found = _ALL_REGISTERS.fullmatch(text)
+        assert found is not None
+        return cls._of(found.groups())
+
+    @classmethod
+    def _of(cls, parts: Sequence[str]) -> Self:
+        """The registers of the parts of their lines."""
+        times, place, module, sector, dupin, dupdn, a, pq, saver = parts
+        return cls(int(times), Place.read(place), int(module, 8), int(sector, 8), int(dupin), int(dupdn), *map(Word.read, (a, pq, saver)))
 
     def __str__(self) -> str:
         return (f"TIMES {self.times}\nPLACE {self.place}\nDATA {self.data_module:o} {self.data_sector:02o}\nDUP {self.dupin} {self.dupdn}\n"
@@ -119,7 +133,7 @@ def mem_line(address: Address, word: Word | None) -> str:
 
 
 @dataclass(frozen=True, slots=True, repr=False)
-class Report:
+class Report(Lazy):
     """What a run comes to.
 
     `words` are those that aren't 0, by address, and None where the word can't be recovered. `wrong` has for each copy (module, copy)
@@ -133,17 +147,22 @@ class Report:
     wrong: Mapping[tuple[int, int], int]
     repairs: tuple[Repair, ...]
     text: str = field(repr=False, compare=False)
+    _makers: ClassVar[Mapping[str, Callable[[Any], Any]]] = {
+        "kind": lambda parts: Kind(parts.kind),
+        "end": lambda parts: read_end(parts.end),
+        "registers": lambda parts: Registers.read(parts.registers),
+        "exchanges": lambda parts: tuple(take_exchanges(Lines(parts.exchanges))),
+        "words": lambda parts: Frozen(dict(take_words(Lines(parts.words)))),
+        "wrong": lambda parts: Frozen(_take_wrong(Lines(parts.wrong))),
+        "repairs": lambda parts: tuple(take_repairs(Lines(parts.repairs)))}
 
     @classmethod
     def read(cls, text: str) -> Self:
         """Reads a report whole."""
-        lines = Lines(text)
-        kind = Kind(lines.need(_TITLE, "the title of a report")[1])
-        end = end_of(lines.need(END, "an END line"))
-        report = cls(kind, end, Registers.take(lines), tuple(take_exchanges(lines)), Frozen(dict(take_words(lines))),
-                     Frozen(_take_wrong(lines)), tuple(take_repairs(lines)), text)
-        lines.end()
-        return report
+        parts = _parts_of(text)
+        if parts is None:
+            raise first_fault(text, _need_report)
+        return cls._of(parts, text=text)
 
     @property
     def reads(self) -> tuple[Exchange, ...]:
@@ -207,11 +226,48 @@ class Soak:
         lines = Lines(text)
         number = int(lines.need(_SOAK, "LVDC SOAK and a number")[1])
         end = end_of(lines.need(END, "an END line"))
-        times = int(lines.need(_TIMES, "TIMES")[1])
-        a = Word.read(lines.need(_REGISTER["A"], "A")[1])
+        times = int(lines.need(_REGISTERS["TIMES"], "TIMES")[1])
+        a = Word.read(lines.need(_REGISTERS["A"], "A")[1])
         wrong, repairs = (int(lines.need(_COUNT[name], name)[1]) for name in ("WRONG", "REPAIRS"))
         lines.end()
         return cls(number, end, times, a, wrong, repairs, text)
 
     def __str__(self) -> str:
         return f"LVDC SOAK {self.number}\n{self.end}\nTIMES {self.times}\nA {self.a}\nWRONG {self.wrong}\nREPAIRS {self.repairs}\n"
+
+
+class _Parts(NamedTuple):
+    """The parts of a report, each as its text."""
+
+    kind: str
+    end: str
+    registers: str
+    exchanges: str
+    words: str
+    wrong: str
+    repairs: str
+
+
+def _parts_of(text: str) -> _Parts | None:
+    """The parts of a text, where it is a report."""
+    head = _HEAD.match(text)
+    if head is None:
+        return None
+    ends = [len(text)]
+    for word in ("REPAIR ", "WRONG ", "MEM "):
+        at = text.find(word, head.end(), ends[-1])
+        ends.append(ends[-1] if at < 0 else at)
+    exchanges, words = text[head.end():ends[3]], text[ends[3]:ends[2]]
+    wrong, repairs = text[ends[2]:ends[1]], text[ends[1]:]
+    is_report = (is_all(_EXCHANGES, exchanges) and is_all(_WORDS, words) and rises(_ADDRESS_OF_MEM.findall(words))
+                 and is_all(_WRONGS, wrong) and rises(_COPY_OF_WRONG.findall(wrong)) and is_all(_REPAIRS, repairs))
+    return _Parts(head[1], head["end"], head["registers"], exchanges, words, wrong, repairs) if is_report else None
+
+
+def _need_report(lines: Lines) -> None:
+    """Passes over the lines of a report. Raises Unread at the first that isn't due."""
+    lines.need(_TITLE, "the title of a report")
+    lines.need(END, "an END line")
+    Registers.take(lines)
+    for _ in (*take_exchanges(lines), *take_words(lines), *_take_wrong(lines), *take_repairs(lines)):
+        pass

@@ -11,7 +11,7 @@ from lvdc.lvdb.errors import CommandError
 from lvdc.lvdb.replays import Replay
 from lvdc.reports import Report
 from lvdc.saved import Saved
-from lvdc.traces import MemoryExchange, Step
+from lvdc.steps import MemoryExchange, Step
 from lvdc.values import STEPS_A_TIME, TWINS, Address, Cell, Word
 from lvdc.workers import Asker
 

@@ -11,7 +11,7 @@ from lvdc.lvdb.made import made_between
 from lvdc.lvdb.mistakes import MOST_LOOKED
 from lvdc.lvdb.show import copies_lines, made_text, place_text
 from lvdc.reports import Exchange
-from lvdc.traces import PortExchange
+from lvdc.steps import PortExchange
 from lvdc.values import STEPS_A_TIME, Address, Word
 
 _MOST_LINES = 20

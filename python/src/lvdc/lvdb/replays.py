@@ -12,7 +12,7 @@ from lvdc.lvdb.states import State
 from lvdc.lvdb.windows import Window
 from lvdc.reports import Report
 from lvdc.sessions import Answer, Copies, Instructions, Session, Words
-from lvdc.traces import MemoryExchange, Step
+from lvdc.steps import MemoryExchange, Step
 from lvdc.values import MODULES, STEPS_A_TIME, Address, Word
 from lvdc.workers import Asker
 

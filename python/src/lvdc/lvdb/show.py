@@ -7,7 +7,7 @@ from lvdc.lvdb.history import last_access
 from lvdc.lvdb.places import address_of, hop_of
 from lvdc.lvdb.session import SYLLABLE, Debugger, Stop, describe_end
 from lvdc.lvdb.states import DATA, INSTR, State, all_latches
-from lvdc.traces import MemoryExchange, Step, StepExchange
+from lvdc.steps import MemoryExchange, Step, StepExchange
 from lvdc.values import COPIES, LATCHES, NAMES, STEPS_A_TIME, Place, Word
 
 _MOST_COPIES, _PIECES_BACK = 6, 2

@@ -3,7 +3,7 @@ from collections.abc import Collection, Mapping
 from dataclasses import dataclass
 
 from lvdc.lvdb.places import hop_of, place_of
-from lvdc.traces import Latches, Step
+from lvdc.steps import Latches, Step
 from lvdc.values import LATCHES, MODULES, STEPS_A_TIME, Place, Word
 
 # The latches that a debug session shows as registers, by their names there.

@@ -6,7 +6,8 @@ from functools import cached_property
 from itertools import pairwise
 
 from lvdc.ends import End
-from lvdc.traces import Latches, Step, Trace
+from lvdc.steps import Latches, Step
+from lvdc.traces import Trace
 from lvdc.values import MODULES, Word
 
 _TITLE = "LVDC TRACE\n"
