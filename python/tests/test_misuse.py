@@ -118,6 +118,7 @@ MISUSES: list[tuple[Callable[[], Any], str]] = [
     (lambda: kinds.pairs([3, 2]), "the steps rise"),
     (lambda: kinds.flips([0], modules=[8]), "a module is 1 to 7, not 8"),
     (lambda: kinds.flips([0], modules=[3], latches=[1]), "there is no latch 1"),
+    (lambda: kinds.flips([0], copies=[4]), "a copy is 1 to 3, not 4"),
     (lambda: kinds.flips([0], modules=[3], bits=[20]), "all_bits=True has the bits 0 to 25"),
     (lambda: kinds.pairs([0]).drawn(-1), "a count of scripts is 0"),
     (lambda: kinds.pairs([0]).drawn(5, seed="x"), "a seed is a whole number"),  # type: ignore[arg-type]

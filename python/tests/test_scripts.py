@@ -41,6 +41,14 @@ def test_flips_go_by_steps_modules_latches_copies_and_bits() -> None:
     assert len(flips(range(42), all_bits=True)) == 42 * 3 * 15 * 26
 
 
+@pytest.mark.parametrize("kind", [flips([0, 2_999_999], all_bits=True), pairs([7])], ids=["flips", "pairs"])
+def test_the_text_of_flips_is_that_of_their_faults(kind: Scripts) -> None:
+    for script in kind:
+        made = Script(script.faults, script.about)
+        assert script == made and str(script) == str(made)
+        assert set(script.first_steps) == set(made.first_steps)
+
+
 def test_pairs_hurt_two_copies_of_a_latch() -> None:
     assert [it.faults for it in pairs([4], modules=[3], bits=[9])][2] == (Flip(3, 2, 4, 4, 0, 512), Flip(3, 3, 4, 4, 0, 512))
 

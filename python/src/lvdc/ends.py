@@ -4,7 +4,7 @@ import re
 from dataclasses import dataclass
 from typing import TypeAlias
 
-from lvdc.lines import ADDRESS, MODULE, NUMBER, PORT
+from lvdc.lines import ADDRESS, MODULE, NUMBER, PORT, uncaptured
 from lvdc.values import Address
 
 
@@ -93,8 +93,7 @@ End: TypeAlias = Done | Stopped | Inadmissible | DeviceFailed
 
 END = re.compile(
     rf"END (?:DONE|STOPPED {NUMBER} (SHIFT|EXM|MEMORY {ADDRESS})|INADMISSIBLE {NUMBER} (?:LOGIC {MODULE}|MEMORY {ADDRESS})|DEVICE {NUMBER} {PORT})")
-VERDICT = rf"(ADMISSIBLE|LOGIC {NUMBER} {MODULE}|MEMORY {NUMBER} {ADDRESS})"
-GROUPS_OF_VERDICT = 5
+VERDICT = uncaptured(rf"(ADMISSIBLE|LOGIC {NUMBER} {MODULE}|MEMORY {NUMBER} {ADDRESS})")
 
 
 def end_of(line: re.Match[str]) -> End:
@@ -114,9 +113,9 @@ def read_end(line: str) -> End | None:
 
 
 @functools.lru_cache(maxsize=1 << 14)
-def verdict_of(groups: tuple[str, ...]) -> Verdict:
-    """The verdict that the five groups of VERDICT say."""
-    _, logic, module, memory, address = groups
-    if logic is not None:
-        return Logic(int(logic), int(module))
-    return ADMISSIBLE if memory is None else Memory(int(memory), Address.read(address))
+def verdict_of(text: str) -> Verdict:
+    """The verdict that a text of the form VERDICT says; the same few are read again and again."""
+    word, *rest = text.split(" ", 2)
+    if word == "LOGIC":
+        return Logic(int(rest[0]), int(rest[1]))
+    return Memory(int(rest[0]), Address.read(rest[1])) if word == "MEMORY" else ADMISSIBLE

@@ -184,6 +184,11 @@ CopyFault: TypeAlias = Flip | Force | Lag | Deaf
 MemoryFault: TypeAlias = Damage | Stick | Dead
 
 
+def first_step(fault: Fault) -> int:
+    """The step at which a fault begins to act."""
+    return fault.step if isinstance(fault, Damage) else fault.first
+
+
 def _octal(most: int) -> tuple[str, int]:
     """The form of an octal number of at most so many digits."""
     return f"[0-7]{{1,{most}}}", 8

@@ -1,4 +1,4 @@
-"""Objects that are made of a text, each field of them when it is first looked at."""
+"""Objects of which each field is made when it is first looked at."""
 import gc
 from collections.abc import Callable, Iterable, Mapping
 from typing import TYPE_CHECKING, Any, ClassVar, Self, TypeVar
@@ -19,35 +19,52 @@ def made_of(make: Callable[[Given], Made], given: Iterable[Given]) -> tuple[Made
 
 
 class Lazy:
-    """What a text was read into. `_found` is what was found in the text, and `_makers` says how each field that isn't there yet is made of
-    it. A dataclass beside it has the fields, `text` among them, and a classmethod `read`, by which it is pickled and copied."""
+    """What keeps in `_found` what it is to be made of; `_makers` says how each field that isn't there yet is made of that. A dataclass beside
+    it has the fields; an object that is made of these has nothing else."""
 
     __slots__ = ("_found",)
     _found: Any
     _makers: ClassVar[Mapping[str, Callable[[Any], Any]]] = {}
 
     @classmethod
-    def _of(cls, found: object, **fields: object) -> Self:
-        """An object of what was found in its text, with the fields that are there at once."""
+    def _of(cls, found: object) -> Self:
+        """An object that is to be made of this."""
         made = cls.__new__(cls)
         object.__setattr__(made, "_found", found)
-        for name, value in fields.items():
-            object.__setattr__(made, name, value)
         return made
 
-    def _is_read(self) -> bool:
-        """Whether it was read from its text, and not made of its fields."""
-        return hasattr(self, "_found")
+    def _is_made_of_fields(self) -> bool:
+        """Whether all fields were given."""
+        return self._found is None
 
     if not TYPE_CHECKING:
         def __getattr__(self, name: str) -> Any:
-            """A field that isn't there yet."""
+            """A field that isn't there yet; of an object that is made of its fields nothing is to be made."""
+            if name == "_found":
+                return None
             if name not in self._makers:
                 raise AttributeError(f"{type(self).__name__!r} object has no attribute {name!r}")
             value = self._makers[name](self._found)
             object.__setattr__(self, name, value)
             return value
 
+
+class Read(Lazy):
+    """What a text was read into, of the parts that were found in it. The dataclass has the text as its field `text`, and reads it by `read`;
+    where it was read it is pickled and copied as that."""
+
+    __slots__ = ()
+
+    @classmethod
+    def _of_text(cls, text: str, found: object, **fields: object) -> Self:
+        """What a text was read into, with the fields that are there at once."""
+        made = cls._of(found)
+        object.__setattr__(made, "text", text)
+        for name, value in fields.items():
+            object.__setattr__(made, name, value)
+        return made
+
+    if not TYPE_CHECKING:
         def __reduce_ex__(self, protocol: int) -> Any:
-            """One that was read is its text."""
-            return (type(self).read, (self.text,)) if self._is_read() else super().__reduce_ex__(protocol)
+            """How it is pickled and copied."""
+            return super().__reduce_ex__(protocol) if self._is_made_of_fields() else (type(self).read, (self.text,))

@@ -149,12 +149,17 @@ class Lines:
         return Unread(self._before + self._next, self._lines[self._next - 1], wanted)
 
 
-def rows_first(text: str, row: re.Pattern[str]) -> tuple[list[re.Match[str]], Lines]:
-    """The rows of a text that begins with any number of them, found in one pass, and the lines behind them. The pattern ends with LF."""
-    found: list[re.Match[str]] = []
-    match, at = row.match, 0
-    while (this := match(text, at)) is not None:
-        found.append(this)
+def rows_first(text: str, row: re.Pattern[str]) -> tuple[list[tuple[str, ...]], Lines]:
+    """The parts of the rows of a text that begins with any number of them, and the lines behind these. The pattern has groups, and is that of
+    a whole line with its LF; all lines but the last are read in one pass, where they are rows."""
+    last = text.rfind("\n", 0, -1) + 1
+    if row.match(text, last) is None:
+        found = row.findall(text, 0, last)
+        if len(found) == text.count("\n", 0, last):
+            return found, Lines(text[last:], len(found))
+    found, at = [], 0
+    while (this := row.match(text, at)) is not None:
+        found.append(this.groups())
         at = this.end()
     return found, Lines(text[at:], len(found))
 

@@ -8,7 +8,7 @@ from typing import Any, ClassVar, NamedTuple, Self
 
 from lvdc.ends import END, End, end_of, read_end
 from lvdc.frozen import Frozen
-from lvdc.lazy import Lazy
+from lvdc.lazy import Read
 from lvdc.lines import ADDRESS, COPY, MODULE, NUMBER, PORT, TWIN, WORD, Lines, first_fault, is_all, pattern, rises, uncaptured
 from lvdc.tabled import html_table
 from lvdc.values import Address, Place, Port, Word
@@ -133,7 +133,7 @@ def mem_line(address: Address, word: Word | None) -> str:
 
 
 @dataclass(frozen=True, slots=True, repr=False)
-class Report(Lazy):
+class Report(Read):
     """What a run comes to.
 
     `words` are those that aren't 0, by address, and None where the word can't be recovered. `wrong` has for each copy (module, copy)
@@ -162,7 +162,7 @@ class Report(Lazy):
         parts = _parts_of(text)
         if parts is None:
             raise first_fault(text, _need_report)
-        return cls._of(parts, text=text)
+        return cls._of_text(text, parts)
 
     @property
     def reads(self) -> tuple[Exchange, ...]:

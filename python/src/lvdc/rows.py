@@ -6,16 +6,17 @@ from collections.abc import Iterable, Iterator, Sequence
 from dataclasses import dataclass, field, replace
 from typing import Self, TypeAlias
 
-from lvdc.ends import GROUPS_OF_VERDICT, VERDICT, Verdict, verdict_of
-from lvdc.lines import ADDRESS, NUMBER, Lines, pattern, rows_first
+from lvdc.ends import VERDICT, Verdict, verdict_of
+from lvdc.lines import ADDRESS, NUMBER, Lines, pattern, rows_first, uncaptured
 from lvdc.scripts import Script
 from lvdc.values import Address
 
 _NAME = "([A-Z][A-Z0-9]{0,7})"
-_CAMPAIGN_ROW = pattern("SCRIPT", _NAME, VERDICT, "(SAME|DIFFERS)\n")
+_CAMPAIGN_ROW = re.compile(f"^SCRIPT {_NAME} ({VERDICT}) (SAME|DIFFERS)\n", re.MULTILINE)
 _CAMPAIGN_TOTAL = pattern("CAMPAIGN", NUMBER, "ADMISSIBLE", NUMBER, "SAME", NUMBER)
-_OUTCOME = rf"(SAME|DIFFERS (?:END|PORT {NUMBER}|REGISTERS|WORDS {ADDRESS}))"
-_STUDY_ROW = pattern("SCRIPT", _NAME, VERDICT, _OUTCOME, "COPIES", NUMBER, "REPAIRS", NUMBER, f"(?:-|{NUMBER})", "FORM", "(YES|NO)\n")
+_OUTCOME = uncaptured(f"SAME|DIFFERS (?:END|PORT {NUMBER}|REGISTERS|WORDS {ADDRESS})")
+_STUDY_ROW = re.compile(
+    f"^SCRIPT {_NAME} ({VERDICT}) ({_OUTCOME}) COPIES {NUMBER} REPAIRS {NUMBER} (-|{uncaptured(NUMBER)}) FORM (YES|NO)\n", re.MULTILINE)
 _STUDY_TOTAL = pattern("STUDY", NUMBER, "ADMISSIBLE", NUMBER, "SAME", NUMBER, "FORM", NUMBER)
 
 
@@ -168,7 +169,7 @@ def each_row(text: str) -> Iterator[Row]:
     form = _STUDY_ROW if is_study else _CAMPAIGN_ROW
     at = count = 0
     while (found := form.match(text, at)) is not None:
-        yield _study_row(found, None) if is_study else _campaign_row(found, None)
+        yield _study_row(found.groups(), None) if is_study else _campaign_row(found.groups(), None)
         at, count = found.end(), count + 1
     lines = Lines(text[at:], count)
     if lines.may(_STUDY_TOTAL) is None:
@@ -183,24 +184,25 @@ def _known_scripts(count: int, scripts: Sequence[Script], lines: Lines) -> Itera
     return scripts or itertools.repeat(None, count)
 
 
-def _campaign_row(found: re.Match[str], script: Script | None) -> CampaignRow:
+def _campaign_row(parts: tuple[str, ...], script: Script | None) -> CampaignRow:
     """A row of a campaign."""
-    name, *groups = found.groups()
-    verdict, same = verdict_of(tuple(groups[:GROUPS_OF_VERDICT])), groups[GROUPS_OF_VERDICT]
-    return CampaignRow(name, verdict, SAME if same == "SAME" else DIFFERS, script)
+    name, verdict, outcome = parts
+    return CampaignRow(name, verdict_of(verdict), SAME if outcome == "SAME" else DIFFERS, script)
 
 
-def _study_row(found: re.Match[str], script: Script | None) -> StudyRow:
+def _study_row(parts: tuple[str, ...], script: Script | None) -> StudyRow:
     """A row of a study."""
-    name, *groups = found.groups()
-    outcome, time, address, copies, repairs, first, form = groups[GROUPS_OF_VERDICT:]
-    return StudyRow(name, verdict_of(tuple(groups[:GROUPS_OF_VERDICT])), _outcome(outcome, time, address), int(copies), int(repairs),
-                    None if first is None else int(first), form == "YES", script)
+    name, verdict, outcome, copies, repairs, first, form = parts
+    return StudyRow(name, verdict_of(verdict), _outcome(outcome), int(copies), int(repairs), None if first == "-" else int(first), form == "YES",
+                    script)
 
 
 @functools.lru_cache(maxsize=1 << 12)
-def _outcome(text: str, time: str | None, address: str | None) -> Outcome:
+def _outcome(text: str) -> Outcome:
     """The outcome of a row of a study."""
     if text == "SAME":
         return SAME
-    return Differs(text.split(" ")[1], None if time is None else int(time), None if address is None else Address.read(address))
+    _, what, *at = text.split(" ", 2)
+    if not at:
+        return Differs(what)
+    return Differs(what, int(at[0])) if what == "PORT" else Differs(what, None, Address.read(at[0]))

@@ -10,7 +10,6 @@ from typing import TYPE_CHECKING, Any, Generic, TypeVar, overload
 from lvdc.commands import answer, asker, run
 from lvdc.decks import Deck, campaign_text
 from lvdc.ends import Done, End
-from lvdc.faults import Damage, Fault
 from lvdc.intervals import Share
 from lvdc.journals import Journal
 from lvdc.lines import encode
@@ -217,11 +216,6 @@ def name_of(index: int) -> str:
     return f"{LETTERS[letter]}{number:07d}"
 
 
-def first_step(fault: Fault) -> int:
-    """The step at which a fault begins to act."""
-    return fault.step if isinstance(fault, Damage) else fault.first
-
-
 def _most(at_once: int, limit: int) -> int:
     """How many scripts a request has at most."""
     check("at_once", at_once, 1 << 31, 1)
@@ -260,7 +254,7 @@ class _Asked:
             if end is None:
                 end = run(replace(self.deck, faults=(), commands=None), plain=True, worker=self.worker).end
                 made = asked if isinstance(end, Done) else end.step + 1
-            steps = [first_step(it) for it in script.faults]
+            steps = script.first_steps
             if steps and (min(steps) >= made or max(steps) >= asked):
                 step = min(steps) if min(steps) >= made else max(steps)
                 stops = "" if isinstance(end, Done) else f" and ends with {end}"
@@ -346,13 +340,15 @@ def pieces(deck: Deck, scripts: Iterable[Script], most: int, begin: int = 0) -> 
     piece: list[Script] = []
     faults = size = 0
     for index, script in enumerate(scripts, begin):
-        part = f"SCRIPT {name_of(index)}\n{script}"
-        if piece and (len(piece) == most or faults + len(script.faults) > MOST_FAULTS or size + len(part) > room):
+        part = str(script)
+        count = part.count("\n")
+        part = f"SCRIPT {name_of(index)}\n{part}"
+        if piece and (len(piece) == most or faults + count > MOST_FAULTS or size + len(part) > room):
             yield head + "".join(parts), piece
             faults, size, parts, piece = 0, 0, [], []
         parts.append(part)
         piece.append(script)
-        faults += len(script.faults)
+        faults += count
         size += len(part)
     if piece:
         yield head + "".join(parts), piece

@@ -7,7 +7,7 @@ from typing import TYPE_CHECKING, Any, ClassVar, Self, overload
 
 from lvdc.ends import END, End, read_end
 from lvdc.frozen import Frozen
-from lvdc.lazy import Lazy, made_of
+from lvdc.lazy import Read, made_of
 from lvdc.lines import Lines, first_fault, is_all, pattern
 from lvdc.steps import COLUMNS, STEP, STEP_FORM, Latches, MemoryExchange, Step, StepExchange, need_steps, record_of, step_of
 from lvdc.tabled import html_table
@@ -42,7 +42,7 @@ class Difference:
 
 
 @dataclass(frozen=True, slots=True, repr=False)
-class Trace(Lazy, Sequence[Step]):
+class Trace(Read, Sequence[Step]):
     """The steps that were asked for, as far as they were made. `end` is None where the run goes on after them. A trace is a sequence of its
     steps: it has a length, and `trace[0]` is the first one. A step is made when it is looked at; `steps` makes and keeps all of them.
 
@@ -68,7 +68,7 @@ class Trace(Lazy, Sequence[Step]):
         texts = steps.split(STEP)[1:]
         if found is None or not (is_all(STEP_FORM, steps) and _follow(texts) and _MORE_OR_END.fullmatch(end) and text[-1] == "\n"):
             raise first_fault(text, _need_trace)
-        return cls._of(texts, is_through=found[1] is not None, end=read_end(end), text=text)
+        return cls._of_text(text, texts, is_through=found[1] is not None, end=read_end(end))
 
     @classmethod
     def joined(cls, parts: Sequence[Self]) -> Self:
@@ -86,7 +86,7 @@ class Trace(Lazy, Sequence[Step]):
         return cls.read(f"{_title(parts[0].is_through)}{''.join(STEP + it for it in texts)}{end}\n")
 
     def __len__(self) -> int:
-        return len(self._found) if self._is_read() else len(self.steps)
+        return len(self.steps if self._is_made_of_fields() else self._found)
 
     @overload
     def __getitem__(self, at: int) -> Step:
@@ -97,12 +97,12 @@ class Trace(Lazy, Sequence[Step]):
         """Those of these numbers."""
 
     def __getitem__(self, at: int | slice) -> Step | tuple[Step, ...]:
-        if not self._is_read():
+        if self._is_made_of_fields():
             return self.steps[at]
         return tuple(map(step_of, self._found[at])) if isinstance(at, slice) else step_of(self._found[at])
 
     def __iter__(self) -> Iterator[Step]:
-        return map(step_of, self._found) if self._is_read() else iter(self.steps)
+        return iter(self.steps) if self._is_made_of_fields() else map(step_of, self._found)
 
     def votes(self) -> Iterator[tuple[Step, dict[int, Latches]]]:
         """Each step with the votes of all modules after it: those that it tells, and else those that were told last."""
@@ -148,7 +148,7 @@ class Trace(Lazy, Sequence[Step]):
 
     def _texts(self) -> list[str]:
         """The text of each step from its number on."""
-        return list(self._found) if self._is_read() else [str(it).removeprefix(STEP) for it in self.steps]
+        return [str(it).removeprefix(STEP) for it in self.steps] if self._is_made_of_fields() else list(self._found)
 
 
 class _Stored:

@@ -2,12 +2,13 @@
 import itertools
 import random
 from abc import ABC, abstractmethod
-from collections.abc import Callable, Iterable, Iterator, Mapping
+from collections.abc import Callable, Iterable, Iterator, Mapping, Sequence
 from dataclasses import dataclass, field
-from typing import TypeAlias
+from typing import Any, ClassVar, TypeAlias
 
 from lvdc.decks import Deck
-from lvdc.faults import END_OF_STEPS, Fault
+from lvdc.faults import END_OF_STEPS, Fault, first_step
+from lvdc.lazy import Lazy
 from lvdc.populations import Population
 from lvdc.values import check
 
@@ -17,7 +18,7 @@ Steps: TypeAlias = Deck | Iterable[int]
 
 
 @dataclass(frozen=True, slots=True)
-class Script:
+class Script(Lazy):
     """Faults, and what they were made from.
 
     >>> from lvdc import Flip, Script
@@ -27,12 +28,22 @@ class Script:
 
     faults: tuple[Fault, ...]
     about: Mapping[str, int | str] = field(default_factory=dict)
+    _makers: ClassVar[Mapping[str, Callable[[Any], Any]]] = {
+        "faults": lambda of: of.kind.faults_of(of.step, of.number), "about": lambda of: of.kind.about_of(of.step, of.number)}
+
+    @property
+    def first_steps(self) -> Sequence[int]:
+        """The steps at which its faults begin to act, those of several at one step once or more."""
+        return [first_step(it) for it in self.faults] if self._is_made_of_fields() else (self._found.step,)
 
     def __hash__(self) -> int:
         return hash(self.faults)
 
     def __str__(self) -> str:
-        return "".join([f"{it}\n" for it in self.faults])
+        if self._is_made_of_fields():
+            return "".join([f"{it}\n" for it in self.faults])
+        text: str = self._found.kind.text_of(self._found.step, self._found.number)
+        return text
 
 
 class Drawable(ABC):
@@ -166,8 +177,13 @@ class ByStep(Indexed):
 
 def drawn_by(kind: Drawable, seed: int) -> Iterator[Script]:
     """Scripts that are drawn from a kind with a seed, without an end."""
-    chance = random.Random(seed)
-    return (kind.draw(lambda end: int(chance.random() * end)) for _ in itertools.count())
+    chance = random.Random(seed).random
+
+    def below(end: int) -> int:
+        """A number below another one."""
+        return int(chance() * end)
+
+    return map(kind.draw, itertools.repeat(below))
 
 
 def steps_of(steps: Steps) -> list[int]:

@@ -1,8 +1,8 @@
 """Kinds of one fault, and of one fault alike in two copies."""
 from collections.abc import Callable, Iterable, Iterator, Sequence
-from functools import partial
-from itertools import combinations, groupby, product
-from typing import TypeAlias, TypeVar
+from functools import cached_property, partial
+from itertools import chain, combinations, groupby, product
+from typing import NamedTuple, TypeAlias, TypeVar
 
 from lvdc.decks import Deck
 from lvdc.faults import Damage, Dead, Deaf, Fault, Flip, Force, Lag, Stick
@@ -15,6 +15,7 @@ Second = TypeVar("Second")
 Third = TypeVar("Third")
 SINGLE_COPIES: tuple[tuple[int, ...], ...] = ((1,), (2,), (3,))
 PAIRS_OF_COPIES: tuple[tuple[int, ...], ...] = ((1, 2), (1, 3), (2, 3))
+_STEP = "@"  # stands in a text where the step does
 MOST_LATCHES = max(map(len, LATCHES.values()))
 
 
@@ -33,6 +34,8 @@ class Flips(ByStep):
         self.made = [(module, latch, group, bit) for (module, latch), them in groupby(self.places, lambda it: it[:2])
                      for group, (_, _, bit) in product(range(len(self.groups)), list(them))]
         self.each_step = len(self.made)
+        for copy in chain.from_iterable(self.groups):
+            check("a copy", copy, 4, 1)
         in_pairs = any(len(it) > 1 for it in self.groups)
         self.kind = ("pair of flips" if in_pairs else "flip") + " of all bits" * all_bits
         self.each = (f"{'the same' if in_pairs else 'one'} {'bit of all 26' if all_bits else 'used bit'} of one latch turned over in "
@@ -40,9 +43,35 @@ class Flips(ByStep):
 
     def at(self, step: int, index: int) -> Script:
         """The script of this number at a step."""
+        return Script._of(_Numbered(self, step, index))
+
+    def faults_of(self, step: int, index: int) -> tuple[Fault, ...]:
+        """Its faults."""
         module, latch, group, bit = self.made[index]
-        faults = tuple([Flip(module, copy, step, step, latch, 1 << bit) for copy in self.groups[group]])
-        return Script(faults, {"kind": self.kind, "module": module, "latch": latch, "copy": self._names[group], "step": step, "bit": bit})
+        return tuple([Flip(module, copy, step, step, latch, 1 << bit) for copy in self.groups[group]])
+
+    def about_of(self, step: int, index: int) -> About:
+        """What it is made from."""
+        module, latch, group, bit = self.made[index]
+        return {"kind": self.kind, "module": module, "latch": latch, "copy": self._names[group], "step": step, "bit": bit}
+
+    def text_of(self, step: int, index: int) -> str:
+        """Its text."""
+        return self._texts[index].replace(_STEP, str(step))
+
+    @cached_property
+    def _texts(self) -> list[str]:
+        """The text of each script of a step, but for that step."""
+        return ["".join(f"FLIP {module} {copy} {_STEP} {_STEP} {latch} {Word(1 << bit)}\n" for copy in self.groups[group])
+                for module, latch, group, bit in self.made]
+
+
+class _Numbered(NamedTuple):
+    """The script of a number at a step."""
+
+    kind: Flips
+    step: int
+    number: int
 
 
 class Lasting(ByStep):
