@@ -22,7 +22,7 @@ struct lvdc_reply {
     char *text;
 };
 
-/* Starts the program at this path. */
+/* Starts the program at this path, with pipes that block: to a worker a stream that doesn't is one that fails when it would wait. */
 static int lvdc_start(struct lvdc_worker *worker, const char *program)
 {
     int to[2], from[2];

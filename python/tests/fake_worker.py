@@ -27,6 +27,8 @@ def answer(words: list[str], given: bytes, log: str | None) -> tuple[int, bytes]
             return int(number), given
         case ["sleep", seconds]:
             time.sleep(float(seconds))
+        case ["blocking"]:
+            return 0, repr([os.get_blocking(stream) for stream in (0, 1)]).encode()
         case ["die"]:
             os._exit(3)
         case ["die", "once"] if log and sum(1 for _ in open(log, encoding="ascii")) == 1:

@@ -29,6 +29,11 @@ def test_one_process_answers_many_requests(fake: Worker, program: Path) -> None:
     assert starts(program) == 1
 
 
+def test_the_streams_of_a_worker_block(fake: Worker) -> None:
+    """One that doesn't block is a read or a write that fails, where nothing is there or there is no room."""
+    assert fake.ask(["blocking"]).text == b"[True, True]"
+
+
 def test_a_worker_that_has_gone_is_started_again(fake: Worker, program: Path) -> None:
     assert fake.ask(["die", "once"]).text == b"done\n"
     assert starts(program) == 2

@@ -205,6 +205,7 @@ class Worker:
         except OSError as error:
             raise NoWorker(f"{self.program} can't be started: {error.strerror}") from error
         assert process.stdin is not None and process.stdout is not None
+        # these ends alone: the worker's own ends block, or a wait would be a failure to it
         os.set_blocking(process.stdin.fileno(), False)
         os.set_blocking(process.stdout.fileno(), False)
         started.process, started.owner = process, os.getpid()
