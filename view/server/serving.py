@@ -140,6 +140,7 @@ class Server:
 
     def __init__(self, port: int, files: dict[str, File], pool: Pool, token: str | None = None) -> None:
         self._listener = socket.create_server((ADDRESS, port), backlog=WAITING_TO_CONNECT)
+        self._is_over = False
         self.files, self.asker = files, Asker(pool)
         self.gate = Gate(self._listener.getsockname()[1], token or secrets.token_urlsafe(BYTES_OF_TOKEN))
         # files don't wait for questions
@@ -153,6 +154,7 @@ class Server:
         return self
 
     def __exit__(self, *_: object) -> None:
+        self._is_over = True
         self._listener.close()
 
     @property
@@ -161,10 +163,15 @@ class Server:
         return f"http://{ADDRESS}:{self.gate.port}/{self.gate.token}/"
 
     def serve_forever(self) -> None:
-        """Takes requests until the program ends."""
+        """Takes requests until the program or the server ends."""
         gathering = Gathering(self._listener, self._hand_on)
-        while True:
-            gathering.go_on()
+        while not self._is_over:
+            try:
+                gathering.go_on()
+            except (OSError, ValueError):
+                # a listener that was closed can't be looked at
+                if not self._is_over:
+                    raise
 
     def _hand_on(self, connection: socket.socket, came: bytes) -> None:
         """Lets a request wait for a thread, or turns it away."""

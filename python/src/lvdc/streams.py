@@ -1,7 +1,9 @@
 """Standard streams that may be closed or full, and files and lines that may be of any size."""
+import contextlib
 import io
 import os
 import sys
+from collections.abc import Iterator
 from pathlib import Path
 from typing import TextIO
 
@@ -37,6 +39,26 @@ def complain(text: object) -> None:
         print(text, file=sys.stderr, flush=True)
     except OSError:
         os.dup2(os.open(os.devnull, os.O_WRONLY), sys.stderr.fileno())
+
+
+@contextlib.contextmanager
+def telling(name: str) -> Iterator[None]:
+    """Around all that a script does: where what it tells can't be written, it ends with status 1, and with a sentence where somebody may read
+    it; of a reader that has gone it says nothing."""
+    if sys.stdout is None:
+        open_streams()
+        complain(f"{name}: what is told can't be written: standard output is closed")
+        sys.exit(1)
+    try:
+        yield
+        sys.stdout.flush()
+    except OSError as error:
+        if error.filename is not None:
+            raise
+        drop_output()
+        if not isinstance(error, BrokenPipeError):
+            complain(f"{name}: what is told can't be written: {error.strerror}")
+        sys.exit(1)
 
 
 def read_file(path: Path) -> bytes:
