@@ -1,9 +1,9 @@
 // The plain and the voted machine in straightforward C, to be timed beside the proved program, and to be changed token by token by
 // conformance/mutants. It was written from docs/MACHINE.md and docs/FORMATS.md alone, and proves nothing.
 //
-//   peer run | run --through | run --plain | save N | resume | trace [--through] FIRST COUNT  < INPUT
+//   peer run | run --through | run --plain | save N | resume | trace [--through] FIRST COUNT | form | campaign | study  < INPUT
 //
-// conformance/c/adapter.c reads decks and saved texts for it and writes what it answers; what the two don't cover has the status 64.
+// Without words it answers frames. conformance/c/adapter.c reads decks and saved texts for it and writes what it answers; what the two don't cover has the status 64.
 // bench/check-peer holds it against the conformance cases. Guarded, a step is judged by the machine's own votes, cells and words.
 #include "../conformance/c/adapter.h"
 #include <stdlib.h>

@@ -7,6 +7,7 @@
 
 enum { NONE = -1, NOT_COVERED = 64, MOST_TIMES = 1000000, LAST_STEP = 2999999, MOST_EVENTS = 65536, MOST_ORDERS = 16, LONGEST_LINE = 120, MOST_TOKENS = 64 };
 enum { MOST_INPUT = 1048576, MOST_SAVED = 134217728, LONGEST_FRAME = 255 };
+enum { MOST_SCRIPTS = 256, MOST_SCRIPTS_OF_A_STUDY = 65536, MOST_TIMES_OF_A_CAMPAIGN = 10000, MOST_ASKED = 100000000, NAMES = 1 << 17 };
 enum { PLACE_FIELDS = 0377776004, DATA_FIELDS = 01772 };
 enum { IMAGE, START, SIMPLEX, PORTS, FAULTS, ORDER, RUN, DEBUG, SECTIONS };
 
@@ -30,7 +31,7 @@ static int token_count;
 static FILE *out;
 
 // What a deck or a saved text says beside the board, the devices, the log and the repairs.
-static int count, run_line, order_count, unplugged[LVDC_PORTS], unplug_count, unplugs[LVDC_PORTS];
+static int count, run_line, heading_lines[SECTIONS], order_count, unplugged[LVDC_PORTS], unplug_count, unplugs[LVDC_PORTS];
 static char orders[MOST_ORDERS][LVDC_COPIES + 1];
 static words_list held[LVDC_PORTS];
 static port_line *port_lines;
@@ -403,6 +404,7 @@ static int read_sections(void)
         if (word == SECTIONS) { status = read_section_line(section); continue; }
         if (word <= section) return refuse(2, "BadSection", line_number);
         section = word;
+        heading_lines[section] = line_number;
         status = read_heading(section);
     }
     if (status == 0 && count == NONE) return refuse(2, "BadSection", line_number + 1);
@@ -912,6 +914,7 @@ static void clear(void)
     memset(&lvdc, 0, sizeof lvdc);
     log_size = repair_count = order_count = unplug_count = 0;
     count = run_line = NONE;
+    memset(heading_lines, 0, sizeof heading_lines);
     free(port_lines);
     free(repairs);
     port_lines = NULL;
@@ -977,6 +980,259 @@ static int answer_save(int times)
     return lvdc.end ? put_report("LVDC RUN\n", 0) : put_saved();
 }
 
+// ---- Forms
+
+// Does an event act in the run at all?
+static int begins(const struct lvdc_event *e) { return e->first < 3 * count; }
+
+static int bits_of(uint32_t half) { return __builtin_popcount(half & 037777); }
+
+static int is_of_a_cell(const struct lvdc_event *e) { return e->kind == LVDC_DAMAGE || e->kind == LVDC_STICK; }
+
+// May two events both stand in a script of a form: 0, or the condition that they don't meet?
+static int condition_of_two(const struct lvdc_event *a, const struct lvdc_event *b)
+{
+    if (a->kind <= LVDC_DEAF && b->kind <= LVDC_DEAF)
+        return a->copy / 3 == b->copy / 3 && a->copy != b->copy && a->first <= b->last && b->first <= a->last ? 1 : 0;
+    if (a->kind <= LVDC_DEAF || b->kind <= LVDC_DEAF) return 0;
+    if (is_of_a_cell(a) && is_of_a_cell(b)) return a->place == b->place ? 3 : 0;
+    return a->place >> 12 == b->place >> 12 && a->twin != b->twin ? 4 : 0;
+}
+
+// May an event stand in a script of a form: 0, or the least condition that it doesn't meet?
+static int condition_of_one(const struct lvdc_event *e)
+{
+    int low = bits_of(e->mask), high = bits_of(e->mask >> 14);
+    if (e->kind <= LVDC_DEAF) return 0;
+    if (lvdc.simplex[e->place >> 12]) return 2;
+    if (e->kind == LVDC_DAMAGE) return (low | high) & 1 ? 0 : 3;
+    if (e->kind == LVDC_STICK) return low > 1 || high > 1 ? 3 : 0;
+    return e->last < 3 * count - 1 ? 4 : 0;
+}
+
+static int lesser(int one, int other) { return one == 0 || (other && other < one) ? other : one; }
+
+// The least condition that the script doesn't meet; 0 where it masks by form.
+static int unmet_condition(void)
+{
+    int least = 0;
+    for (struct lvdc_event *e = lvdc.events; e < lvdc.events + lvdc.event_count; e++) {
+        if (!begins(e)) continue;
+        least = lesser(least, condition_of_one(e));
+        for (struct lvdc_event *other = lvdc.events; other < e; other++)
+            if (begins(other)) least = lesser(least, condition_of_two(e, other));
+    }
+    return least;
+}
+
+static int answer_form(void)
+{
+    load_word = voted->load;
+    int status = read_deck();
+    if (status) return status;
+    int least = unmet_condition();
+    put(least ? "FORM NO %d\n" : "FORM YES\n", least);
+    return 0;
+}
+
+// ---- Campaigns and studies
+
+typedef struct { char name[9]; int first, size; } script;
+typedef struct { int end, step, log_size; port_line *log; uint32_t registers[4], words[LVDC_BANKS][LVDC_WORDS]; } result;
+
+static script *scripts;
+static struct lvdc_event *script_events;
+static int script_count, script_event_count;
+static uint64_t names[NAMES];
+
+// Goes behind the line CAMPAIGN; where that line begins, or where the input ends.
+static size_t find_campaign(void)
+{
+    int has_end = 0;
+    size_t at = input_at;
+    for (; next_line(); at = input_at) {
+        cut_tokens();
+        if (has_end && line.length <= LONGEST_LINE && token_count == 1 && is_word(0, "CAMPAIGN")) return at;
+        if (token_count == 1 && is_word(0, "END")) has_end = 1;
+    }
+    return input_size;
+}
+
+// Keeps the name of a script; false where it is none, or known.
+static int keep_name(span name)
+{
+    uint64_t key = 0, at;
+    if (name.length > 8 || name.text[0] < 'A' || name.text[0] > 'Z') return 0;
+    for (int i = 0; i < name.length; i++) {
+        if (!((name.text[i] >= 'A' && name.text[i] <= 'Z') || (name.text[i] >= '0' && name.text[i] <= '9'))) return 0;
+        key = key << 8 | (unsigned char)name.text[i];
+    }
+    for (at = key * 0x9e3779b97f4a7c15 >> 47; names[at]; at = (at + 1) % NAMES) if (names[at] == key) return 0;
+    names[at] = key;
+    return 1;
+}
+
+static int read_scripts(int most)
+{
+    struct lvdc_event e;
+    script_count = script_event_count = 0;
+    memset(names, 0, sizeof names);
+    while (next_line()) {
+        cut_tokens();
+        if (line.length > LONGEST_LINE) return refuse(2, "BadLine", line_number);
+        if (is_skipped()) continue;
+        if (is_word(0, "SCRIPT")) {
+            if (token_count != 2 || !keep_name(tokens[1])) return refuse(2, "BadLine", line_number);
+            if (script_count == most) return refuse(2, "TooManyScripts", line_number);
+            scripts = grown(scripts, script_count, sizeof *scripts);
+            script *s = &scripts[script_count++];
+            memset(s, 0, sizeof *s);
+            memcpy(s->name, tokens[1].text, (size_t)tokens[1].length);
+            s->first = script_event_count;
+            continue;
+        }
+        if (script_count == 0 || !read_event(&e)) return refuse(2, "BadLine", line_number);
+        if (script_event_count == MOST_EVENTS) return refuse(2, "TooManyEvents", line_number);
+        script_events = grown(script_events, script_event_count, sizeof *script_events);
+        script_events[script_event_count++] = e;
+        scripts[script_count - 1].size++;
+    }
+    return 0;
+}
+
+// Reads a campaign or a study, whose deck ends at a place: 0, or the status of a refusal.
+static int read_campaign(int is_study, size_t *deck_end)
+{
+    size_t size = input_size, behind;
+    int found = 0, number;
+    *deck_end = find_campaign();
+    behind = input_at;
+    number = line_number;
+    read_from(input, *deck_end);
+    load_word = voted->load;
+    int status = read_deck();
+    if (status) return status;
+    for (int section = PORTS; section <= DEBUG; section++)
+        if (heading_lines[section] && (section == FAULTS || section == DEBUG || (section == PORTS && !is_study)) && (!found || heading_lines[section] < found))
+            found = heading_lines[section];
+    if (found) return refuse(2, "BadSection", found);
+    if (!is_study && count > MOST_TIMES_OF_A_CAMPAIGN) return refuse(2, "CountTooLarge", run_line);
+    input_size = size;
+    input_at = behind;
+    line_number = number;
+    if (*deck_end == size) return refuse(2, "BadSection", number + 1);
+    status = read_scripts(is_study ? MOST_SCRIPTS_OF_A_STUDY : MOST_SCRIPTS);
+    if (status == 0 && is_study && (int64_t)count * script_count > MOST_ASKED) return refuse(2, "CountTooLarge", run_line);
+    return status;
+}
+
+// Makes all ready for a run of the deck that ends at a place, under a script or none.
+static void open_run(size_t deck_end, const script *s, int is_study, void (*load)(int, int, uint32_t))
+{
+    clear();
+    load_word = load;
+    read_from(input, deck_end);
+    read_deck();
+    for (int i = 0; s && i < s->size; i++) add_event(script_events[s->first + i]);
+    for (int port = 0; !is_study && port < LVDC_PORTS; port++) unplugged[port] = 0;
+}
+
+static void run_healthy(size_t deck_end, int is_study, result *healthy)
+{
+    static const int which[] = {LVDC_A, LVDC_PQ, LVDC_SAVER, LVDC_PLACE};
+    open_run(deck_end, NULL, is_study, plain->load);
+    start_plain();
+    run_plain(count);
+    healthy->end = lvdc.end;
+    healthy->step = lvdc.steps;
+    healthy->log_size = log_size;
+    healthy->log = port_lines;
+    port_lines = NULL;
+    for (int i = 0; i < 4; i++) healthy->registers[i] = register_of(which[i], 1);
+    for (int bank = 0; bank < LVDC_BANKS; bank++) for (int at = 0; at < LVDC_WORDS; at++) healthy->words[bank][at] = plain->word(bank, at);
+}
+
+static int time_in(const port_line *log, int size, int index) { return index < size ? log[index].time : INT32_MAX; }
+
+// Puts what the run through every fault has come to otherwise than the healthy one; true where that is nothing.
+static int put_outcome(const result *healthy, int is_study)
+{
+    static const int which[] = {LVDC_A, LVDC_PQ, LVDC_SAVER, LVDC_PLACE};
+    int index = 0, bank = 0, at = 0, registers = 1;
+    const char *differs = is_study ? " DIFFERS " : " DIFFERS";
+    if (lvdc.end != healthy->end || (lvdc.end != LVDC_GOES_ON && lvdc.steps != healthy->step)) {
+        put_text(differs);
+        if (is_study) put_text("END");
+        return 0;
+    }
+    while (index < log_size && index < healthy->log_size && memcmp(&port_lines[index], &healthy->log[index], sizeof *port_lines) == 0) index++;
+    if (index < log_size || index < healthy->log_size) {
+        int one = time_in(port_lines, log_size, index), other = time_in(healthy->log, healthy->log_size, index);
+        put_text(differs);
+        if (is_study) put("PORT %d", one < other ? one : other);
+        return 0;
+    }
+    for (int i = 0; i < 4; i++) registers &= register_of(which[i], 0) == healthy->registers[i];
+    if (!registers) {
+        put_text(differs);
+        if (is_study) put_text("REGISTERS");
+        return 0;
+    }
+    for (bank = 0; bank < LVDC_BANKS; bank++)
+        for (at = 0; at < LVDC_WORDS && is_bank(bank); at++)
+            if (voted->word(bank, at) != healthy->words[bank][at]) {
+                put_text(differs);
+                if (is_study) { put_text("WORDS "); put_place(bank, at); }
+                return 0;
+            }
+    put_text(" SAME");
+    return 1;
+}
+
+// Puts the row of a script, and adds what it is to the counts: admissible, the same, masking by form.
+static void put_row(size_t deck_end, const script *s, int is_study, const result *healthy, int *counts)
+{
+    open_run(deck_end, s, is_study, voted->load);
+    start_voted(0);
+    run_voted(LVDC_GUARDED, 3 * count);
+    put_text("SCRIPT ");
+    put_text(s->name);
+    if (lvdc.end == LVDC_BAD_LOGIC) put(" LOGIC %d %d", lvdc.steps, lvdc.end_module);
+    else if (lvdc.end == LVDC_BAD_MEMORY) { put(" MEMORY %d ", lvdc.steps); put_place(lvdc.end_bank, lvdc.end_at); }
+    else { put_text(" ADMISSIBLE"); counts[0]++; }
+    open_run(deck_end, s, is_study, voted->load);
+    start_voted(0);
+    run_voted(LVDC_THROUGH, 3 * count);
+    counts[1] += put_outcome(healthy, is_study);
+    if (is_study) {
+        uint32_t differed = 0;
+        int masks = unmet_condition() == 0;
+        for (int copy = 0; copy < LVDC_COPIES; copy++) differed += voted->count(copy);
+        put(" COPIES %d REPAIRS %d ", differed, repair_count);
+        if (repair_count) put("%d", repairs[0].step); else put("-");
+        put_text(masks ? " FORM YES" : " FORM NO");
+        counts[2] += masks;
+    }
+    put("\n");
+}
+
+static int answer_campaign(int is_study)
+{
+    static result healthy;
+    size_t deck_end;
+    int counts[3] = {0};
+    int status = read_campaign(is_study, &deck_end);
+    if (status) return status;
+    int asked = script_count;
+    run_healthy(deck_end, is_study, &healthy);
+    for (int i = 0; i < asked; i++) put_row(deck_end, &scripts[i], is_study, &healthy, counts);
+    free(healthy.log);
+    put(is_study ? "STUDY %d ADMISSIBLE %d SAME %d" : "CAMPAIGN %d ADMISSIBLE %d SAME %d", asked, counts[0], counts[1]);
+    if (is_study) put(" FORM %d", counts[2]);
+    put("\n");
+    return 0;
+}
+
 static int is(int words, char **word, int size, const char *first, const char *second)
 {
     return words == size && strcmp(word[0], first) == 0 && (!second || strcmp(word[1], second) == 0);
@@ -1012,6 +1268,8 @@ static int answer(int words, char **word)
     if (is(words, word, 2, "run", "--through"))
         return voted ? answer_voted("LVDC THROUGH\n", LVDC_THROUGH, NONE, 0, 0) : answer_plain("LVDC THROUGH\n", 0);
     if (!voted) return NOT_COVERED;
+    if (is(words, word, 1, "form", NULL)) return answer_form();
+    if (is(words, word, 1, "campaign", NULL) || is(words, word, 1, "study", NULL)) return plain ? answer_campaign(word[0][0] == 's') : NOT_COVERED;
     if (strcmp(word[0], "trace") == 0) return answer_trace(words, word, 0);
     if (strcmp(word[0], "whole") == 0) return answer_trace(words, word, 1);
     if (is(words, word, 1, "resume", NULL)) return answer_saved();

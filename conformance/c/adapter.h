@@ -1,6 +1,6 @@
 // What a core of the machine offers, so that adapter.c makes a program of it which the suite can try: the adapter reads decks and saved
-// texts and refuses them, has the devices, and writes reports, traces, registers and saved texts. Written from docs/MACHINE.md and
-// docs/FORMATS.md; it proves nothing.
+// texts and refuses them, has the devices, and writes reports, traces, registers, saved texts and the rows of campaigns and studies. Written from
+// docs/MACHINE.md and docs/FORMATS.md; it proves nothing.
 //
 // A core of one copy offers `struct lvdc_core`, one of 21 copies `struct lvdc_voted` beside it. bare.c is a core of the first sort.
 #ifndef LVDC_ADAPTER_H
