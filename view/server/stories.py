@@ -4,14 +4,14 @@ import itertools
 from typing import TypeAlias
 
 from lvdc.commands import ask, trace
-from lvdc.decks import Deck, Source, Tape
+from lvdc.decks import Deck, Source
 from lvdc.ends import Inadmissible
 from lvdc.faults import Damage, Fault, Flip
-from lvdc.refusals import NotACommand
 from lvdc.reports import Report
+from lvdc.rows import Differs, StudyRow
 from lvdc.scripts import Script
-from lvdc.studies import campaign, study
-from lvdc.steps import MemoryExchange, PortExchange, Step
+from lvdc.steps import MemoryExchange, Step
+from lvdc.studies import study
 from lvdc.traces import Trace
 from lvdc.values import COPIES, MODULES
 
@@ -22,10 +22,22 @@ MOST_MOMENTS = 9
 MOST_TIMES_ANSWERED = 1000
 STEPS_AFTER = 12
 ACCUMULATOR, DECODER = 5, 3
+MOST_STEPS_TRIED = 40
 
-# The latch of each module in which a visitor's fault turns over a bit, and the mask of that bit.
-HURTS = {1: (0, 0o1), 2: (0, 0o2000), 3: (0, 0o1), 4: (0, 0o10), 5: (0, 0o20), 6: (0, 0o1), 7: (1, 0o1)}
+# The lies that a copy of each module can tell: a latch, and the bits of it that are turned over. A multiplier that is idle can be made to land a
+# product. view/page/js/lab/hurts.js has the same.
+LIES = {
+    1: [(0, 0o1), (0, 0o2), (1, 0o1)], 2: [(0, 0o2000), (0, 0o4000), (0, 0o2000000), (1, 0o2000)],
+    3: [(0, 0o1000), (0, 0o2000), (0, 0o4000), (0, 0o1)], 4: [(0, 0o10), (0, 0o400)],
+    5: [(0, 0o10), (0, 0o20), (1, 0o10), (0, 0o100), (1, 0o100)],
+    6: [(0, 0o100), (3, 0o1), (4, 0o100), (1, 0o6), (1, 0o12), (1, 0o36), (1, 0o62)], 7: [(1, 0o1), (1, 0o3), (0, 0o1)]}
 CELL_MASK = 1
+
+# how much of a difference is seen; where there is none, nothing
+SEEN = {"PORT": 3, "END": 2}
+
+# a lie: a latch, and the mask of its bits
+Lie: TypeAlias = tuple[int, int]
 
 
 def run_texts(deck: Deck, steps: int, through: bool = False) -> Texts:
@@ -46,15 +58,40 @@ def through_texts(deck: Deck, report: str, steps: int) -> Texts | None:
 
 # ---- answers
 
-def flip(module: int, copy: int, step: int) -> Flip:
-    """A visitor's fault: a bit of a copy is turned over in one step."""
-    latch, mask = HURTS[module]
-    return Flip(module, copy, step, step, latch, mask)
+def flip(module: int, copy: int, step: int, lie: Lie) -> Flip:
+    """A visitor's fault: a copy tells a lie in one step."""
+    return Flip(module, copy, step, step, *lie)
 
 
-def scripts_at(step: int) -> list[Script]:
-    """Each copy alone, and then each two, that are wrong in a step."""
-    faults = [flip(module, copy, step) for module in MODULES for copy in COPIES]
+def seen(row: StudyRow) -> int:
+    """How much is seen of what a script changed: most, where another word goes out."""
+    return SEEN.get(row.outcome.what or "", 1) if isinstance(row.outcome, Differs) else 0
+
+
+def marks_at(deck: Deck, step: int) -> dict[int, dict[Lie, int]]:
+    """Of each module how much is seen of each lie in a step, where two copies tell it."""
+    asked = [(module, lie) for module in MODULES for lie in LIES[module]]
+    rows = study(deck, [Script((flip(module, 1, step, lie), flip(module, 2, step, lie))) for module, lie in asked], progress=False)
+    marks: dict[int, dict[Lie, int]] = {module: {} for module in MODULES}
+    for (module, lie), row in zip(asked, rows):
+        marks[module][lie] = seen(row)
+    return marks
+
+
+def lies_at(deck: Deck, step: int) -> dict[int, Lie]:
+    """Of each module the lie that is seen best in a step; of those that are seen as well the first."""
+    return {module: max(marks, key=marks.__getitem__) for module, marks in marks_at(deck, step).items()}
+
+
+def are_all_seen(deck: Deck, step: int) -> bool:
+    """Whether of each module there is a lie by which another word goes out."""
+    return all(max(marks.values()) == SEEN["PORT"] for marks in marks_at(deck, step).values())
+
+
+def scripts_at(deck: Deck, step: int) -> list[Script]:
+    """Each copy alone, and then each two, that lie in a step."""
+    lies = lies_at(deck, step)
+    faults = [flip(module, copy, step, lies[module]) for module in MODULES for copy in COPIES]
     return [Script((it,)) for it in faults] + [Script(it) for it in itertools.combinations(faults, 2)]
 
 
@@ -68,34 +105,27 @@ def moments_of(told: Trace, chosen: int | None) -> list[int]:
     return sorted(steps)
 
 
-def needs_devices(deck: Deck, told: Trace) -> bool:
-    """Whether a run depends on what stands at the ports."""
-    reads = any(isinstance(it.exchange, PortExchange) and it.exchange.kind == "IN" for it in told.steps)
-    return reads or any(isinstance(it, Tape) for it in deck.ports)
-
-
 def answers_of(deck: Deck, told: Trace, chosen: int | None) -> Texts | None:
-    """The rows of all single and double faults at some steps; none where the run is long, or needs devices and the worker has no study."""
+    """The rows of all single and double faults at some steps; none where the run is long."""
     steps = moments_of(told, chosen)
     if deck.count > MOST_TIMES_ANSWERED or not steps:
         return None
-    scripts = [script for step in steps for script in scripts_at(step)]
-    try:
-        rows = "".join(f"{it}\n" for it in study(deck, scripts, progress=False))
-    except NotACommand:
-        if needs_devices(deck, told):
-            return None
-        rows = "".join(f"{it}\n" for it in campaign(deck, scripts, progress=False))
-    return {"steps": list(steps), "rows": rows}
+    scripts = [script for step in steps for script in scripts_at(deck, step)]
+    return {"steps": list(steps), "rows": "".join(f"{it}\n" for it in study(deck, scripts, progress=False))}
 
 
 def turns_of(deck: Deck, step: int) -> Texts:
-    """What happens in a step where a visitor has hurt one or two copies: the trace of the step through every fault, by the copies."""
-    found: Texts = {}
-    for script in scripts_at(step):
-        key = " ".join(f"{it.module}-{it.copy}" for it in script.faults if isinstance(it, Flip))
-        found[key] = ask(["trace", "--through", str(step), "1"], deck.with_faults(*script.faults))
-    return found
+    """What happens where a visitor has hurt one or two copies in a step, by the copies: the trace of the step through every fault, and where two
+    are of one module, the report of the run through every fault."""
+    traces: Texts = {}
+    reports: Texts = {}
+    for script in scripts_at(deck, step):
+        copies = [it for it in script.faults if isinstance(it, Flip)]
+        key, hurt = " ".join(f"{it.module}-{it.copy}" for it in copies), deck.with_faults(*copies)
+        traces[key] = ask(["trace", "--through", str(step), "1"], hurt)
+        if len(copies) > len({it.module for it in copies}):
+            reports[key] = ask(["run", "--through"], hurt)
+    return {"traces": traces, "reports": reports}
 
 
 # ---- the story of a kiosk
@@ -105,13 +135,13 @@ def changes(step: Step, module: int) -> bool:
     return step.number > 2 and module in step.votes
 
 
-def chosen_step(told: Trace) -> tuple[int, int] | None:
-    """The module and the step that the story hurts: the accumulator where it first has another number, else the decoder."""
+def chosen_step(deck: Deck, told: Trace) -> tuple[int, int] | None:
+    """The module and the step that the story hurts, which is a visitor's turn too: the accumulator, else the decoder, where it changes and lies of
+    all modules are seen; else where it first changes."""
     for module in (ACCUMULATOR, DECODER):
-        later = (it.number for it in told.steps if changes(it, module) and (module != ACCUMULATOR or it.phase == "C"))
-        found = next(later, None)
-        if found is not None:
-            return module, found
+        steps = [it.number for it in told.steps if changes(it, module)][:MOST_STEPS_TRIED]
+        if steps:
+            return module, next((it for it in steps if are_all_seen(deck, it)), steps[0])
     return None
 
 
@@ -136,12 +166,13 @@ def chapter(deck: Deck, faults: list[Fault], step: int) -> Texts:
 
 def story_of(deck: Deck, told: Trace) -> Texts | None:
     """A wrong copy, two wrong copies, a damaged cell; none where the program is too short for it."""
-    chosen, damage = chosen_step(told), damage_of(deck, told)
+    chosen, damage = chosen_step(deck, told), damage_of(deck, told)
     if chosen is None or damage is None:
         return None
     module, step = chosen
-    return {"one": chapter(deck, [flip(module, 2, step)], step), "two": chapter(deck, [flip(module, 1, step), flip(module, 2, step)], step),
-            "cell": chapter(deck, [damage], damage.step), "step": step}
+    lie = lies_at(deck, step)[module]
+    one, other = flip(module, 1, step, lie), flip(module, 2, step, lie)
+    return {"one": chapter(deck, [other], step), "two": chapter(deck, [one, other], step), "cell": chapter(deck, [damage], damage.step), "step": step}
 
 
 def exhibit_of(name: str, text: str, steps: int, answers: bool) -> Texts:

@@ -11,7 +11,7 @@ from tally import expect
 
 HERE = pathlib.Path(__file__).resolve().parent.parent / "page"
 PAGE = HERE / "index.html"
-DRAWN_DECKS = 300
+DRAWN_DECKS, FEW_DECKS = 300, 60
 
 WHOLE = "Every result is exactly that of a healthy machine. That is proved, not tested."
 LOST = "All that was sent out, and every word that can still be read, is exactly that of a healthy machine. That is proved, not tested."
@@ -131,24 +131,25 @@ def drawn_fault(draw: random.Random) -> str:
                         f"STICK {place} {last} {bits} 0", f"DEAD {draw.randrange(2)} 0 {first} {last}"])
 
 
-def try_drawn(page: Browser, worker: str) -> None:
+def try_drawn(page: Browser, worker: str, count: int) -> None:
     """Decks with up to five faults; all kinds of claims come among them."""
     kinds: dict[str, int] = {}
-    for number in range(DRAWN_DECKS):
+    for number in range(count):
         draw = random.Random(number)
         faults = [drawn_fault(draw) for _ in range(draw.choice([0, 1, 1, 2, 3, 4, 5]))]
         case = answers(worker, deck_of(draw.choice(["done", "done", *LASTS]), faults))
         try_case(page, f"drawn deck {number}", case)
         kinds[due(case)[1]] = kinds.get(due(case)[1], 0) + 1
+    print(f"view: claims of {count} drawn decks by what is due: " + ", ".join(f"{kind} {many}" for kind, many in sorted(kinds.items())))
     expect("claims: kinds among the drawn decks", sorted(kinds), ["always", "healthy", "logic", "memory", "so-far", "this-time"])
 
 
-def try_claims(page: Browser, worker: str) -> None:
+def try_claims(page: Browser, worker: str, is_whole: bool) -> None:
     """All of it, on a page that has the lab's judgement too."""
     page.open(PAGE)
     for path in LAB_SCRIPTS:
         page.run(f"{(HERE / path).read_text()}; 0")
     page.run(f"globalThis.SAYS = {SAYS}; 0")
     try_ends(page, worker)
-    try_drawn(page, worker)
+    try_drawn(page, worker, DRAWN_DECKS if is_whole else FEW_DECKS)
     expect("claims: faults of the page", page.faults(), [])

@@ -13,16 +13,17 @@ from typing import Any, TypeAlias
 import expected
 from browser import Browser
 from claims import try_claims
+from measures import FEW_SIZES, FINE, SIZES, measures
 from tally import expect
+from visitors import ALL_TEXTS, unreadable
 
 HERE = pathlib.Path(__file__).resolve().parent.parent
 EXAMPLES = HERE.parent / "examples"
 TOOL = HERE / "exhibit"
 WITH_ANSWERS = [HERE / "kiosk.deck", EXAMPLES / "two-wrong-copies.deck"]
 WIDTHS = [320, 390, 768, 1366, 1920]
-LEAST_TARGET = 44
-SIZES_OF_KIOSK = [(390, 844), (1024, 768), (1366, 768), (1080, 1920), (1920, 1080)]
 SCREENS = 5
+LANGUAGES = ["en", "de", "fr"]
 COPIES = [f"{module}-{copy}" for module in range(1, 8) for copy in range(1, 4)]
 
 # an exhibit's texts, as they stand in its file
@@ -144,6 +145,7 @@ def is_shown(words: list[str], shown: Texts) -> bool:
 def try_steps(page: Browser, name: str, texts: Texts) -> None:
     """Goes through all steps: each is as the trace says, and every fault is seen where it acts."""
     told = expected.steps(texts["trace"])
+    page.run(click(".octal-button"))
     moments = page.run(MOMENTS)
     for at, shown in enumerate(moments):
         shown["last"] = moments[-1]["step"]
@@ -343,17 +345,10 @@ def try_letters(path: pathlib.Path) -> None:
 
 # ---- the kiosk
 
-# It scrolls, or a sentence of a moment lies over the drawing.
-OVERFLOWS = """(() => {
-    const { scrollWidth, scrollHeight } = document.documentElement;
-    const drawn = Math.max(...[...document.querySelectorAll('.board .card')].map((it) => it.getBoundingClientRect().bottom));
-    const told = document.querySelector('.happens');
-    const { top, bottom } = told.checkVisibility() ? told.getBoundingClientRect() : { top: innerHeight, bottom: 0 };
-    return scrollHeight > innerHeight || scrollWidth > innerWidth || drawn > top + 1 || bottom > innerHeight;
-})()"""
-SMALL = f"""[...document.querySelectorAll('button')]
-    .filter((it) => getComputedStyle(it).display !== 'none' && getComputedStyle(it).visibility !== 'hidden')
-    .map((it) => [it.textContent, Math.min(it.offsetWidth, it.offsetHeight)]).filter(([, size]) => size < {LEAST_TARGET})"""
+_TEXTS = ".kiosk h1, .kiosk h2, .kiosk h3, .kiosk p:not(.buttons), .kiosk li, .kiosk button, .board text"
+_APART = ".kiosk h1, .kiosk h2, .kiosk h3, .kiosk p:not(.buttons), .kiosk li, .kiosk button, .board .name, .board .value"
+MEASURES = measures(_TEXTS, _APART, "button")
+LAMPS_TOO = measures(_TEXTS, _APART, "button, .board .light .hit")
 WAYS_OUT = "document.querySelectorAll('a, iframe, form, select, textarea, input:not([type=range])').length"
 
 
@@ -367,10 +362,65 @@ def try_screens(page: Browser, path: pathlib.Path, language: str, width: int, he
         page.until("new Promise((done) => requestAnimationFrame(() => requestAnimationFrame(() => done(true))))")
         expect(f"{name}: the heading and the history", [words(page, ".kiosk-text h2"), words(page, ".history")],
                [told[f"kiosk.{screen}.title"], told["history"]])
-        expect(f"{name}: fits", page.run(OVERFLOWS), False)
-        expect(f"{name}: small targets, ways out, parts without a name", [page.run(SMALL), page.run(WAYS_OUT), page.run(UNNAMED)], [[], 0, 0])
+        expect(f"{name}: its measures", page.run(LAMPS_TOO if screen == SCREENS else MEASURES), FINE)
+        expect(f"{name}: ways out, parts without a name", [page.run(WAYS_OUT), page.run(UNNAMED)], [0, 0])
         if screen < SCREENS:
             page.run(click(".next"))
+
+
+# What stands on a screen of the kiosk at each of its moments.
+ALL_MOMENTS = f"""(() => {{
+    const slider = document.querySelector('.kiosk .steps');
+    const found = new Set([{ALL_TEXTS}]);
+    for (let step = Number(slider.min); step <= Number(slider.max); step += 1) {{
+        slider.value = step;
+        slider.dispatchEvent(new Event('input'));
+        found.add({ALL_TEXTS});
+    }}
+    return [...found].join(' | ');
+}})()"""
+
+
+def try_readable(page: Browser, path: pathlib.Path, language: str) -> None:
+    """No screen has anything that visitors can't read, at any of its moments, nor after a visitor's turn."""
+    opened(page, path, f"kiosk={language}")
+    for screen in range(1, SCREENS + 1):
+        expect(f"kiosk, {language}, screen {screen}: what visitors can't read", unreadable(page.run(ALL_MOMENTS)), [])
+        page.run("document.querySelector('.kiosk-text .large')?.click()")
+        expect(f"kiosk, {language}, screen {screen}, asked: what visitors can't read", unreadable(page.run(ALL_MOMENTS)), [])
+        if screen < SCREENS:
+            page.run(click(".next"))
+    page.run(press(3, 1))
+    page.run(press(3, 2))
+    expect(f"kiosk, {language}: after a turn: what visitors can't read", unreadable(page.run(ALL_TEXTS)), [])
+
+
+def told_numbers(sentence: str) -> list[list[str]]:
+    """The numbers that would have been sent, and those that are right, as a sentence tells them."""
+    told = re.fullmatch(r"Had it gone on, it would have sent (.*)\. Right is (.*)\.", sentence)
+    return [it.split(", ") for it in told.groups()] if told else []
+
+
+def numbers_due(texts: Texts, pair: str) -> list[list[str]]:
+    """The same by the reports: up to the first number that is another one, or that isn't there; nothing where all are the same."""
+    reports = [texts["story"]["turns"]["reports"][pair], texts["healthy"]["report"]]
+    wrong, right = ([expected.decimal(it.split()[3]) for it in report.split("\n") if it.startswith("OUT ")] + ["nothing more"] for report in reports)
+    at = next((at for at, (one, other) in enumerate(zip(wrong, right)) if one != other), None)
+    return [] if at is None else [it[max(0, at - 2):at + 1] for it in (wrong, right)]
+
+
+def try_turns(page: Browser, path: pathlib.Path, texts: Texts) -> None:
+    """Each two copies of a module, in a visitor's turn: other numbers would have been sent, and they are told."""
+    opened(page, path, "kiosk")
+    for _ in range(SCREENS - 1):
+        page.run(click(".next"))
+    for module, (one, other) in itertools.product(range(1, 8), itertools.combinations((1, 2, 3), 2)):
+        page.run(press(module, one))
+        page.run(press(module, other))
+        told = words(page, ".kiosk-text .side-by-text p:nth-of-type(2)")
+        due = numbers_due(texts, f"{module}-{one} {module}-{other}")
+        expect(f"kiosk: copies {one} and {other} of module {module}", [told_numbers(told), "at wrong times" in told], [due, not due])
+        page.run(click(".kiosk-text .large"))
 
 
 def try_story(page: Browser, path: pathlib.Path, texts: Texts) -> None:
@@ -391,8 +441,8 @@ def try_story(page: Browser, path: pathlib.Path, texts: Texts) -> None:
         expect(f"kiosk: faults that screen {screen} doesn't show", [it for it in faults if not is_shown(it, shown)], [])
         if chapter == "two":
             page.run(click(".kiosk-text .large"))
-            first = expected.first_wrong(texts["healthy"]["trace"], texts["story"]["two"]["through"])
-            expect("kiosk: the first wrong result", words(page, ".first-wrong-row td:first-child").split(" ")[0], str(first))
+            pair = " ".join(f"{it[1]}-{it[2]}" for it in faults)
+            expect("kiosk: what two wrong copies would have sent", told_numbers(words(page, ".kiosk-text .sentence")), numbers_due(texts, pair))
 
 
 # The lamps that aren't well.
@@ -462,10 +512,14 @@ def try_walk(page: Browser, path: pathlib.Path) -> None:
     expect("kiosk by keys: faults of the page", page.faults() + page.strangers(), [])
 
 
-def try_kiosk(page: Browser, path: pathlib.Path, texts: Texts) -> None:
-    """The kiosk."""
-    for language, (width, height) in itertools.product(("en", "de"), SIZES_OF_KIOSK):
+def try_kiosk(page: Browser, path: pathlib.Path, texts: Texts, is_whole: bool) -> None:
+    """The kiosk; at all sizes where the whole is wanted."""
+    for language, (width, height) in itertools.product(LANGUAGES, SIZES if is_whole else FEW_SIZES):
         try_screens(page, path, language, width, height)
+    page.size(1366, 768)
+    for language in LANGUAGES:
+        try_readable(page, path, language)
+    try_turns(page, path, texts)
     try_story(page, path, texts)
     try_visitor(page, path)
     try_walk(page, path)
@@ -483,8 +537,8 @@ def try_refusals(worker: str) -> None:
         expect(f"view/exhibit {deck}", told, [1, "", True])
 
 
-def try_all(page: Browser, worker: str, folder: pathlib.Path) -> None:
-    """All exhibits of the examples, and what a visitor does with two of them."""
+def try_all(page: Browser, worker: str, folder: pathlib.Path, is_whole: bool) -> None:
+    """All exhibits of the examples, and what a visitor does with two of them; at all sizes and over more decks where the whole is wanted."""
     decks = [*WITH_ANSWERS, *(it for it in sorted(EXAMPLES.glob("*.deck")) if can_run(it) and it not in WITH_ANSWERS)]
     with concurrent.futures.ThreadPoolExecutor(max_workers=4) as pool:
         paths = list(pool.map(lambda deck: made(deck, worker, folder), decks))
@@ -497,6 +551,6 @@ def try_all(page: Browser, worker: str, folder: pathlib.Path) -> None:
     try_sizes(page, paths[1])
     try_motion(page, kiosk)
     try_letters(kiosk)
-    try_kiosk(page, kiosk, texts[0])
-    try_claims(page, worker)
+    try_kiosk(page, kiosk, texts[0], is_whole)
+    try_claims(page, worker, is_whole)
     try_refusals(worker)

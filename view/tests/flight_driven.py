@@ -9,57 +9,27 @@ import time
 import lvdc
 from lab_driven import Visitor
 from lab_running import Lab, Tally
+from measures import FEW_SIZES, FINE, SIZES, measures
+from visitors import ALL_TEXTS, unreadable
 from lvdc.workers import Worker
 
-FEW_SIZES = [(390, 844), (1366, 768)]
-SIZES = [*FEW_SIZES, (844, 390), (1024, 768), (1080, 1920), (1920, 1080), (3840, 2160)]
-LEAST_TARGET = 44
-LETTERS_IN_HEIGHT = 60
 SECONDS_TO_MOVE = 0.2
 SECONDS_TO_A_FAULT = 10
 STEPS_OF_A_SECOND = 60
 STEPS_OF_A_STRIKE = 90
 OPENING_STEP = 61
 STEPS_TRIED = range(OPENING_STEP, OPENING_STEP + STEPS_OF_A_SECOND, 10)
-DRAWN_STRIKES = 40
+DRAWN_STRIKES, FEW_STRIKES = 300, 40
 STORY = 5
 PAIRS = [(module, pair) for module in range(1, 8) for pair in itertools.combinations((1, 2, 3), 2)]
 PROVED = "Proved: every word that it sends"
 PROVED_UNTIL = "Proved: up to here"
-MNEMONICS = "CLA ADD SUB RSU STO PIO MPY MPH DIV AND XOR TRA TMI TNZ HOP CDS SHF EXM".split()
-NOT_FOR_VISITORS = re.compile(r"\b[0-7]{9}\b|\b[0-7] [0-7]{2} [0-7]{3}\b|\b(" + "|".join(MNEMONICS) + r")\b|\.(deck|js|html|txt)\b")
 
 # What stands on the page, with the language's own words for nothing but what is shown.
 TEXT = "document.body.innerText"
 
-# What is wrong with the page's measures: what is cut off, lies outside of the window, is too small, or lies over something else.
-MEASURES = """(() => {
-    const shown = (it) => it.checkVisibility() && getComputedStyle(it).visibility !== 'hidden' && it.offsetWidth !== 1;
-    const root = document.querySelector('dialog[open]') ?? document.body;
-    const all = (query) => [...root.querySelectorAll(query)].filter(shown);
-    const named = (it) => it.id || it.className || it.tagName;
-    const box = (it) => it.getBoundingClientRect();
-    const leaves = all('h1, h2, p, button, .says, .number, .voter, .value, .port').filter((it) => it.textContent.trim());
-    const words = (it) => { const range = document.createRange(); range.selectNodeContents(it); return range.getBoundingClientRect(); };
-    const outside = leaves.filter((it) => { const { left, top, right, bottom } = words(it);
-        return left < -1 || top < -1 || right > innerWidth + 1 || bottom > innerHeight + 1; });
-    const isCut = (own, text) => text.width > own.width + 2 || text.height > own.height + 4;
-    const cut = leaves.filter((it) => isCut(box(it), words(it))).map((it) => `${named(it)}: ${it.textContent.slice(0, 30)}`);
-    const small = all('button').filter((it) => Math.min(box(it).width, box(it).height) < TARGET - 0.5);
-    const low = leaves.filter((it) => parseFloat(getComputedStyle(it).fontSize) < innerHeight / LETTERS - 0.05);
-    const single = all('h1, h2, #verdict, #more, button:not(.copy), .says, .voter, .value, .port, .angle').filter((it) => it.textContent.trim());
-    const over = [];
-    single.forEach((one, at) => single.slice(at + 1).forEach((other) => {
-        if (one.contains(other) || other.contains(one)) return;
-        const [a, b] = [words(one), words(other)];
-        if (Math.min(a.right, b.right) - Math.max(a.left, b.left) > 2 && Math.min(a.bottom, b.bottom) - Math.max(a.top, b.top) > 2) {
-            over.push(`${named(one)} and ${named(other)}`);
-        }
-    }));
-    const scrolls = [document.documentElement, root].some((it) => it.scrollWidth > it.clientWidth + 1 || it.scrollHeight > it.clientHeight + 1);
-    return { outside: outside.map(named), cut, small: small.map(named), low: low.map(named), over, scrolls };
-})()""".replace("TARGET", str(LEAST_TARGET)).replace("LETTERS", str(LETTERS_IN_HEIGHT))
-FINE = {"outside": [], "cut": [], "small": [], "low": [], "over": [], "scrolls": False}
+MEASURES = measures("h1, h2, p, button, .says, .number, .voter, .value, .port",
+                    "h1, h2, #verdict, #more, button:not(.copy), .says, .voter, .value, .port, .angle", "button")
 
 # All that a visitor can change.
 CONTROLS = """[document.documentElement.lang, document.getElementById('sound').ariaPressed, document.getElementById('told').open, flight.alone,
@@ -122,10 +92,10 @@ def try_pairs(page: Guest, tally: Tally, worker: Worker, deck: str) -> None:
     tally.expect(f"{len(STEPS_TRIED) * len(PAIRS)} pairs of lies that change no word", same, [])
 
 
-def try_claims(page: Guest, tally: Tally, worker: Worker) -> None:
+def try_claims(page: Guest, tally: Tally, worker: Worker, count: int) -> None:
     """Whatever is struck, what is said of it agrees with the report of the same deck."""
-    kinds = set()
-    for number in range(DRAWN_STRIKES):
+    kinds: dict[str, int] = {}
+    for number in range(count):
         draw = random.Random(number)
         first = draw.randrange(1, 3000)
         parts = [{"twin": draw.randrange(2)} if draw.randrange(5) == 0 else {"module": draw.randint(1, 7), "copy": draw.randint(1, 3)}
@@ -139,13 +109,14 @@ def try_claims(page: Guest, tally: Tally, worker: Worker) -> None:
         text, kind, words = said
         report = lvdc.run(text, worker=worker)
         is_done, is_ended = isinstance(report.end, lvdc.Done), isinstance(report.end, lvdc.Inadmissible)
-        kinds.add(kind)
+        kinds[kind] = kinds.get(kind, 0) + 1
         tally.expect(f"drawn strike {number}: what is claimed", [PROVED in words, PROVED_UNTIL in words], [is_done and not report.lost, is_ended])
         healthy = words_of(lvdc.run(lvdc.Deck.read(text).with_faults(), worker=worker))
         through = words_of(lvdc.run(text, through=True, worker=worker))
         due = ("broke" if through != healthy else "luck") if is_ended else "flew"
         tally.expect(f"drawn strike {number}: its kind", kind, due)
-    tally.expect("kinds of what was drawn", {"flew", "broke"} <= kinds, True)
+    print(f"flight: claims of {count} drawn strikes: " + ", ".join(f"{kind} {many}" for kind, many in sorted(kinds.items())), flush=True)
+    tally.expect("kinds of what was drawn", {"flew", "broke"} <= kinds.keys(), True)
 
 
 # ---- a visit
@@ -256,7 +227,7 @@ def try_state(page: Guest, tally: Tally, name: str) -> None:
     for language in page.run("Object.keys(Words.LANGUAGES)"):
         page.run(f"flight.speak('{language}')")
         tally.expect(f"{name}, {language}", page.run(MEASURES), FINE)
-        tally.expect(f"{name}, {language}: what visitors can't read", NOT_FOR_VISITORS.findall(page.run(TEXT)), [])
+        tally.expect(f"{name}, {language}: what visitors can't read", unreadable(page.run(ALL_TEXTS)), [])
 
 
 def try_measures(page: Guest, tally: Tally, sizes: list[tuple[int, int]]) -> None:
@@ -305,7 +276,7 @@ def try_flight(lab: Lab, tally: Tally, worker: Worker, is_whole: bool) -> None:
         tally.expect("contrasts that are too low", page.run(CONTRAST.replace("PAIRS", json.dumps(CONTRASTS))), [])
         deck = page.run("flight.healthy.text")
         try_pairs(page, tally, worker, deck)
-        try_claims(page, tally, worker)
+        try_claims(page, tally, worker, DRAWN_STRIKES if is_whole else FEW_STRIKES)
         try_visit(page, tally, worker)
         for part in (try_memories, try_fingers, try_keys, try_alone, try_idle):
             part(page, tally)

@@ -13,10 +13,11 @@ import lvdc
 from browser import Browser, Failure
 from lab_running import SLOW, TYPE, Lab, Tally, sluggish, status_of
 from lvdc.workers import Worker
+from visitors import ALL_TEXTS, unreadable
 
 PATIENCE = 20.0
 PROGRAM = "telemetry"
-STEP = 6
+STEP = 4
 LATE = 200
 SIZES = [(390, 844), (768, 1024), (1366, 768), (1920, 1080)]
 LEAST_TARGET = 44
@@ -113,8 +114,8 @@ class Visitor(Browser):
         self.wait()
 
     def choose(self, program: str) -> None:
-        """Chooses a program by its name."""
-        names = self.run("[...document.getElementById('program').options].map((it) => it.textContent)")
+        """Chooses a program by the name of its example."""
+        names = self.run("[...document.getElementById('program').options].map((it) => it.dataset.program)")
         self.set("program", str(names.index(program)), "change")
 
     def timed(self, press: Callable[[], None]) -> float:
@@ -163,7 +164,7 @@ def try_copies(page: Visitor, tally: Tally, worker: Worker) -> None:
     """A copy is hurt and outvoted, and back at the next step; a second one is hurt, and that is the end."""
     page.press_lamp(3, 1)
     says = try_outcome(page, tally, worker, "one copy", "always")
-    tally.expect("one copy: the deck's faults", says["deck"].count("FLIP 3 1 6 6 "), 1)
+    tally.expect("one copy: the deck's faults", says["deck"].count("FLIP 3 1 4 4 "), 1)
     tally.expect("one copy: it differs", [[key for key, it in says["lamps"].items() if it == "differed"], differing(worker, says["deck"], STEP)],
                  [["3-1"], ["3-1"]])
     page.press("#forward")
@@ -188,17 +189,25 @@ def try_copies(page: Visitor, tally: Tally, worker: Worker) -> None:
     tally.expect("two copies: to the step that decided", page.says()["step"], STEP)
 
 
+def first_words(healthy: lvdc.Report, other: lvdc.Report) -> list[int | None]:
+    """The first words that differ: of the one run and of the other, where it has one."""
+    logs = [healthy.exchanges, other.exchanges]
+    first = next((at for at, (one, two) in enumerate(zip(*logs)) if one != two), min(map(len, logs)))
+    return [log[first].word.signed if first < len(log) else None for log in logs]
+
+
+def told_words(marked: list[str]) -> list[int | None]:
+    """The words that are marked."""
+    return [None if it == "nothing" else int(it.rpartition(": ")[2].replace(",", "").replace("\u2212", "-")) for it in marked]
+
+
 def try_what_if(page: Visitor, tally: Tally, worker: Worker) -> None:
     """What would have happened: the two wrong copies outvote the third, and the first wrong word is marked."""
     page.press("#outcome button")
     says = page.says()
     healthy = lvdc.run(lvdc.Deck.read(says["deck"]).with_faults(), worker=worker)
     other = lvdc.run(says["deck"], through=True, worker=worker)
-    logs = [healthy.exchanges, other.exchanges]
-    first = next((at for at, (one, two) in enumerate(zip(*logs)) if one != two), min(map(len, logs)))
-    marked = [log[first].word.signed if first < len(log) else None for log in logs]
-    told = [None if it == "nothing" else int(it.rpartition(": ")[2].replace(",", "").replace("\u2212", "-")) for it in says["marked"]]
-    tally.expect("what would have happened: the first wrong word", told, marked)
+    tally.expect("what would have happened: the first wrong word", told_words(says["marked"]), first_words(healthy, other))
     tally.expect("what would have happened: the third copy", [key for key, it in says["lamps"].items() if it == "differed"], ["3-3"])
     page.press("#outcome button")
     tally.expect("back to the judged run", page.says()["kind"], "logic")
@@ -218,6 +227,12 @@ def try_undo(page: Visitor, tally: Tally, worker: Worker) -> None:
     tally.expect("start again", [says["kind"], says["step"], "FAULTS" in says["deck"]], ["healthy", 0, False])
 
 
+def number_of(place: str) -> int:
+    """The number by which visitors are told of a cell."""
+    pair, sector, location = (int(it, 8) for it in place.split())
+    return (16 * pair + sector) * 256 + location
+
+
 def reads_of(worker: Worker, deck: str) -> dict[str, list[int]]:
     """The steps at which each word is read or stored."""
     found: dict[str, list[int]] = {}
@@ -230,7 +245,7 @@ def reads_of(worker: Worker, deck: str) -> dict[str, list[int]]:
 def try_cells(page: Visitor, tally: Tally, worker: Worker) -> None:
     """A cell breaks and is mended; it breaks again, in the other memory; at last in both at once."""
     reads = reads_of(worker, page.says()["deck"])
-    place, steps = next((place, steps) for place, steps in reads.items() if len(steps) > 1 and steps[0] > STEP and steps[1] < steps[0] + 60)
+    place, steps = next((place, steps) for place, steps in reads.items() if len(steps) > 1 and steps[0] > STEP + 2 and steps[1] < steps[0] + 60)
     page.go_to(steps[0] - 1)
     page.press_cell(0, place)
     says = try_outcome(page, tally, worker, "a cell", "always")
@@ -245,7 +260,8 @@ def try_cells(page: Visitor, tally: Tally, worker: Worker) -> None:
     says = try_outcome(page, tally, worker, "a cell in both memories", "memory")
     end = str(lvdc.run(says["deck"], worker=worker).end).split()
     tally.expect("a cell in both memories: its end", end[3:], ["MEMORY", *place.split()])
-    tally.expect("a cell in both memories: its words", [f"step {end[2]} " in says["outcome"], place in says["outcome"]], [True, True])
+    words = [f"step {end[2]} " in says["outcome"], f"cell {number_of(place)}" in says["outcome"]]
+    tally.expect("a cell in both memories: its words", words, [True, True])
     page.press("#again")
 
 
@@ -257,7 +273,11 @@ def try_lost(page: Visitor, tally: Tally, worker: Worker) -> None:
     page.go_to(says["last"])
     for twin in (0, 1):
         page.press_cell(twin, place)
-    tally.expect("a lost word: its place", place in try_outcome(page, tally, worker, "a lost word", "so-far")["outcome"], True)
+    says = try_outcome(page, tally, worker, "a lost word", "so-far")
+    tally.expect("a lost word: its cell", f"cell {number_of(place)} " in says["outcome"], True)
+    page.press("#octal")
+    tally.expect("a lost word: its place in octal", place in page.says()["outcome"], True)
+    page.press("#octal")
     page.press("#again")
 
 
@@ -332,7 +352,7 @@ def try_keys(page: Visitor, tally: Tally) -> None:
     page.key("ArrowRight", 39)
     page.key("Enter", 13)
     page.wait()
-    tally.expect("keys: a lamp", page.says()["acts"], [f"timer, copy 2: a wrong bit of PHASE in step {STEP}"])
+    tally.expect("keys: a lamp", page.says()["acts"], [f"timer, copy 2: says something wrong in step {STEP}"])
     page.run("document.querySelector('#board .slot').focus()")
     page.key(" ", 32)
     page.wait()
@@ -423,6 +443,23 @@ def try_kiosk(page: Visitor, tally: Tally, address: str) -> None:
     page.wait(f"{RESTS} && document.getElementById('outcome').dataset.kind === 'healthy'")
     tally.expect("a kiosk: it begins again", [page.run("document.documentElement.lang"), page.says()["step"], page.says()["acts"]], ["en", STEP, []])
     tally.expect("a kiosk: all controls are as at first", page.run(CONTROLS), controls)
+
+
+def try_readable(page: Visitor, tally: Tally, address: str) -> None:
+    """In a kiosk there is nothing that visitors can't read: of any program, in any language, after what they break."""
+    page.visit(f"{address}?kiosk&idle=600")
+    page.wait()
+    for at in range(page.run("document.getElementById('program').options.length")):
+        page.set("program", str(at), "change")
+        tally.expect(f"a kiosk, program {at}: what visitors can't read", unreadable(page.run(ALL_TEXTS)), [])
+    page.choose(PROGRAM)
+    for language in page.run("Object.keys(Words.LANGUAGES)"):
+        page.press(f'#languages [lang="{language}"]')
+        cell = page.run("document.querySelector('#board .slot').dataset.place")
+        lamps = [f'#board .light[data-module="5"][data-copy="{copy}"]' for copy in (1, 2)]
+        for query in [*lamps, "#outcome button", "#undo", f'#board .slot[data-twin="0"][data-place="{cell}"]', "#memory-1", "#forward", "#again"]:
+            page.press(query)
+            tally.expect(f"a kiosk, {language}: what visitors can't read", unreadable(page.run(ALL_TEXTS)), [])
 
 
 # ---- time, and hostile pages
@@ -526,6 +563,7 @@ def try_driven(lab: Lab, tally: Tally, worker: Worker, folder: pathlib.Path) -> 
             page.go_to(STEP)
             other(page, tally)
         try_kiosk(page, tally, lab.address)
+        try_readable(page, tally, lab.address)
         try_slow(page, tally, lab, folder)
         tally.expect("faults of the page", page.faults(), [])
         try_hostile_page(page, tally, lab)

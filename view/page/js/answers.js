@@ -7,6 +7,7 @@ const Answers = (() => {
     const PAIRS = COPIES.flatMap((one, at) => COPIES.slice(at + 1).map((other) => `${one} ${other}`));
     const NUMBERS = new Map([...COPIES, ...PAIRS].map((it, index) => [it, index]));
     const MOST = 2;
+    const BEFORE = 2;
 
     /** The copies in the order in which the rows have them. */
     const ordered = (keys) => [...keys].sort((a, b) => COPIES.indexOf(a) - COPIES.indexOf(b));
@@ -27,12 +28,23 @@ const Answers = (() => {
         return [...keys, key].slice(-MOST);
     }
 
-    /** What a row says, in a visitor's words. */
-    function saying(row, keys, words) {
-        if (row.verdict === 'ADMISSIBLE') return [words(keys.length === 1 ? 'break.one' : 'break.apart'), words('end.proved')];
-        const ended = words('break.two', { modules: words(`two.${row.module}`), step: row.step });
-        return [ended, words(row.same ? 'break.same' : 'break.differs')];
+    /** What would have been sent, and what is right, up to the first number that is another one; by two logs of ports. */
+    function sent(right, wrong, words) {
+        const length = Math.max(right.length, wrong.length);
+        const at = Array.from({ length }).findIndex((_, index) => right[index]?.word !== wrong[index]?.word);
+        if (at < 0) return words(right.every((it, index) => it.time === wrong[index].time) ? 'break.differs' : 'break.late');
+        const told = (log) => log.slice(Math.max(0, at - BEFORE), at + 1).map((it) => Latches.decimal(it.word));
+        const listed = (log) => (at < log.length ? told(log) : [...told(log), words('break.nothing')]).join(', ');
+        return words('break.sent', { wrong: listed(wrong), right: listed(right) });
     }
 
-    return { Book, ordered, touched, saying };
+    /** What a row says, in a visitor's words; where it is known what would have been sent, that too. */
+    function saying(row, keys, words, logs = null) {
+        if (row.verdict === 'ADMISSIBLE') return [words(keys.length === 1 ? 'break.one' : 'break.apart'), words('end.proved')];
+        const ended = words('break.two', { modules: words(`two.${row.module}`), step: row.step });
+        if (row.same) return [ended, words('break.same')];
+        return [ended, logs ? sent(logs.right, logs.wrong, words) : words('break.differs')];
+    }
+
+    return { Book, ordered, touched, saying, sent };
 })();

@@ -61,5 +61,5 @@ const Latches = (() => {
     /** What a module holds, in few characters: a phase, a place, an instruction, a number, a request. */
     const short = (module, latches) => SHORT[module](latches);
 
-    return { instruction, nameOf, syllable, decimal, place, syllableBit, hold, request, storesSaver, short };
+    return { instruction, nameOf, syllable, decimal, place, dataPlace, syllableBit, hold, request, storesSaver, short };
 })();

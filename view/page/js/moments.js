@@ -15,12 +15,14 @@ const Moments = (() => {
 
     const lampsOf = (step, before) => new Map(COPIES.map((key) => [key, lampOf(key, step, before)]));
 
-    /** The instruction that was fetched last: its text, its place where that is known, and the line of the source. */
+    /** An instruction by its latch: its name, and its text in octal. */
+    const named = (latch) => ({ text: Latches.instruction(latch), name: Latches.nameOf(latch) });
+
+    /** The instruction that was fetched last, its place where that is known, and the line of the source. */
     function instructionOf(step, place, listing) {
         const latches = step.votes.get(3);
         if (!latches) return null;
-        const text = Latches.instruction(latches[0]);
-        return { text, name: Latches.nameOf(latches[0]), place, line: Listing.lineAt(listing, place, Latches.syllable(latches[0])) };
+        return { ...named(latches[0]), place, line: Listing.lineAt(listing, place, Latches.syllable(latches[0])) };
     }
 
     /** The place that a fetch was from, with its syllable; else the one before. */
@@ -52,11 +54,11 @@ const Moments = (() => {
             return this.knowsSelection ? this.selected.get(pair) ?? 0 : null;
         }
 
-        /** What was last read or stored at each place: the word, and as text the instruction or the number. */
+        /** What was last read or stored at each place: the word, and the instruction where it was fetched. */
         learn({ exchange, votes }) {
             if (!exchange?.address) return;
-            const text = exchange.kind === 'FETCH' ? Latches.instruction(votes.get(3)[0]) : Latches.decimal(exchange.word);
-            this.known = new Map(this.known).set(Cells.placeOf(exchange.address), { word: exchange.word, text });
+            const instruction = exchange.kind === 'FETCH' ? named(votes.get(3)[0]) : null;
+            this.known = new Map(this.known).set(Cells.placeOf(exchange.address), { word: exchange.word, instruction });
         }
 
         /** How many twins a store goes to: those that hold the address and aren't dead. */

@@ -7,7 +7,8 @@ const Saying = (() => {
         const { exchange: it } = moment;
         if (!it) return words(`happens.${Parts.phaseOf(moment.step)}`);
         const single = it.kind === 'STORE' && moment.stored === 1;
-        const values = { text: moment.instruction?.text, number: Latches.decimal(it.word), port: it.port };
+        const text = moment.instruction ? Spelling.instruction(moment.instruction, words) : '';
+        const values = { text, number: Latches.decimal(it.word), port: it.port };
         return words(`happens.${it.kind}${single ? '.one' : ''}`, values);
     }
 
@@ -33,14 +34,15 @@ const Saying = (() => {
     /** The faults on memory that begin in the step. */
     function harms(moment, words) {
         return moment.faults.filter((it) => it.twin !== null && it.first === moment.step)
-            .map((it) => words(`happens.${it.kind}`, { twin: it.twin, place: it.place, pair: it.pair }));
+            .map((it) => words(`happens.${it.kind}`, { twin: Spelling.twin(it.twin, words), place: it.place && Spelling.cell(it.place, words), pair: it.pair }));
     }
 
     /** A cell that was found bad: it is rewritten, unless its twin is dead there. */
     function repairs({ repair, cells }, words) {
         if (!repair) return [];
         const isDead = cells.dead[repair.twin].has(Cells.placeOf(repair.address)[0]);
-        const values = { twin: repair.twin, other: 1 - repair.twin, place: repair.address };
+        const [twin, other] = [repair.twin, 1 - repair.twin].map((it) => Spelling.twin(it, words));
+        const values = { twin, other, place: Spelling.cell(repair.address, words) };
         return [words(isDead ? 'happens.repair.dead' : 'happens.repair', values)];
     }
 
@@ -60,7 +62,7 @@ const Saying = (() => {
     /** How a run ended that can't be relied on, with the copies that are wrong. */
     function inadmissible(moment, words) {
         const { end } = moment;
-        if (end.kind === 'memory') return words('end.word', { step: end.step, place: end.address });
+        if (end.kind === 'memory') return words('end.word', { step: end.step, place: Spelling.cell(end.address, words) });
         const copies = [...moment.wrong].filter((it) => it.startsWith(`${end.module}-`)).map((it) => it.slice(2)).sort();
         return words('end.two', { modules: words(`two.${end.module}`), step: end.step, copies: copies.join(' & ') });
     }

@@ -6,6 +6,8 @@ const Board = (() => {
     const { svg } = Element;
     const { keyOf } = Trace;
     const LINES_OF_PORTS = 12;
+    const EM_OF_LETTER = 0.5;
+    const EM_OF_BOLD = 0.57;
     const NOTHING = {
         step: -1, made: true, end: null, cells: { marks: [new Map(), new Map()], dead: [new Set(), new Set()] }, answering: null,
         votes: new Map(), votesBefore: null, changed: new Set(), lamps: new Map(), wrong: new Set(), differing: new Map(),
@@ -14,6 +16,16 @@ const Board = (() => {
 
     const line = (one, other, kind) => svg('line', { x1: one.x, y1: one.y, x2: other.x, y2: other.y, class: kind });
     const text = (x, y, kind, words) => svg('text', { x, y, class: kind }, words);
+    /** A text in the middle of a box, pressed together where it would be too long. */
+    function fitted(place, y, kind, words, em, each) {
+        const made = text(place.middle, y, kind, words);
+        const room = place.width - 0.6 * em;
+        if (words.length * each * em <= room) return made;
+        made.setAttribute('textLength', String(room));
+        made.setAttribute('lengthAdjust', 'spacingAndGlyphs');
+        return made;
+    }
+
     const frame = (place, kind, em) => svg('rect', { x: place.x, y: place.y, width: place.width, height: place.height, rx: 0.5 * em, class: kind });
 
     // ---- shapes that say what became of a copy or a cell
@@ -66,8 +78,8 @@ const Board = (() => {
 
     class Drawing {
         /** `words` are those of a language, `places` the places of all cells, `simplex` the pairs that are simplex. */
-        constructor({ words = Words.of('en'), places = [], simplex = new Set(), octal = false } = {}) {
-            Object.assign(this, { words, cellPlaces: places, simplex, octal, moment: NOTHING, chosen: null });
+        constructor({ words = Words.of('en'), places = [], simplex = new Set() } = {}) {
+            Object.assign(this, { words, cellPlaces: places, simplex, moment: NOTHING, chosen: null });
             this.marks = { copies: new Set(), cells: new Set() };
             this.element = svg('svg', { class: 'board', role: 'group', 'aria-label': words('drawing') });
             this.places = null;
@@ -111,7 +123,7 @@ const Board = (() => {
             const press = (copy) => () => this.press('lamp', { module: number, copy });
             const lamps = Parts.COPIES.map((copy) => lampPart(number, copy, place.lamps[copy - 1], press(copy)));
             const value = text(place.middle, place.value, 'value', '');
-            const name = text(place.middle, place.name, 'name', this.words(`module.${number}`));
+            const name = fitted(place, place.name, 'name', this.words(`module.${number}`), em, EM_OF_BOLD);
             const group = svg('g', { class: 'part', 'data-module': number }, svg('title', {}, this.words(`does.${number}`)),
                 frame(place, 'card', em), name, ...voter.parts, value, ...lamps);
             this.modules ??= new Map();
@@ -123,7 +135,7 @@ const Board = (() => {
             const place = this.places.memories[twin];
             const { em } = this.places;
             const cells = place.cells.map((cell, index) => this.cellPart(twin, this.cellPlaces[index], cell));
-            const name = text(place.x + 0.7 * em, place.name, 'name twin-name', this.words('twin', { twin }));
+            const name = text(place.x + 0.7 * em, place.name, 'name twin-name', this.words('twin', { twin: Spelling.twin(twin, this.words) }));
             const group = svg('g', { class: 'twin', 'data-twin': twin }, frame(place, 'card', em), name, ...cells);
             const left = this.cellPlaces.length - cells.length;
             if (left > 0) group.append(text(place.middle, place.bottom - 0.4 * em, 'more', this.words('more.cells', { count: left })));
@@ -141,7 +153,7 @@ const Board = (() => {
         portParts() {
             const { ports, em } = this.places;
             this.portLines = svg('g', { class: 'port-lines' });
-            return svg('g', { class: 'ports' }, frame(ports, 'card', em), text(ports.middle, ports.name, 'name', this.words('ports')), this.portLines);
+            return svg('g', { class: 'ports' }, frame(ports, 'card', em), fitted(ports, ports.name, 'name', this.words('ports'), em, EM_OF_BOLD), this.portLines);
         }
 
         // ---- pressing
@@ -177,14 +189,7 @@ const Board = (() => {
             this.draw();
         }
 
-        /** Shows words in octal or not. */
-        useOctal(octal) {
-            this.octal = octal;
-            this.draw();
-            this.move(false);
-        }
-
-        /** Uses the words of another language. */
+        /** Uses other words: of another language, or with octal. */
         speak(words) {
             this.words = words;
             if (!this.places) return;
@@ -204,7 +209,7 @@ const Board = (() => {
         move(moving) {
             if (!this.places) return;
             this.layer.replaceChildren();
-            const look = { indexOf: (place) => this.cellPlaces.indexOf(place), simplex: this.simplex, octal: this.octal };
+            const look = { indexOf: (place) => this.cellPlaces.indexOf(place), simplex: this.simplex, words: this.words };
             Motion.play(this.layer, Moves.of(this.places, this.moment, look), this.places, moving);
         }
 
@@ -225,9 +230,7 @@ const Board = (() => {
 
         valueOf(number) {
             const latches = this.moment.votes.get(number);
-            if (!latches) return '';
-            if (this.octal) return latches[number === 7 ? 1 : 0];
-            return number === 7 ? this.words(`request.${Latches.request(latches[1])}`) : Latches.short(number, latches);
+            return latches ? Spelling.module(number, latches, this.words) : '';
         }
 
         drawLamp(group, number, copy, kind) {
@@ -238,7 +241,7 @@ const Board = (() => {
             group.setAttribute('class', `light ${kind}${marked ? ' marked' : ''}`);
             group.setAttribute('data-kind', kind);
             group.setAttribute('aria-label', saying);
-            const hit = svg('rect', { x: -1.2 * radius, y: -1.7 * radius, width: 2.4 * radius, height: 3.4 * radius, class: 'hit' });
+            const hit = svg('rect', { x: -1.225 * radius, y: -1.7 * radius, width: 2.45 * radius, height: 3.4 * radius, class: 'hit' });
             const rings = kind === 'healed' ? [ring(radius)] : [];
             const bolts = marked ? [svg('g', { transform: `translate(${0.95 * radius} ${-0.95 * radius})` }, bolt(0.75 * radius))] : [];
             const digit = svg('text', { y: 0.35 * this.places.em, class: 'copy-number' }, String(copy));
@@ -276,7 +279,7 @@ const Board = (() => {
         drawCell(group, twin, place, size) {
             const states = this.stateOf(twin, place);
             const said = (states.length === 0 ? ['well'] : states).map((it) => this.words(`cell.${it}`)).join(', ');
-            const saying = this.words('cell', { twin, place, state: said });
+            const saying = this.words('cell', { twin: Spelling.twin(twin, this.words), place: Spelling.cell(place, this.words), state: said });
             const lost = this.moment.end?.address && Cells.placeOf(this.moment.end.address) === place;
             group.setAttribute('class', ['slot', ...states, ...(lost ? ['lost'] : [])].join(' '));
             group.setAttribute('data-states', states.join(' '));
@@ -292,11 +295,11 @@ const Board = (() => {
         labelsOf(place, size) {
             const { em } = this.places;
             const known = this.moment.known.get(place);
-            const words = known && (this.octal ? known.word : known.text);
+            const words = known && Spelling.content(known, this.words);
             const fits = (letters, each) => letters * each * em < 0.84 * size;
             const content = words && fits(words.length, 0.5) ? [svg('text', { y: 0.3 * em, class: 'content' }, words)] : [];
             const y = content.length > 0 ? -size / 2 + 1.15 * em : 0.2 * em;
-            const location = this.octal && fits(3, 0.42) ? [svg('text', { y, class: 'location' }, place.slice(-3))] : [];
+            const location = this.words.octal && fits(3, 0.42) ? [svg('text', { y, class: 'location' }, place.slice(-3))] : [];
             return [...content, ...location];
         }
 
@@ -311,21 +314,16 @@ const Board = (() => {
             this.portLines.replaceChildren(...lines.map((it, at) => this.portLine(it, at, this.portKind(shown, at))));
         }
 
-        /** A line, pressed together where it would be too long. */
         portLine(words, at, kind) {
             const { ports, em } = this.places;
-            const made = text(ports.middle, ports.y + (3.1 + 1.5 * at) * em, kind, words);
-            if (words.length * 0.5 * em <= ports.width - 0.6 * em) return made;
-            made.setAttribute('textLength', String(ports.width - 0.6 * em));
-            made.setAttribute('lengthAdjust', 'spacingAndGlyphs');
-            return made;
+            return fitted(ports, ports.y + (3.1 + 1.5 * at) * em, kind, words, em, EM_OF_LETTER);
         }
 
         portKind(shown, at) { return `port-line${shown[at]?.step === this.moment.step ? ' now' : ''}${shown.length === 0 ? ' none' : ''}`; }
 
         exchangeText({ kind, port, word }) {
-            const value = this.octal ? word : Latches.decimal(word);
-            return `${this.words(kind === 'IN' ? 'word.in' : 'word.out')} ${port}: ${value}`;
+            const way = this.words(kind === 'IN' ? 'word.in' : 'word.out');
+            return this.words.octal ? `${way} ${port}: ${word}` : `${way}: ${Latches.decimal(word)}`;
         }
     }
 

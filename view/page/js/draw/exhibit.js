@@ -18,7 +18,7 @@ const ExhibitView = (() => {
         const healed = { ...deck, faults: [] };
         const found = {
             deck, report: Report.read(exhibit.report), run: runOf(exhibit.trace, deck, listing),
-            healthy: runOf(exhibit.healthy.trace, healed, listing),
+            healthy: runOf(exhibit.healthy.trace, healed, listing), healthyReport: Report.read(exhibit.healthy.report),
             through: exhibit.through ? runOf(exhibit.through.trace, deck, listing) : null,
             answers: exhibit.answers ? new Answers.Book(exhibit.answers) : null,
             isSame: exhibit.through ? Outcome.isSame(exhibit.through.report, exhibit.healthy.report) : null,
@@ -134,8 +134,9 @@ const ExhibitView = (() => {
             const row = this.found.answers.row(this.stage.moment.step, this.hurt);
             const again = button(this.words('break.again'), this.words('break.again'), () => this.turnTo('break'));
             const [first, ...others] = Answers.saying(row, this.hurt, this.words);
-            return [html('p', { class: 'sentence', 'data-verdict': row.verdict }, first), ...others.map((it) => html('p', {}, it)),
-                html('p', { class: 'small' }, html('code', {}, row.line)), html('p', { class: 'buttons' }, again)];
+            const line = this.stage.words.octal ? [html('p', { class: 'small' }, html('code', {}, row.line))] : [];
+            return [html('p', { class: 'sentence', 'data-verdict': row.verdict }, first), ...others.map((it) => html('p', {}, it)), ...line,
+                html('p', { class: 'buttons' }, again)];
         }
 
         // ---- touching

@@ -5,7 +5,7 @@
 const Geometry = (() => {
     const LEAST_EMS_OF_WIDE = 54;
     const WIDE = { rows: [[1, 2, 3, 4, 5, 6, 7]], gap: 0.7, card: 10.4, edge: 0.5, least: 22 };
-    const NARROW = { rows: [[1, 2, 3, 4], [5, 6, 7, 'ports']], gap: 0.35, card: 9.6, edge: 0.8, least: 35 };
+    const NARROW = { rows: [[1, 2, 3, 4], [5, 6, 7, 'ports']], gap: 0.3, card: 8.4, edge: 0.5, least: 30 };
     const TITLE = 1.9;
     const MOST_CELL = 5;
     const LEAST_CELL = 0.7;
@@ -20,7 +20,7 @@ const Geometry = (() => {
 
     /** What stands in the box of a module: three lamps in a row, the voter under them, and what it holds. `down` is whether the bus is below. */
     function moduleIn(place, em, down) {
-        const radius = Math.min(1.55 * em, place.width / 7.6);
+        const radius = Math.min(1.55 * em, place.width / 7.3, place.height / 2 - 3 * em);
         const lampY = place.y + 2.4 * em + radius + 0.15 * em;
         const lamps = Parts.COPIES.map((copy) => ({ x: place.middle + (copy - 2) * 2.45 * radius, y: lampY, radius }));
         const valueY = place.bottom - 0.9 * em;

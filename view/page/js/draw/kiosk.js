@@ -28,6 +28,9 @@ const Kiosk = (() => {
         return (sent.length > 0 ? sent : words('STORE')).slice(0, NUMBERS_TOLD);
     }
 
+    /** The words that a run sends, by its report. */
+    const sentIn = (report) => report.log.filter((it) => !it.reading);
+
     function largeButton(words, act) {
         const made = button(words, '', act);
         made.className = 'large';
@@ -37,17 +40,18 @@ const Kiosk = (() => {
     class Kiosk {
         constructor(found, story, idle) {
             const chapters = ['one', 'two', 'cell'].map((it) => [it, chapterOf(story[it], found.listing)]);
-            Object.assign(this, { found, step: story.step, turns: story.turns ?? {}, story: Object.fromEntries(chapters), idle, screen: 1, hurt: [], timer: null });
+            Object.assign(this, { found, step: story.step, turns: story.turns, story: Object.fromEntries(chapters), idle, screen: 1, hurt: [], timer: null });
             this.screens = found.answers?.isWhole ? SCREENS : SCREENS.slice(0, -1);
             this.first = Words.known(document.documentElement.lang);
             this.words = Words.of(this.first);
             this.stage = new Stage.Stage({ words: this.words, places: found.places, simplex: found.deck.simplex });
             this.stage.drawing.element.addEventListener('lamp', (event) => this.touch(event.detail));
+            this.turn = new TurnView.Turn((it) => this.touch(it));
             this.text = html('div', { class: 'kiosk-text', 'aria-live': 'polite' });
             this.head = html('header', { class: 'kiosk-head' });
             this.side = html('aside', { class: 'kiosk-rocket' });
             this.foot = this.footParts();
-            const middle = html('div', { class: 'kiosk-middle' }, this.text, this.stage.element);
+            const middle = html('div', { class: 'kiosk-middle' }, this.text, this.stage.element, this.turn.element);
             this.element = html('div', { class: 'kiosk' }, this.head, html('div', { class: 'kiosk-main' }, this.side, middle), this.foot);
         }
 
@@ -114,6 +118,7 @@ const Kiosk = (() => {
         tell() {
             const { words, screen } = this;
             this.drawFoot();
+            this.turn.show(this.stage.moment, this.hurt, words);
             this.text.replaceChildren(html('h2', {}, words(`kiosk.${screen}.title`)), ...this.screens[screen - 1].tell(this, words));
         }
 
@@ -131,6 +136,15 @@ const Kiosk = (() => {
             showTurn(this);
             this.stage.drawing.mark(this.hurt);
             this.tell();
+        }
+
+        /** The copies that a visitor has hurt, as the texts name them. */
+        get hurtKey() { return Answers.ordered(this.hurt).join(' '); }
+
+        /** The words that would have been sent, and those that are right, where two copies of a module are hurt; else none. */
+        hurtLogs() {
+            const report = this.turns?.reports[this.hurtKey];
+            return report ? { right: sentIn(this.found.healthyReport), wrong: sentIn(Report.read(report)) } : null;
         }
 
         // ---- nobody there
@@ -166,18 +180,23 @@ const Kiosk = (() => {
         return [told, ...Claims.sentences(report, false, words)].map(paragraph);
     }
 
+    /** What the two wrong copies of the story would have sent; where that wasn't asked for, from which step on they would have been wrong. */
+    function toldOfTwo({ story: { two }, found, turns }, words) {
+        const report = turns?.reports[two.deck.faults.map((it) => keyOf(it.module, it.copy)).join(' ')];
+        if (report) return Answers.sent(sentIn(found.healthyReport), sentIn(Report.read(report)), words);
+        const outcome = Outcome.of({ steps: found.healthy.trace.steps.slice(0, two.throughTrace.steps.length) }, two.throughTrace);
+        return OutcomeView.sentence(outcome, false, words);
+    }
+
     function tellTwo(kiosk, words) {
         if (!kiosk.sees) return beside([paragraph(words('kiosk.3.text'))], largeButton(words('kiosk.3.see'), () => kiosk.see()));
-        const hurt = kiosk.story.two.throughTrace;
-        const outcome = Outcome.of({ steps: kiosk.found.healthy.trace.steps.slice(0, hurt.steps.length) }, hurt);
-        const sentence = html('p', { class: 'sentence' }, OutcomeView.sentence(outcome, false, words));
-        return beside([paragraph(words('kiosk.3.seen')), sentence], OutcomeView.table(outcome, words));
+        return [paragraph(words('kiosk.3.seen')), html('p', { class: 'sentence' }, toldOfTwo(kiosk, words))];
     }
 
     function tellTurn(kiosk, words) {
         if (kiosk.hurt.length === 0) return [paragraph(words('kiosk.5.text'))];
         const row = kiosk.found.answers.row(kiosk.step, kiosk.hurt);
-        const [first, ...others] = Answers.saying(row, kiosk.hurt, words);
+        const [first, ...others] = Answers.saying(row, kiosk.hurt, words, kiosk.hurtLogs());
         const again = largeButton(words('break.again'), () => kiosk.turnTo(SCREENS.length));
         return beside([strong(first, row.verdict), ...others.map(paragraph)], again);
     }
@@ -185,7 +204,7 @@ const Kiosk = (() => {
     /** The step of a visitor's turn, with what was hurt in it; else that of the healthy machine. */
     function showTurn(kiosk) {
         const { healthy, listing } = kiosk.found;
-        const text = kiosk.turns[Answers.ordered(kiosk.hurt).join(' ')];
+        const text = kiosk.turns?.traces[kiosk.hurtKey];
         const hurt = text ? Moments.of(Trace.read(text), healthy.deck, listing) : [];
         kiosk.stage.use(hurt.length > 0 ? hurt : healthy.moments.filter((it) => it.step === kiosk.step));
     }

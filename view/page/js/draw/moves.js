@@ -14,9 +14,8 @@ const Moves = (() => {
     };
 
     /** What stands on a word that moves: an instruction, or a number. */
-    function textOf(exchange, moment, octal) {
-        if (octal) return exchange.word;
-        return exchange.kind === 'FETCH' ? moment.instruction.text : Latches.decimal(exchange.word);
+    function textOf({ kind, word }, moment, words) {
+        return Spelling.content({ word, instruction: kind === 'FETCH' ? moment.instruction : null }, words);
     }
 
     /** The cells that an exchange is made with: of a read that of the twin that answers, or of the first that holds the address. */
@@ -36,7 +35,7 @@ const Moves = (() => {
         if (!exchange) return [];
         const ends = ENDS[exchange.kind](cellsOf(exchange, moment, look.indexOf, look.simplex), storing(moment));
         const pairs = exchange.kind === 'STORE' ? ends : [ends];
-        const text = textOf(exchange, moment, look.octal);
+        const text = textOf(exchange, moment, look.words);
         return pairs.map(([from, to], at) => ({ points: Geometry.way(places, from, to), text, kind: exchange.kind.toLowerCase(), rests: at === 0 }));
     }
 
@@ -45,7 +44,7 @@ const Moves = (() => {
         const { repair, exchange } = moment;
         if (!repair || !exchange) return [];
         const points = Geometry.across(places, look.indexOf(Cells.placeOf(repair.address)), repair.twin);
-        return points.length === 0 ? [] : [{ points, text: textOf(exchange, moment, look.octal), kind: 'repair', delay: TIME_OF_WORD }];
+        return points.length === 0 ? [] : [{ points, text: textOf(exchange, moment, look.words), kind: 'repair', delay: TIME_OF_WORD }];
     }
 
     /** The votes of the three copies of a module, which come to the voter together; a copy that differs comes half the way. */
@@ -67,7 +66,7 @@ const Moves = (() => {
         });
     }
 
-    /** All that moves in a moment; `look` knows the index of a cell, the simplex pairs, and whether octal is shown. */
+    /** All that moves in a moment; `look` knows the index of a cell, the simplex pairs, and the words. */
     function of(places, moment, look) {
         const words = [...exchangeWords(places, moment, look), ...repairWords(places, moment, look)];
         const delay = words.length > 0 ? TIME_OF_WORD * 0.85 : 200;

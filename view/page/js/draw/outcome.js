@@ -6,10 +6,11 @@ const OutcomeView = (() => {
     const BEFORE = 5;
     const AFTER = 3;
 
-    /** A result in words, with the place or the port that it went to. */
+    /** A result in words; in octal with the place or the port that it went to. */
     function cellParts(it, words) {
         if (!it) return [words('row.nothing')];
-        return [words(`row.${it.kind}`, { number: Latches.decimal(it.word) }), html('span', { class: 'small' }, ` ${it.address ?? it.port}`)];
+        const where = words.octal ? [html('span', { class: 'small' }, ` ${it.address ?? it.port}`)] : [];
+        return [words(`row.${it.kind}`, { number: Latches.decimal(it.word) }), ...where];
     }
 
     /** The step of a result; both, where the two runs have it in different steps. */

@@ -35,10 +35,10 @@ const Stage = (() => {
             const playing = words(this.player === null ? 'control.play' : 'control.pause');
             this.playButton = button(playing, playing, () => this.toggle());
             this.faultButton = button(words('control.fault'), words('control.fault'), () => this.toFault());
-            this.octalButton = button(words('control.octal'), words('control.octal'), () => this.useOctal(!this.drawing.octal));
+            this.octalButton = button(words('control.octal'), words('control.octal'), () => this.useOctal(!this.words.octal));
             this.octalButton.className = 'octal-button';
             this.faultButton.className = 'fault-button';
-            this.octalButton.setAttribute('aria-pressed', String(this.drawing.octal));
+            this.octalButton.setAttribute('aria-pressed', String(words.octal));
             this.slider.setAttribute('aria-label', words('control.time'));
             this.controls.replaceChildren(button('←', words('control.back'), () => this.go(this.at - 1, true)), this.slider,
                 button('→', words('control.on'), () => this.go(this.at + 1, true)), this.playButton, this.faultButton, this.octalButton);
@@ -64,10 +64,12 @@ const Stage = (() => {
             if (this.moment) this.tell();
         }
 
+        /** Spells all in octal, or in words. The button that was pressed keeps the focus. */
         useOctal(octal) {
-            this.drawing.useOctal(octal);
-            this.octalButton.setAttribute('aria-pressed', String(octal));
-            this.tell();
+            const isPressed = document.activeElement === this.octalButton;
+            this.speak(Words.of(this.words.language, octal));
+            if (isPressed) this.octalButton.focus();
+            this.element.dispatchEvent(new CustomEvent('moment', { detail: this.moment }));
         }
 
         // ---- going
@@ -131,16 +133,17 @@ const Stage = (() => {
             this.happens.replaceChildren(...Saying.of(moment, words).map((it) => html('li', {}, it)), ...this.faultLines(moment));
         }
 
-        /** The instruction by its name, and the line of the source that it is. */
+        /** What the instruction does; or, in octal, its name, and the line of the source that it is. */
         instructionParts(instruction) {
             if (!instruction) return [this.words('moment.nothing')];
+            if (!this.words.octal) return [this.words(`does.${instruction.name}`)];
             const line = instruction.line ? [html('span', { class: 'source-line' }, instruction.line)] : [];
             return [html('code', { class: 'instruction-name' }, instruction.text), ...line];
         }
 
         /** The fault lines that act, for whoever reads octal. */
         faultLines(moment) {
-            if (!this.drawing.octal) return [];
+            if (!this.words.octal) return [];
             return moment.faults.map((it) => html('li', { class: 'fault-line' }, html('code', {}, it.line.text.trim())));
         }
     }

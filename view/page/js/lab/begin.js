@@ -27,7 +27,7 @@
     function listenToChoices(page) {
         on('program', 'change', (event) => page.choose(Number(event.target.value)));
         on('count', 'change', (event) => page.take(Number(event.target.value)));
-        on('octal', 'click', () => page.useOctal(!page.sight.octal));
+        on('octal', 'click', () => page.useOctal(!page.sight.words.octal));
         on('undo', 'click', () => page.undo());
         on('again', 'click', () => page.startAgain());
         for (const twin of Parts.TWINS) on(`memory-${twin}`, 'click', () => page.hurt(Hurts.memory(twin, page.step)));

@@ -36,21 +36,24 @@ const LabOutcome = (() => {
 
     /** Where two runs part, by their reports: how each ended, the first port line that differs or -1, the registers and the words that differ. */
     function parting(healthy, other) {
-        const at = healthy.log.findIndex((it, index) => !isSame(it, other.log[index]));
+        const at = healthy.log.findIndex((it, index) => !isSameExchange(it, other.log[index]));
         return {
-            ends: [healthy.end?.line, other.end?.line],
+            ends: [healthy.end, other.end],
             first: at < 0 && other.log.length > healthy.log.length ? healthy.log.length : at,
             registers: differing(healthy.registers, other.registers),
             words: differing(wordsOf(healthy), wordsOf(other)),
         };
     }
 
-    const isSame = (one, two) => two !== undefined && ['reading', 'time', 'port', 'word'].every((it) => one[it] === two[it]);
+    /** Whether two runs part nowhere, by their reports. */
+    const isSame = ({ ends: [one, two], first, registers, words }) => one?.line === two?.line && first < 0 && registers.length + words.length === 0;
+
+    const isSameExchange = (one, two) => two !== undefined && ['reading', 'time', 'port', 'word'].every((it) => one[it] === two[it]);
 
     const wordsOf = (report) => new Map(report.memory.map((it) => [it.address, it.word]));
 
     /** The keys under which two lists have other values. */
     const differing = (one, two) => [...new Set([...one.keys(), ...two.keys()])].filter((it) => one.get(it) !== two.get(it));
 
-    return { of, reportOf, parting };
+    return { of, reportOf, parting, isSame };
 })();

@@ -4,7 +4,8 @@
 class LabPage {
     static FIRST_PROGRAM = 'telemetry';
 
-    static FIRST_STEP = 6;
+    /** A step of the first program in which two copies of any module, if they lie, send another word; `view/tests/lab_pairs.py` tries it. */
+    static FIRST_STEP = 4;
 
     static STEPS_FOR_PLACES = 6000;
 
@@ -78,8 +79,20 @@ class LabPage {
 
     press(kind, it) {
         const lasting = LabSight.place('good').checked;
-        if (kind === 'lamp') this.hurt(Hurts.copy(LabSight.place('kind').value, it, this.step, lasting));
-        else this.hurt(Hurts.cell(it, this.step, lasting, this.sight.wordAt(it.place)));
+        if (kind === 'lamp') return this.pressLamp(LabSight.place('kind').value, it, lasting);
+        return this.hurt(Hurts.cell(it, this.step, lasting, this.sight.wordAt(it.place)));
+    }
+
+    /** A copy is hurt in the step that is shown now; where it is to lie, it is asked for the lie first. */
+    pressLamp(kind, it, lasting) {
+        const began = performance.now();
+        const { step, session } = this;
+        return this.guarded(async () => {
+            const lie = kind === 'FLIP' ? await Lies.chosen(session, it.module, step, lasting) : '';
+            if (session !== this.session) return;
+            session.hurt(Hurts.copy(kind, it, step, lasting, lie), step);
+            await this.changed(began);
+        });
     }
 
     hurt(lines) {
@@ -114,8 +127,7 @@ class LabPage {
     }
 
     /** The deck is another one now: what becomes of it is asked anew, and how long the answer takes is measured. */
-    changed() {
-        const began = performance.now();
+    changed(began = performance.now()) {
         this.forget();
         this.rest();
         return this.guarded(async () => {
@@ -174,8 +186,11 @@ class LabPage {
         const { turn, session } = this;
         return this.guarded(async () => {
             const [other, healthy] = await Promise.all([Asking.ask(['run', '--through'], session.text), Asking.ask(['run'], session.healthyText)]);
+            const what = { other: LabOutcome.reportOf(other), healthy: LabOutcome.reportOf(healthy) };
+            what.parting = LabOutcome.parting(what.healthy, what.other);
+            if (LabOutcome.isSame(what.parting)) what.parting.why = await Harmless.why(session, Deck.read(session.text).faults);
             if (turn !== this.turn) return;
-            this.what = { other: LabOutcome.reportOf(other), healthy: LabOutcome.reportOf(healthy) };
+            this.what = what;
             this.showOutcome();
             await this.seek(this.step, false);
         });
@@ -248,13 +263,14 @@ class LabPage {
     showOutcome() {
         const { outcome, sight, what } = this;
         const isNot = ['logic', 'memory'].includes(outcome.kind);
-        if (this.through) sight.whatIf(outcome.kind, what.healthy, what.other, () => this.switchTo(false));
+        if (this.through) sight.whatIf(outcome.kind, what, () => this.switchTo(false));
         else sight.outcome(outcome, this.session?.faults ?? [], isNot && (() => this.switchTo(true)), () => this.goTo(outcome.report.end.step));
         if (this.session) this.showTime();
     }
 
-    speak(language) {
-        this.sight.speak(language);
+    /** Speaks another language, or spells in another way. */
+    speak(language, octal = this.sight.words.octal) {
+        this.sight.speak(language, octal);
         this.rest();
         if (!this.session) return;
         this.sight.session(this.session, (at) => this.mend(at));
@@ -262,8 +278,5 @@ class LabPage {
         if (this.frame) this.show(false);
     }
 
-    useOctal(octal) {
-        this.sight.useOctal(octal);
-        if (this.through && this.what) this.showOutcome();
-    }
+    useOctal(octal) { this.speak(this.sight.words.language, octal); }
 }

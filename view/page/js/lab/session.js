@@ -16,10 +16,13 @@ class LabSession {
     get faults() { return this.acts.flat(); }
 
     /** The deck as a text. */
-    get text() { return LabDeck.text(this.deck, this.faults, this.count); }
+    get text() { return this.textWith(this.faults); }
 
     /** The same deck before anything was hurt. */
-    get healthyText() { return LabDeck.text(this.deck, [], this.count); }
+    get healthyText() { return this.textWith([]); }
+
+    /** The same deck with other fault lines. */
+    textWith(faults) { return LabDeck.text(this.deck, faults, this.count); }
 
     /** One more than the last step that is asked for. */
     get steps() { return Parts.firstStepOf(this.count); }

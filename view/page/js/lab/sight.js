@@ -3,7 +3,7 @@
 /** What the lab's page shows: the drawing of the machine, its time, what it came to and what was broken. It is told what to show, and asks nothing. */
 class LabSight {
     constructor(language) {
-        Object.assign(this, { words: Words.of(language), octal: false, drawing: null });
+        Object.assign(this, { words: Words.of(language), drawing: null });
         const { html } = Element;
         const button = ([key, it]) => html('button', { type: 'button', lang: key }, it.language);
         LabSight.place('languages').replaceChildren(...Object.entries(Words.LANGUAGES).map(button));
@@ -14,7 +14,7 @@ class LabSight {
 
     /** A new drawing, for the places of a program; `hurt` is told which lamp or cell was pressed. */
     build(places, simplex, hurt) {
-        this.drawing = new Board.Drawing({ words: this.words, places, simplex, octal: this.octal });
+        this.drawing = new Board.Drawing({ words: this.words, places, simplex });
         for (const kind of ['lamp', 'cell']) this.drawing.element.addEventListener(kind, ({ detail }) => hurt(kind, detail));
         LabSight.place('board').replaceChildren(this.drawing.element);
     }
@@ -31,8 +31,14 @@ class LabSight {
         window.scrollTo(0, 0);
     }
 
+    /** The programs that can be chosen, by what they do. */
     programs(names) {
-        LabSight.place('program').replaceChildren(...names.map((it, at) => Element.html('option', { value: at }, it.replaceAll('-', ' '))));
+        LabSight.place('program').replaceChildren(...names.map((it, at) => Element.html('option', { value: at, 'data-program': it })));
+        this.namePrograms();
+    }
+
+    namePrograms() {
+        for (const it of LabSight.place('program').options) it.textContent = LabTelling.program(it.dataset.program, this.words);
     }
 
     busy(asks) { document.body.setAttribute('aria-busy', String(asks)); }
@@ -81,9 +87,9 @@ class LabSight {
     }
 
     /** What would have happened, beside a healthy machine. */
-    whatIf(kind, healthy, other, goBack) {
-        const { words, octal } = this;
-        const beside = LabView.beside(healthy, other, LabOutcome.parting(healthy, other), octal, words);
+    whatIf(kind, { healthy, other, parting }, goBack) {
+        const { words } = this;
+        const beside = LabView.beside(healthy, other, parting, words);
         const back = Element.html('p', { class: 'buttons' }, Element.button(words('lab.judge'), '', goBack));
         const told = [Element.html('p', { class: 'sentence' }, words('lab.through.title')), Element.html('p', {}, words('lab.through.text'))];
         this.box(kind, true).replaceChildren(...told, ...beside, back);
@@ -98,9 +104,11 @@ class LabSight {
 
     // ---- words
 
-    speak(language) {
-        this.words = Words.of(language);
+    /** Speaks a language, and spells in words or in octal. */
+    speak(language, octal) {
+        this.words = Words.of(language, octal);
         this.translate();
+        this.namePrograms();
         this.drawing?.speak(this.words);
     }
 
@@ -108,17 +116,13 @@ class LabSight {
         const { words } = this;
         document.documentElement.lang = words.language;
         document.title = words('mode.break');
-        for (const it of document.querySelectorAll('[data-say]')) it.textContent = words(it.dataset.say, it.dataset);
+        for (const it of document.querySelectorAll('[data-say]')) it.textContent = words(it.dataset.say);
+        for (const twin of Parts.TWINS) LabSight.place(`memory-${twin}`).textContent = words('lab.memory', { twin: Spelling.twin(twin, words) });
         for (const it of document.querySelectorAll('[data-name]')) {
             it.setAttribute('aria-label', words(it.dataset.name));
             it.title = words(it.dataset.name);
         }
         for (const it of LabSight.place('languages').children) it.setAttribute('aria-pressed', String(it.lang === words.language));
-    }
-
-    useOctal(octal) {
-        this.octal = octal;
-        LabSight.place('octal').setAttribute('aria-pressed', String(octal));
-        this.drawing?.useOctal(octal);
+        LabSight.place('octal').setAttribute('aria-pressed', String(words.octal));
     }
 }

@@ -17,13 +17,14 @@ const LabTelling = (() => {
     function fault(it, words) {
         const module = it.module === null ? '' : words(`module.${it.module}`);
         const latch = it.latch === null ? '' : Parts.module(it.module).latches[it.latch];
-        return words(`lab.hurt.${it.kind}`, { ...it, module, latch, span: span(it, words) });
+        const [twin, place] = [Spelling.twin(it.twin, words), it.place && Spelling.cell(it.place, words)];
+        return words(`lab.hurt.${it.kind}`, { ...it, module, latch, twin, place, span: span(it, words) });
     }
 
     /** What an act was; a line that can't be read stands as it is. */
     function act(lines, words) {
         const faults = faultsOf(lines);
-        if (isMemory(faults)) return words('lab.hurt.memory', { twin: faults[0].twin, span: span(faults[0], words) });
+        if (isMemory(faults)) return words('lab.hurt.memory', { twin: Spelling.twin(faults[0].twin, words), span: span(faults[0], words) });
         return faults.map((it, at) => (it ? fault(it, words) : lines[at])).join('; ');
     }
 
@@ -33,14 +34,15 @@ const LabTelling = (() => {
         return [...new Set(acting.map((it) => it.copy))].sort();
     }
 
-    const places = (lost) => [...lost.slice(0, MOST_PLACES).map((it) => it.address), ...(lost.length > MOST_PLACES ? ['…'] : [])].join(', ');
+    /** Some cells, of which the first ones are named. */
+    const cells = (addresses, words) => [...addresses.slice(0, MOST_PLACES).map((it) => Spelling.cell(it, words)), ...(addresses.length > MOST_PLACES ? ['…'] : [])].join(', ');
 
     const VALUES = {
         'this-time': ({ unmet }, _, words) => ({ why: words(`lab.why.${unmet}`) }),
-        'so-far': ({ report }) => ({ places: places(report.memory.filter((it) => it.lost)) }),
+        'so-far': ({ report }, _, words) => ({ places: cells(report.memory.filter((it) => it.lost).map((it) => it.address), words) }),
         logic: ({ report: { end } }, lines, words) => (
             { step: end.step, module: words(`module.${end.module}`), copies: wrongCopies(lines, end.module, end.step).join(' & ') }),
-        memory: ({ report: { end } }) => end,
+        memory: ({ report: { end } }, _, words) => ({ step: end.step, address: Spelling.cell(end.address, words) }),
         device: ({ report: { end } }) => end,
         refused: ({ refusal }) => refusal,
         // in a kiosk the field for instruction times isn't there
@@ -54,20 +56,41 @@ const LabTelling = (() => {
     }
 
     /** A line of the port log. */
-    function exchange(it, octal, words) {
+    function exchange(it, words) {
         if (!it) return words('row.nothing');
         const way = words(it.reading ? 'word.in' : 'word.out');
-        return words('lab.exchange', { time: it.time, way, port: it.port, word: octal ? it.word : Latches.decimal(it.word) });
+        return words('lab.exchange', { time: it.time, way, port: it.port, word: words.octal ? it.word : Latches.decimal(it.word) });
     }
 
-    /** Where a run through every fault parts from that of a healthy machine. */
-    function parting({ ends, first, registers, words: addresses }, words) {
-        const [healthy, other] = ends;
-        const inside = [...registers, ...addresses];
-        if (healthy !== other) return words('lab.parted.end', { healthy, this: other });
+    /** How a run ended; in octal by its line. */
+    function end(it, words) {
+        if (words.octal || it?.step === undefined) return words.octal ? it?.line ?? '' : words('lab.end.done');
+        return words(it.kind === 'stopped' && it.by !== 'MEMORY' ? 'lab.end.stopped' : 'lab.end.lost', { step: it.step });
+    }
+
+    /** The modules that have the registers of a report. */
+    const HOLDERS = { PLACE: 2, SAVER: 2, DATA: 4, DUP: 4, A: 5, PQ: 6 };
+
+    /** What a run holds otherwise than a healthy machine: in words the modules and cells, in octal the registers and addresses. */
+    function held(registers, addresses, words) {
+        const holders = words.octal ? registers : registers.filter((it) => HOLDERS[it]).map((it) => words(`module.${HOLDERS[it]}`));
+        const cells = addresses.map((it) => words('lab.cell', { cell: Spelling.cell(it, words) }));
+        return [...new Set([...holders, ...cells])].slice(0, MOST_PLACES);
+    }
+
+    /** Why two runs are the same in all that the reports tell. */
+    const harmless = ({ key, step, module }, words) => words(`lab.harmless.${key}`, { step, module: module ? words(`module.${module}`) : '' });
+
+    /** Where a run through every fault parts from that of a healthy machine; where it doesn't, why. */
+    function parting({ ends, first, registers, words: addresses, why }, words) {
+        if (ends[0]?.line !== ends[1]?.line) return words('lab.parted.end', { healthy: end(ends[0], words), this: end(ends[1], words) });
         if (first >= 0) return words('lab.parted.log');
-        return inside.length > 0 ? words('lab.parted.inside', { what: inside.slice(0, MOST_PLACES).join(', ') }) : words('lab.parted.none');
+        if (!why) return words('lab.parted.inside', { what: held(registers, addresses, words).join(', ') });
+        return [words('lab.parted.none'), harmless(why, words), words('lab.parted.luck')].join(' ');
     }
 
-    return { act, outcome, exchange, parting };
+    /** What a program does, where that is one of the examples; else its name. */
+    const program = (name, words) => (words.has(`program.${name}`) ? words(`program.${name}`) : name.replaceAll('-', ' '));
+
+    return { act, outcome, exchange, parting, program };
 })();

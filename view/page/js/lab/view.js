@@ -37,12 +37,12 @@ const LabView = (() => {
     }
 
     /** The words at the ports of a healthy machine and of this one, with the first that differs marked. */
-    function beside(healthy, other, parting, octal, words) {
+    function beside(healthy, other, parting, words) {
         const told = html('p', { id: 'parting' }, LabTelling.parting(parting, words));
         const length = Math.max(healthy.log.length, other.log.length);
         if (length === 0) return [told];
         const from = shownFrom(parting.first, length);
-        const rows = rowsBeside(healthy.log, other.log, parting.first, from, (it) => LabTelling.exchange(it, octal, words));
+        const rows = rowsBeside(healthy.log, other.log, parting.first, from, (it) => LabTelling.exchange(it, words));
         const shown = table({ class: 'numbers', id: 'beside' }, [words('through.healthy'), words('through.hurt')], rows);
         const left = length - from - rows.length;
         return [told, shown, ...(left > 0 ? [html('p', { class: 'plain' }, words('lab.more', { count: left }))] : [])];
@@ -58,9 +58,10 @@ const LabView = (() => {
         return [...faults.map((it) => at(it.first, it.module === null ? 'of-cell' : 'of-copy')), ...(end === null ? [] : [at(end, 'of-end')])];
     }
 
-    /** The instruction of a moment, and the line of the source that it is. */
+    /** What the instruction of a moment does; or, in octal, its name, and the line of the source that it is. */
     function instruction(it, words) {
         if (!it) return [words('moment.nothing')];
+        if (!words.octal) return [html('strong', {}, words(`does.${it.name}`))];
         return [code(it.text), ...(it.line ? [html('span', { class: 'source-line' }, it.line)] : [])];
     }
 
