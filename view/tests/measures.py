@@ -25,15 +25,11 @@ _MEASURES = """(({ texts, apart, targets }) => {
     const cut = leaves.filter((it) => isCut(box(it), words(it)));
     const small = all(targets).filter((it) => Math.min(box(it).width, box(it).height) < LEAST - 0.5);
     const low = leaves.filter((it) => parseFloat(getComputedStyle(it).fontSize) < innerHeight / LETTERS - 0.05);
-    const single = all(apart).filter((it) => it.textContent.trim());
-    const over = [];
-    single.forEach((one, at) => single.slice(at + 1).forEach((other) => {
-        if (one.contains(other) || other.contains(one)) return;
-        const [a, b] = [words(one), words(other)];
-        if (Math.min(a.right, b.right) - Math.max(a.left, b.left) > 2 && Math.min(a.bottom, b.bottom) - Math.max(a.top, b.top) > 2) {
-            over.push(`${named(one)} and ${named(other)}`);
-        }
-    }));
+    const isOver = (a, b) => Math.min(a.right, b.right) - Math.max(a.left, b.left) > 2 && Math.min(a.bottom, b.bottom) - Math.max(a.top, b.top) > 2;
+    const overlaid = (those, measured) => those.flatMap((one, at) => those.slice(at + 1)
+        .filter((other) => !one.contains(other) && !other.contains(one) && isOver(measured(one), measured(other)))
+        .map((other) => `${named(one)} and ${named(other)}`));
+    const over = [...overlaid(all(apart).filter((it) => it.textContent.trim()), words), ...overlaid(all(targets), box)];
     const scrolls = [document.documentElement, root].some((it) => it.scrollWidth > it.clientWidth + 1 || it.scrollHeight > it.clientHeight + 1);
     return { outside: outside.map(named), cut: cut.map(named), small: small.map(named), low: low.map(named), over, scrolls };
 })""".replace("LEAST", str(LEAST_TARGET)).replace("LETTERS", str(LETTERS_IN_HEIGHT))

@@ -243,7 +243,7 @@ const Board = (() => {
             group.setAttribute('aria-label', saying);
             const hit = svg('rect', { x: -1.225 * radius, y: -1.7 * radius, width: 2.45 * radius, height: 3.4 * radius, class: 'hit' });
             const rings = kind === 'healed' ? [ring(radius)] : [];
-            const bolts = marked ? [svg('g', { transform: `translate(${0.95 * radius} ${-0.95 * radius})` }, bolt(0.75 * radius))] : [];
+            const bolts = marked ? [svg('g', { transform: `translate(${0.85 * radius} ${-0.6 * radius})` }, bolt(0.65 * radius))] : [];
             const digit = svg('text', { y: 0.35 * this.places.em, class: 'copy-number' }, String(copy));
             group.replaceChildren(svg('title', {}, saying), hit, LAMPS[kind](radius), ...rings, ...bolts, digit);
         }
