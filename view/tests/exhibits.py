@@ -471,14 +471,27 @@ def try_visitor(page: Browser, path: pathlib.Path) -> None:
     expect("kiosk: faults of the page", page.faults() + page.strangers(), [])
 
 
+# All that a visitor can change: the screen, the language, what is hurt, what is pressed, and whether it plays.
+KIOSK_CONTROLS = """[document.querySelector('.kiosk').dataset.screen, document.documentElement.lang, document.querySelectorAll('.light.marked').length,
+    [...document.querySelectorAll('[aria-pressed]')].map((it) => it.ariaPressed).join(' '),
+    document.querySelector('.slide button:nth-of-type(3)').textContent, document.querySelector('.kiosk-text').textContent, scrollY]"""
+
+
 def try_idle(page: Browser, path: pathlib.Path) -> None:
-    """Where nobody touches anything for a while it begins anew, in its first language."""
+    """Where nobody touches anything for a while it begins anew, in its first language, and all controls are as at first."""
     opened(page, path, "kiosk&idle=3")
+    first = page.run(KIOSK_CONTROLS)
+    page.run(click(".slide button:nth-of-type(3)"))
+    paused = page.run(KIOSK_CONTROLS)
+    for _ in range(SCREENS - 1):
+        page.run(click(".next"))
+    for copy in (1, 2):
+        page.run(press(5, copy))
     page.run(click(".kiosk-head button:nth-of-type(2)"))
-    page.run(click(".next"))
-    changed = page.run("document.querySelector('.kiosk').dataset.screen + document.documentElement.lang")
-    begun = "document.querySelector('.kiosk').dataset.screen === '1' && document.documentElement.lang === 'en'"
-    expect("kiosk: it begins anew", [changed, page.until(begun, 10)], ["2de", True])
+    changed = page.run(KIOSK_CONTROLS)
+    expect("kiosk: what a visitor changed", [first == paused, *changed[:3]], [False, "5", "de", 2])
+    expect("kiosk: it begins anew", page.until("document.querySelector('.kiosk').dataset.screen === '1'", 10), True)
+    expect("kiosk: all controls are as at first", page.run(KIOSK_CONTROLS), first)
 
 
 MOST_TABS = 60

@@ -33,7 +33,7 @@ MEASURES = measures("h1, h2, p, button, .says, .number, .voter, .value, .port",
 
 # All that a visitor can change.
 CONTROLS = """[document.documentElement.lang, document.getElementById('sound').ariaPressed, document.getElementById('told').open, flight.alone,
-    scrollY,
+    flight.struck.length, flight.guess, document.querySelectorAll('.copy.struck, .memory[data-kind="dead"]').length, scrollY,
     [...document.querySelectorAll('[aria-pressed]')].map((it) => it.ariaPressed).join(' ')]"""
 KIND = "document.body.dataset.kind"
 
@@ -212,6 +212,8 @@ def try_idle(page: Guest, tally: Tally) -> None:
     """When a visitor has gone, all is as at first."""
     opened(page, "?kiosk&idle=2")
     first = page.run(CONTROLS)
+    point(page, '.memory[data-twin="1"]')
+    page.wait(f"{KIND} === 'asked'")
     for query in ('#languages [lang="de"]', "#sound", "#story"):
         point(page, query)
     page.run("flight.alone = false; 0")
