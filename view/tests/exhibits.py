@@ -462,6 +462,8 @@ def try_visitor(page: Browser, path: pathlib.Path) -> None:
     two = page.run("document.querySelector('.kiosk-text .sentence').dataset.verdict")
     wanted = [{"3-1": "differed"}, {"3-1": "hurt", "3-2": "hurt", "3-3": "differed"}]
     expect("kiosk: what a visitor broke is seen", [broken, page.run(UNWELL)], wanted)
+    kinds = page.run("[...document.querySelectorAll('.turn-part:nth-child(3) button')].map((it) => it.dataset.kind)")
+    expect("kiosk: the same by buttons, for a phone", kinds, ["hurt", "hurt", "alone"])
     expect("kiosk: one copy and then two of a module", [one, two], ["ADMISSIBLE", "LOGIC"])
     page.run(click(".kiosk-head button:nth-of-type(2)"))
     expect("kiosk: the other language", page.run("document.documentElement.lang"), "de")

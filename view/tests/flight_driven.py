@@ -92,14 +92,22 @@ def try_pairs(page: Guest, tally: Tally, worker: Worker, deck: str) -> None:
     tally.expect(f"{len(STEPS_TRIED) * len(PAIRS)} pairs of lies that change no word", same, [])
 
 
+def drawn_parts(draw: random.Random) -> list[dict[str, int]]:
+    """What is struck together: in a third of the cases two copies of one module, else one to three of anything."""
+    if draw.randrange(3) == 0:
+        module = draw.randint(1, 7)
+        return [{"module": module, "copy": copy} for copy in draw.sample([1, 2, 3], 2)]
+    return [{"twin": draw.randrange(2)} if draw.randrange(5) == 0 else {"module": draw.randint(1, 7), "copy": draw.randint(1, 3)}
+            for _ in range(draw.choice([1, 1, 2, 2, 3]))]
+
+
 def try_claims(page: Guest, tally: Tally, worker: Worker, count: int) -> None:
     """Whatever is struck, what is said of it agrees with the report of the same deck."""
     kinds: dict[str, int] = {}
     for number in range(count):
         draw = random.Random(number)
         first = draw.randrange(1, 3000)
-        parts = [{"twin": draw.randrange(2)} if draw.randrange(5) == 0 else {"module": draw.randint(1, 7), "copy": draw.randint(1, 3)}
-                 for _ in range(draw.choice([1, 1, 2, 2, 3]))]
+        parts = drawn_parts(draw)
         said = page.run(f"""(async (parts) => {{
             const faults = parts.flatMap((it) => (it.module ? Strikes.copy(it.module, it.copy, {first}) : Strikes.memory(it.twin, {first})));
             const flown = await Flown.of(flight.deck, [...new Set(faults)]);

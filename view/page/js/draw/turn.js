@@ -4,7 +4,7 @@
 const TurnView = (() => {
     const { html } = Element;
     const { keyOf } = Trace;
-    const SIGNS = { hurt: '✗', differed: '✗', healed: '✓' };
+    const SIGNS = { hurt: '✗', differed: '✗' };
 
     class Turn {
         /** `touch` is told which copy was pressed. */
@@ -24,9 +24,10 @@ const TurnView = (() => {
                 const key = keyOf(module, copy);
                 const kind = moment?.lamps.get(key) ?? 'well';
                 const state = [words(`lamp.${kind}`), ...(hurt.includes(key) ? [words('lamp.marked')] : [])].join(', ');
-                button.dataset.kind = kind;
+                // one that is right and outvoted by two others isn't marked as wrong
+                button.dataset.kind = kind === 'differed' && !hurt.includes(key) ? 'alone' : kind;
                 button.classList.toggle('marked', hurt.includes(key));
-                button.textContent = `${copy} ${SIGNS[kind] ?? ''}`;
+                button.textContent = `${copy} ${SIGNS[button.dataset.kind] ?? ''}`;
                 button.setAttribute('aria-label', words('lamp', { module: words(`module.${module}`), copy, state }));
             }
         }
