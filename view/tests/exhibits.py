@@ -474,7 +474,8 @@ def try_visitor(page: Browser, path: pathlib.Path) -> None:
 
 
 # All that a visitor can change: the screen, the language, what is hurt, what is pressed, and whether it plays.
-KIOSK_CONTROLS = """[document.querySelector('.kiosk').dataset.screen, document.documentElement.lang, document.querySelectorAll('.light.marked').length,
+KIOSK_CONTROLS = """[
+    document.querySelector('.kiosk').dataset.screen, document.documentElement.lang, document.querySelectorAll('.light.marked').length,
     [...document.querySelectorAll('[aria-pressed]')].map((it) => it.ariaPressed).join(' '),
     document.querySelector('.slide button:nth-of-type(3)').textContent, document.querySelector('.kiosk-text').textContent, scrollY]"""
 

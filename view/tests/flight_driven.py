@@ -234,10 +234,36 @@ def try_idle(page: Guest, tally: Tally) -> None:
 
 def try_state(page: Guest, tally: Tally, name: str) -> None:
     """What stands on the page measures well in all languages, and can be read by visitors."""
+    # what was struck shakes, over its neighbours, for a moment
+    page.run("document.querySelectorAll('.hit').forEach((it) => it.classList.remove('hit'))")
     for language in page.run("Object.keys(Words.LANGUAGES)"):
         page.run(f"flight.speak('{language}')")
         tally.expect(f"{name}, {language}", page.run(MEASURES), FINE)
         tally.expect(f"{name}, {language}: what visitors can't read", unreadable(page.run(ALL_TEXTS)), [])
+
+
+# Each further state of the flight: how a visitor, the time or a server that is gone comes to it, and what holds there.
+STRIKE = "flight.touch({what}, document.querySelector('.copy'))"
+REVEAL = "flight.state === 'asked' && flight.flown.text.includes('{line} ') && (flight.guess = false, flight.reveal(), true)"
+STATES = {
+    "one lie": ([STRIKE.format(what="{ module: 5, copy: 2 }")], REVEAL.format(line="FLIP 5 2"), f"{KIND} === 'flew'"),
+    "a dead memory": ([STRIKE.format(what="{ twin: 1 }")], REVEAL.format(line="DEAD 1"), f"{KIND} === 'flew'"),
+    "two dead memories": (
+        [STRIKE.format(what=f"{{ twin: {twin} }}") for twin in (0, 1)], REVEAL.format(line="DEAD 1"), f"{KIND} === 'broke'"),
+    "landed": (["flight.at = flight.steps"], "true", "flight.state === 'landed'"),
+    "no answer": (["flight.guarded(async () => { throw new Error('lab.late'); })"], "true", f"{KIND} === 'unknown'"),
+}
+
+
+def try_states(page: Guest, tally: Tally, name: str) -> None:
+    """Each of them measures well."""
+    for state, (steps, then, until) in STATES.items():
+        launch(page)
+        for step in steps:
+            page.run(f"{step}; 0")
+        page.wait(then)
+        page.wait(until)
+        try_state(page, tally, f"{name}: {state}")
 
 
 def try_measures(page: Guest, tally: Tally, sizes: list[tuple[int, int]]) -> None:
@@ -254,6 +280,7 @@ def try_measures(page: Guest, tally: Tally, sizes: list[tuple[int, int]]) -> Non
         page.run("flight.guess = true; flight.reveal()")
         page.wait(f"['broke', 'luck'].includes({KIND})")
         try_state(page, tally, f"{name}: the end")
+        try_states(page, tally, name)
         point(page, "#story")
         for _ in range(STORY):
             try_state(page, tally, f"{name}: the story")
