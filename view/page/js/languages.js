@@ -3,7 +3,7 @@
 window.LANGUAGES = {
  "en": {
   "language": "English",
-  "history": "A simulation after IBM's published description of the computer. Published are three copies, seven modules, voters and two memories; what the modules are called and do, the timing and the faults are this project's own.",
+  "history": "Built from what we were told IBM published: three copies, seven modules, voters, two memories. We had no copy of IBM's book; what the modules are called and do, the timing and the faults are our own.",
   "module.1": "timer",
   "module.2": "locator",
   "module.3": "decoder",
