@@ -144,6 +144,21 @@ plain-devices good same shows p times opens =
     let o = trial_under p [] in
     ap (λ (v : Voted). v.devices) (same o opens (3 * times)) ∙ (shows o opens times (good o opens refl (3 * times))).devices
 
+-- where nothing went over a port before a station, the plain run leaves the devices there as they were
+pub quiet-station : ((o : Opening) → o.unplugs ≡ [] → (n : ℕ) → (run o n).plain.log ≡ [] → (run o n).devices ≡ o.devices)
+    → ((o : Trial) → IsOpening o.opening → o.script ≡ [] → (n : ℕ) → first_bad_below o n ≡ Admissible)
+    → ((o : Trial) → IsOpening o.opening → (n : ℕ) → alone o n ≡ guarded o n)
+    → ((o : Trial) → IsOpening o.opening → (times : ℕ) → first_bad o times ≡ Admissible → ShowsTimes o times (guarded o (3 * times)))
+    → (p : Opening) (count : ℕ) (s : Snapshot) → IsStation p count s → p.unplugs ≡ [] → s.log ≡ [] → (run p (s.steps / 3)).devices ≡ p.devices
+quiet-station quiet good same shows p count s at none empty =
+    let o = trial_under p [] in
+    let times = s.steps / 3 in
+    let whole = at.whole.times in
+    let steps : 3 * times ≡ s.steps = omega (arith, whole) in
+    let log : (fault_free_at p (3 * times)).log ≡ (run p times).plain.log =
+    ap (λ (v : Voted). v.log) (same o at.opening (3 * times)) ∙ (shows o at.opening times (good o at.opening refl (3 * times))).log in
+    quiet p none times (sym log ∙ ap (λ (n : ℕ). (fault_free_at p n).log) steps ∙ at.means.log ∙ empty)
+
 -- ---- from a station on
 
 module _ (p : Opening) (count : ℕ) (s : Snapshot) (script : List Event) where

@@ -1,4 +1,4 @@
-ghost use Rattle.std.specs.Prelude.{◌≡◌, ℕ, ◌*◌, List, [], true};
+ghost use Rattle.std.specs.Prelude.{◌≡◌, ℕ, ◌*◌, ◌/◌, List, [], true};
 ghost use Rattle.lvdc_fault.specs.declared.verdict.Verdict.TheVariants.{Admissible};
 ghost use Rattle.lvdc_port.specs.Device.{Device};
 ghost use Rattle.lvdc_plain.specs.Run.{Opening, run, IsOpening};
@@ -14,7 +14,8 @@ ghost use Rattle.lvdc_model.specs.Runs.{through, guarded};
 ghost use Rattle.lvdc_model.specs.Trial.{Trial};
 ghost use Rattle.lvdc_campaign.specs.Campaign.{is_same};
 ghost use Rattle.lvdc_campaign.specs.Ran.{HasRun, HasRunPlainly, NonePlainlyFailed};
-ghost use Rattle.lvdc_campaign.specs.Stations.{fault_free_at};
+ghost use Rattle.lvdc_snapshot.specs.declared.snapshot.Snapshot.{Snapshot};
+ghost use Rattle.lvdc_campaign.specs.Stations.{fault_free_at, IsStation};
 ghost use Rattle.lvdc_campaign.specs.Window.{IsWindow, TellsAll};
 
 /// A law, which does nothing when it runs: under a script whose steps are all admissible the run through every fault comes to
@@ -50,6 +51,17 @@ pub fn unhurt_through()
 pub(crate) fn stations_have_plain_devices()
     ensures { (program : Opening) (times : ℕ) → IsOpening program → (fault_free_at program (3 * times)).devices ≡ (run program times).devices }
 {
+    lvdc_laws_voted::no_faults_no_verdict();
+    lvdc_laws_voted::judges_alone();
+    lvdc_laws_voted::guarded_times();
+}
+
+/// A law: up to a station before which nothing went over a port the plain run leaves the devices as they were, if none is taken away.
+pub fn quiet_stations_leave_devices()
+    ensures { (program : Opening) (count : ℕ) (s : Snapshot) → IsStation program count s → program.unplugs ≡ [] → s.log ≡ []
+        → (run program (s.steps / 3)).devices ≡ program.devices }
+{
+    lvdc_laws_runs::quiet_runs_leave_devices();
     lvdc_laws_voted::no_faults_no_verdict();
     lvdc_laws_voted::judges_alone();
     lvdc_laws_voted::guarded_times();

@@ -15,8 +15,8 @@ mod window;
 
 pub use early::station_before;
 pub use laws::{
-    admissible_is_same, plain_machine_has_run, through_is_guarded, through_is_shown,
-    unhurt_through, window_tells_all,
+    admissible_is_same, plain_machine_has_run, quiet_stations_leave_devices, through_is_guarded,
+    through_is_shown, unhurt_through, window_tells_all,
 };
 pub use row::Row;
 pub use rows::campaign;

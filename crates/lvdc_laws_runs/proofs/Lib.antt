@@ -9,4 +9,5 @@ pub mod Machines
 pub mod Spared
 pub mod Counted
 pub mod Staying
+mod Quiet
 mod Rows

@@ -5,7 +5,9 @@
 mod early;
 mod guarded;
 mod joined;
+mod ports;
 
 pub use early::{machines_may_begin_late, runs_begin_fault_free, steps_begin_admissible};
 pub use guarded::{failed_exchange, guarded_follows, guarded_keeps, guarded_words, unhurt_follows};
 pub use joined::{joined_runs_stay_joined, spared_memory_stores_words};
+pub use ports::quiet_runs_leave_devices;

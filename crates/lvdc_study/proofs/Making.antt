@@ -1,5 +1,7 @@
 -- Runs over devices that have the words of the TAPE lines.
-use Rattle.std.proofs.Common.{◌≡◌, ℕ, ◌+◌, ◌-◌, ◌*◌, ◌/◌, ◌≤◌, ◌==◌, true, List, [], ◌∷◌, map, refl, sym, subst, ◌∙◌, arith, zero-add, Result, Ok, Err}
+use Rattle.std.proofs.Common.{◌≡◌, ℕ, ◌+◌, ◌-◌, ◌*◌, ◌/◌, ◌≤◌, ◌==◌, true, List, [], ◌∷◌, map, refl, sym, subst, ◌∙◌, arith, length, zero-add, Result, Ok, Err}
+use Rattle.std.proofs.lemmas.Bool.{eqb-true}
+use Rattle.std.proofs.lemmas.List.{nil_from_length}
 use Rattle.std.specs.Prelude.{IfErr}
 use Rattle.std.specs.Bool.{if◌then◌else◌}
 use Rattle.std.specs.declared.option.Option.{Option}
@@ -210,6 +212,10 @@ has-ports device_of (x ∷ xs) (y ∷ ys) e port =
     let rest = has-ports device_of xs ys later port in
     λ i. if place i == port then true else rest i
 
+-- a list of no items is the empty one
+pub is-nil : {A : Type 0} (items : List A) → (length items == 0) ≡ true → items ≡ []
+is-nil items none = nil_from_length items (eqb-true (length items) 0 none)
+
 module _ {B : Type 0} (device_of : B → device.Device) (faults : B → ℕ) (old ready new : List B)
     (ports : ports_of (map device_of ready) ≡ ports_of (map device_of old)) (counts : map faults ready ≡ map faults old) where
   rose-since : (failed port : ℕ) → failed ≡ port → Rose (count_at device_of faults failed ready) (count_at device_of faults failed new)
@@ -232,6 +238,13 @@ module _ {B : Type 0} (device_of : B → device.Device) (faults : B → ℕ) (ol
   has-plainly-failed (Some plain_ends.Done) port is c = absurd is
   has-plainly-failed (Some (plain_ends.Stopped step stop)) port is c = absurd is
   has-plainly-failed (Some (plain_ends.Device step failed)) port is c = rose-since failed port is c.rose
+
+  -- devices of the same ports and counts are since then what they were
+  pub since-supplied : Since device_of faults old ready
+  since-supplied = record {
+    left = λ port has. sym (has-ports device_of ready old ports port) ∙ has;
+    counts = λ port has. count-same device_of faults port ready old ports counts;
+  }
 
   -- nothing has failed of what is left
   pub since-run : (end : Option Outcome) → NoneFailed end → HasCause device_of faults (answer_of_end end) ready new

@@ -16,7 +16,7 @@ ghost use Rattle.lvdc_study.specs.Study.{opening_over, IsProgram};
 use crate::laws::fails_early;
 use crate::runs::{failed_port, run_plain, run_script};
 use crate::{Program, Unstudied};
-use lvdc_campaign::{machine_at, station_before, stations_of};
+use lvdc_campaign::{machine_at, quiet_stations_leave_devices, station_before, stations_of};
 use lvdc_fault::Script;
 use lvdc_machine::{Machine, Mode, Snapshot};
 use lvdc_port::{PortDevice, supply_all};
@@ -49,24 +49,30 @@ pub fn make_stations(
     stations_of(alloc, program.orders, &mut machine, program.count, devices)
 }
 
-/// Brings devices in their first states to where the plain run has them after so many times.
+/// Brings devices in their first states to where the plain run has them at a station. Where nothing went over a port before it, and no
+/// device is taken away, they only get the words of the tapes.
 fn bring(
     alloc: Global,
     program: &Program<'_>,
-    times: u64,
+    station: &Snapshot,
     devices: &mut Vec<Box<dyn PortDevice>>,
 ) -> Result<(), Unstudied>
     requires program { IsProgram program.now }
-    requires within { times ≤ program.now.count }
+    requires station { IsStation (opening_over program.now (map device_of devices.old.items)) program.now.count station.now }
     requires distinct { AreDistinct (map device_of devices.old.items) }
-    ensures brought { OnOk result (map device_of devices.new.items ≡ (run (opening_over program.now (map device_of devices.old.items)) times).devices) }
+    ensures brought { OnOk result (map device_of devices.new.items ≡ (run (opening_over program.now (map device_of devices.old.items)) (station.now.steps / 3)).devices) }
     ensures distinct { OnOk result (AreDistinct (map device_of devices.new.items)) }
     ensures since { OnOk result (Since device_of faults devices.old.items devices.new.items) }
     ensures failed { IfErr result (λ e. HasFailed device_of faults e devices.old.items devices.new.items) }
-    ensures fails { IfErr result (λ e. FailsPlainly (opening_over program.now (map device_of devices.old.items)) times e) }
+    ensures fails { IfErr result (λ e. FailsPlainly (opening_over program.now (map device_of devices.old.items)) (station.now.steps / 3) e) }
 {
+    quiet_stations_leave_devices();
+    if program.unplugs.is_empty() && station.log.items().is_empty() {
+        supply_all(devices, program.supplies)?;
+        return Ok(());
+    }
     let early = Program {
-        count: times,
+        count: station.steps / 3,
         ..*program
     };
     match run_plain(alloc, &early, devices) {
@@ -101,7 +107,7 @@ fn run_from(
 {
     fails_early();
     let begin = station.steps / 3;
-    match bring(alloc, program, begin, devices) {
+    match bring(alloc, program, station, devices) {
         Ok(()) => {}
         Err(e) => return Err(e),
     }
