@@ -33,8 +33,8 @@ const Saying = (() => {
 
     /** The faults on memory that begin in the step. */
     function harms(moment, words) {
-        return moment.faults.filter((it) => it.twin !== null && it.first === moment.step)
-            .map((it) => words(`happens.${it.kind}`, { twin: Spelling.twin(it.twin, words), place: it.place && Spelling.cell(it.place, words), pair: it.pair }));
+        const told = ({ twin, place, pair }) => ({ twin: Spelling.twin(twin, words), place: place && Spelling.cell(place, words), pair });
+        return moment.faults.filter((it) => it.twin !== null && it.first === moment.step).map((it) => words(`happens.${it.kind}`, told(it)));
     }
 
     /** A cell that was found bad: it is rewritten, unless its twin is dead there. */

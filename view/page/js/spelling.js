@@ -38,7 +38,10 @@ const Spelling = (() => {
     const IN_OCTAL = { 5: ([latch]) => latch, 6: ([latch]) => latch, 7: request };
 
     /** What a module holds, in few characters: of the locator the cell of the next instruction, of the selector the first cell of the data. */
-    const module = (number, latches, words) => ((words.octal ? IN_OCTAL : IN_WORDS)[number] ?? (() => Latches.short(number, latches)))(latches, words);
+    function module(number, latches, words) {
+        const spelled = (words.octal ? IN_OCTAL : IN_WORDS)[number];
+        return spelled ? spelled(latches, words) : Latches.short(number, latches);
+    }
 
     return { cell, twin, instruction, content, module };
 })();

@@ -8,7 +8,10 @@ const Harmless = (() => {
     const spelled = (latches) => latches.join();
 
     /** The module whose vote isn't that of a healthy machine after a step, or none. */
-    const misled = (other, healthy) => Parts.MODULES.find(({ number }) => spelled(other.votes.get(number)) !== spelled(healthy.votes.get(number)))?.number ?? null;
+    function misled(other, healthy) {
+        const isOther = ({ number }) => spelled(other.votes.get(number)) !== spelled(healthy.votes.get(number));
+        return Parts.MODULES.find(isOther)?.number ?? null;
+    }
 
     /** Which of the steps have a vote that isn't a healthy machine's, by the number of its module. */
     const misledSteps = (other, healthy) => other.map((it, at) => (healthy[at] ? misled(it, healthy[at]) : null));

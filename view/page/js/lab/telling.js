@@ -35,7 +35,10 @@ const LabTelling = (() => {
     }
 
     /** Some cells, of which the first ones are named. */
-    const cells = (addresses, words) => [...addresses.slice(0, MOST_PLACES).map((it) => Spelling.cell(it, words)), ...(addresses.length > MOST_PLACES ? ['…'] : [])].join(', ');
+    function cells(addresses, words) {
+        const named = addresses.slice(0, MOST_PLACES).map((it) => Spelling.cell(it, words));
+        return [...named, ...(addresses.length > MOST_PLACES ? ['…'] : [])].join(', ');
+    }
 
     const VALUES = {
         'this-time': ({ unmet }, _, words) => ({ why: words(`lab.why.${unmet}`) }),
