@@ -16,7 +16,7 @@ if __name__ == "__main__":
     sys.path.insert(0, str(pathlib.Path(__file__).resolve().parents[2] / "python" / "src"))
 
 from box_tried import children_of
-from lab_running import TYPE, Lab, Tally, head_of, read_all, status_of
+from lab_running import Lab, Tally, head_of, read_all, status_of
 
 DECK = (pathlib.Path(__file__).resolve().parents[2] / "examples" / "one-wrong-copy.deck").read_bytes()
 # what an answer of the lab may be; 0 is none, where no request came
@@ -24,15 +24,15 @@ STATUSES = {0, 200, 400, 403, 404, 405, 411, 413, 414, 415, 421, 431, 501, 502, 
 METHODS = ["GET", "GET", "POST", "POST", "POST", "HEAD", "PUT", "OPTIONS", "get", "P\0ST", "", "X" * 300]
 PATHS = ["", "ask/run", "ask/form", "ask/save/2", "ask/trace/0/9", "ask/run/--through", "lab.html", "js/parts.js", "%2e%2e/x", "ask/" + "run/" * 500,
          "\u00e9"]
-PIECES = [b"\r\n", b"\n", b"\r", b"\0", b": ", b" ", b"\xff\xfe", b"\r\n\r\n", b"Content-Length: 3\r\n", b"Transfer-Encoding: chunked\r\n", b"x" * 5000,
-          b"%00", b"\t"]
+PIECES = [b"\r\n", b"\n", b"\r", b"\0", b": ", b" ", b"\xff\xfe", b"\r\n\r\n", b"Content-Length: 3\r\n", b"Transfer-Encoding: chunked\r\n",
+          b"x" * 5000, b"%00", b"\t"]
 AT_ONCE = 24
 SECONDS_OF_KILLING = 3.0
 
 
 def drawn_head(draw: random.Random, lab: Lab) -> list[str]:
     """The headers of a request: those of the lab's own page, some of which are missing, twice or others."""
-    headers = [f"Host: {lab.host}", f"Origin: http://{lab.host}", f"Content-Type: {TYPE}", f"Content-Length: {len(DECK)}", "Sec-Fetch-Site: same-origin"]
+    headers = [f"Host: {lab.host}", *lab.own_headers(DECK)]
     others = ["Host: evil.example", "Origin: null", "Content-Type: text/plain", "Content-Length: -1", f"Content-Length: {10 ** draw.randrange(9)}",
               "Sec-Fetch-Site: cross-site", "Transfer-Encoding: chunked", "Expect: 100-continue", "Connection: keep-alive", "Upgrade: websocket",
               "X: " + "x" * draw.choice([1, 1000, 70_000]), " folded", ":", "Range: bytes=0-"]
@@ -45,8 +45,8 @@ def drawn_head(draw: random.Random, lab: Lab) -> list[str]:
 def drawn_request(draw: random.Random, lab: Lab) -> bytes:
     """A request, some of whose bytes are others."""
     token = draw.choice([lab.token] * 6 + [lab.token[:-1], "", "x" * 22])
-    request = head_of(draw.choice(METHODS), f"/{token}/{draw.choice(PATHS)}", *drawn_head(draw, lab)) + DECK[:draw.choice([len(DECK), len(DECK), 0, 7])]
-    found = bytearray(request)
+    request = head_of(draw.choice(METHODS), f"/{token}/{draw.choice(PATHS)}", *drawn_head(draw, lab))
+    found = bytearray(request + DECK[:draw.choice([len(DECK), len(DECK), 0, 7])])
     for _ in range(draw.choice([0, 0, 1, 3])):
         at = draw.randrange(len(found) + 1)
         found[at:at + draw.choice([0, 1, 5, 50])] = draw.choice(PIECES)
