@@ -928,8 +928,8 @@ static void clear(void)
 // Is the input a saved text? Its first line says so.
 static int saves(void)
 {
-    if (input_size < 12 || memcmp(input, "LVDC SAVE 1", 11) != 0) return 0;
-    return input[11] == '\n' || (input_size > 12 && input[11] == '\r' && input[12] == '\n');
+    if (input_size < 11 || memcmp(input, "LVDC SAVE 1", 11) != 0) return 0;
+    return input_size == 11 || input[11] == '\n' || (input_size > 12 && input[11] == '\r' && input[12] == '\n');
 }
 
 // A run over a deck by the plain core: `run --plain`, and where no voted core is there, runs without faults.
@@ -948,7 +948,7 @@ static int answer_plain(const char *title, int with_registers)
 // A run over a deck or a saved text by the voted core: a report, a trace from a first step on where one is named, or both.
 static int answer_voted(const char *title, int way, int first, int told, int with_report)
 {
-    int is_saved = first != NONE && saves();
+    int is_saved = first != NONE && way == LVDC_GUARDED && saves();
     load_word = voted->load;
     int status = is_saved ? read_saved() : read_deck();
     if (status) return status;
