@@ -180,7 +180,8 @@ def trace(given: Given, first: int = 0, count: int | None = None, *, through: bo
     >>> found = lvdc.trace("IMAGE\\nLVDC 1\\n0 00 000 000017000\\nEND\\nRUN 1\\n")
     >>> len(found), str(found[0].exchange)
     (3, 'FETCH 0 00 000 000017000')
-    >>> [step.number for step in lvdc.trace(lvdc.save("IMAGE\\nLVDC 1\\nEND\\nRUN 3\\n", 2))]
+    >>> saved = lvdc.save("IMAGE\\nLVDC 1\\nEND\\nRUN 3\\n", 2)
+    >>> isinstance(saved, lvdc.Saved) and [step.number for step in lvdc.trace(saved)]
     [6, 7, 8]
     """
     check("a first step", first, END_OF_NUMBERS)
