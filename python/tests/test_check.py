@@ -23,6 +23,7 @@ CODE_SLIPS = [
     ("        ADD   =5", "BadOperand", 14, "says its base"), ("        ADD   =O-5", "BadOperand", 14, "has no sign"),
     ("        ADD   X,1", "BadOperand", 14, "no index register"), ("        CDS   0, 02", "BadOperand", 14, "write 0,02 without"),
     ("        TRA   *", "BadOperand", 14, "no * for the place"), ("        ADD   0.75", "BadOperand", 14, "--fraction 0.75B0"),
+    ("        ADD   =-0.75", "BadOperand", 14, "--fraction -0.75B0"), ("        ADD   =D-.5B3", "BadOperand", 14, "--fraction -0.5B3"),
     ("        CLA   x", "BadOperand", 14, "Names have capitals: X"), ("        CLA   TOOLONGNAME", "BadOperand", 14, "too long for a name"),
     ("        PIO   X", "BadOperand", 14, "wants an octal number"), ("        CLA   X.Y", "BadOperand", 14, "no name and no octal number"),
     ("CLA     X", "UnknownOperation", 0, "taken for a label"), ("        cla   X", "UnknownOperation", 8, "capitals: CLA"),

@@ -10,6 +10,7 @@ LABEL, OPERATION, OPERAND = range(3)
 _NAME = re.compile("[A-Z][A-Z0-9]{0,7}")
 _OCTAL, _DECIMAL = re.compile("[0-7]{1,9}"), re.compile("[+-]?[0-9]{1,9}")
 _SUM = re.compile(r"([A-Za-z][A-Za-z0-9]*)([+-])(.*)")
+_POINT = re.compile(r"[+-]?[0-9]*\.[0-9]+(B-?[0-9]+)?")
 _MOST_BYTES = 120
 # refusals of a line that has an operation of the language
 _OF_A_LINE = {"BadOperand", "BadDirective", "UndefinedName", "OutOfRange", "OutOfSector"}
@@ -92,8 +93,8 @@ def _of_operand(parts: Parts, line: str) -> str:
         if operand.endswith(",") and after:
             return f"A blank ends the operand: write {operand}{after[0]} without one."
         return "CDS wants a pair and a sector, in octal with a comma: CDS 0,02."
-    if re.fullmatch(r"[+-]?[0-9]*\.[0-9]+", operand):
-        return f"There is no constant with a point: lvdc-check --fraction {operand}B0 says the word of a fraction."
+    if _POINT.fullmatch(operand):
+        return _of_point(operand)
     if operation in ("OCT", "PIO", "SHF"):
         return _of_octal(operation, operand)
     if operation == "DEC":
@@ -122,6 +123,8 @@ def _of_literal(operation: str, operand: str) -> str:
     if operation not in WITH_LITERAL:
         return f"{operation} takes no literal: {_wanted(operation)}."
     kind, number = operand[1:2], operand[2:]
+    if _POINT.fullmatch(operand.lstrip("=D")):
+        return _of_point(operand.lstrip("=D"))
     if kind.isdigit() or kind in ("+", "-"):
         return f"A literal says its base: =D{operand[1:]} is decimal, =O octal, =HNAME a HOP constant."
     if kind == "O":
@@ -131,6 +134,13 @@ def _of_literal(operation: str, operand: str) -> str:
     if kind == "H":
         return f"=H wants the name of a line of code behind it: {_NAME_RULE}."
     return "A literal begins with =O, =D or =H."
+
+
+def _of_point(number: str) -> str:
+    """A number with a point, with a scale behind it or without one; lvdc-check wants a digit before the point."""
+    whole = re.sub(r"^([+-]?)\.", r"\g<1>0.", number)
+    scaled = whole if "B" in whole else f"{whole}B0"
+    return f"There is no constant with a point: lvdc-check --fraction {scaled} says the word of a fraction."
 
 
 def _of_octal(operation: str, digits: str) -> str:
@@ -150,8 +160,8 @@ def _of_decimal(digits: str) -> str:
     """A decimal number."""
     if re.fullmatch("[+-]?[0-9]{10,}", digits):
         return "A number has nine digits at most."
-    if re.fullmatch(r"[+-]?[0-9]*\.[0-9]+", digits):
-        return f"There is no constant with a point: lvdc-check --fraction {digits}B0 says the word of a fraction."
+    if _POINT.fullmatch(digits):
+        return _of_point(digits)
     return f"A decimal number is digits with a + or - before them or none, and {digits or 'nothing'} is none."
 
 
