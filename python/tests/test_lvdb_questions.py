@@ -75,6 +75,14 @@ def test_each_kind_of_mistake_is_named_with_its_line(worker: Worker, tmp_path: P
         assert told(console, f"catch {kind}", "continue").startswith(f"catch 1: {kind}: ")
 
 
+def test_each_instruction_that_makes_a_mistake_is_named_where_its_kind_is_asked(worker: Worker, tmp_path: Path) -> None:
+    path, options = written(tmp_path, source("CODE; CLA X; ADD Y; STO X; STO Y; STOP:TRA STOP; WORDS 0,01; X:DEC 1; Y:DEC 2; END"))
+    console = sitting(path, worker, options)
+    assert told(console, "mistakes").count("unset: ") == 1 and "(2 times in all)" in told(console, "mistakes")
+    named = told(console, "mistakes unset").split("\n")
+    assert [" changes X" in it or " changes Y" in it for it in named] == [True, True] and "times in all" not in "".join(named)
+
+
 @pytest.mark.parametrize("path", sorted(EXAMPLES.glob("programs/*.deck")), ids=lambda it: str(it.stem))
 def test_the_programs_make_no_mistake_but_by_intent(worker: Worker, path: Path) -> None:
     kinds = {it.kind for it in sitting(path, worker).debugger.mistakes().found}

@@ -14,7 +14,7 @@ from lvdc.lvdb.registry import COMMANDS, Told, command, want_nothing
 from lvdc.lvdb.show import made_text
 from lvdc.lvdb.stopping import watched
 from lvdc.parts import Parts
-from lvdc.values import Address, Word
+from lvdc.values import Address, Place, Word
 
 _MOST_LINES, _AT_EACH_END = 20, 10
 _PORT = re.compile("[0-3]?[0-7]{1,2}")
@@ -119,11 +119,13 @@ def mistakes(console: Console, words: list[str]) -> Iterator[str]:
         raise COMMANDS["mistakes"].wrong(f"{unknown[0]!r} is no kind")
     looked = console.debugger.mistakes()
     found = [it for it in looked.found if it.kind in (words or KINDS)]
-    counts, shown = Counter(it.kind for it in found), set[str]()
-    for it in found:
-        if it.kind not in shown:
-            shown.add(it.kind)
-            more = f" ({counts[it.kind]} times in all)" if counts[it.kind] > 1 else ""
+    # of a kind that is asked for each instruction that makes it is named, else the first one
+    keys = [(it.kind, it.made.place if words and it.made else None) for it in found]
+    counts, shown = Counter(keys), set[tuple[str, Place | None]]()
+    for key, it in zip(keys, found):
+        if key not in shown:
+            shown.add(key)
+            more = f" ({counts[key]} times in all)" if counts[key] > 1 else ""
             yield f"{it.kind}: {it.text}{more}"
     if not found:
         yield "none is found"
