@@ -35,6 +35,7 @@ _SHARED: list[Worker] = []
 
 def shared_worker() -> Worker:
     """The worker that is asked where none is named. It ends with this process; one that was closed or killed is replaced.
+    Raises NoWorker where there is no program.
 
     >>> import lvdc
     >>> lvdc.shared_worker().is_ended
@@ -115,6 +116,7 @@ def _deck(given: Given) -> str:
 
 def run(deck: Given, *, through: bool = False, plain: bool = False, worker: Asker | None = None, limit: float | None = None) -> Report:
     """Runs a deck on the voted machine up to its first inadmissible step; or through every fault; or on the plain machine.
+    Raises Refused where the program refuses it, ValueError where both are asked for.
 
     >>> import lvdc
     >>> lvdc.run("IMAGE\\nLVDC 1\\n0 00 000 000017000\\n0 01 000 000000005\\nEND\\nRUN 1\\n").registers.a
@@ -127,7 +129,7 @@ def run(deck: Given, *, through: bool = False, plain: bool = False, worker: Aske
 
 
 def assemble(source: Given, *, worker: Asker | None = None, limit: float | None = None) -> Listing:
-    """Assembles a source: a Source, a text, bytes or a path.
+    """Assembles a source: a Source, a text, bytes or a path. Raises Refused where the program refuses it.
 
     >>> import lvdc
     >>> print(lvdc.assemble("        ORG   0,00,0,000\\nLOOP    TRA   LOOP\\n        END\\n").names["LOOP"])
@@ -137,7 +139,7 @@ def assemble(source: Given, *, worker: Asker | None = None, limit: float | None 
 
 
 def assemble_image(source: Given, *, macros: bool = False, worker: Asker | None = None, limit: float | None = None) -> Image:
-    """Assembles a source, or one with macros, to its image.
+    """Assembles a source, or one with macros, to its image. Raises Refused where the program refuses it.
 
     >>> import lvdc
     >>> lvdc.assemble_image("        WORDS 0,01,000\\nFIVE    DEC   5\\n        END\\n")
@@ -148,7 +150,7 @@ def assemble_image(source: Given, *, macros: bool = False, worker: Asker | None 
 
 
 def expand(source: Given, *, worker: Asker | None = None, limit: float | None = None) -> Expansion:
-    """Writes out a source with macros.
+    """Writes out a source with macros. Raises Refused where the program refuses it.
 
     >>> import lvdc
     >>> lvdc.expand("        END\\n").lines
@@ -159,6 +161,7 @@ def expand(source: Given, *, worker: Asker | None = None, limit: float | None = 
 
 def debug(deck: Given, commands: Sequence[str] | None = None, *, worker: Asker | None = None, limit: float | None = None) -> Session:
     """Answers the commands of a debug session: those of the deck, or these in their place, a list of lines.
+    Raises Refused where the program refuses it.
 
     >>> import lvdc
     >>> print(lvdc.debug("IMAGE\\nLVDC 1\\nEND\\nRUN 2\\n", ["STEP 1"]).answers[0], end="")
@@ -175,6 +178,7 @@ def trace(given: Given, first: int = 0, count: int | None = None, *, through: bo
     """What happens in so many steps from the first one on, as far as they are made; without a count in all. Steps count from 0, three to an
     instruction time. They are asked in pieces of 100,000. What is given is a deck, or, but through every fault, a saved run, whose steps
     keep their numbers: where the first one was made before it was saved, the first that is left takes its place.
+    Raises Refused where the program refuses it.
 
     >>> import lvdc
     >>> found = lvdc.trace("IMAGE\\nLVDC 1\\n0 00 000 000017000\\nEND\\nRUN 1\\n")
@@ -201,7 +205,7 @@ def trace(given: Given, first: int = 0, count: int | None = None, *, through: bo
 
 
 def form(deck: Given, *, worker: Asker | None = None, limit: float | None = None) -> Form:
-    """Whether a deck's script masks by form.
+    """Whether a deck's script masks by form. Raises Refused where the program refuses it.
 
     >>> import lvdc
     >>> lvdc.form("IMAGE\\nLVDC 1\\nEND\\nFAULTS\\nLAG 1 1 0 0\\nLAG 1 2 0 0\\nRUN 1\\n").failing
@@ -211,7 +215,7 @@ def form(deck: Given, *, worker: Asker | None = None, limit: float | None = None
 
 
 def save(deck: Given, times: int, *, worker: Asker | None = None, limit: float | None = None) -> Saved | Report:
-    """The state after so many instruction times; the report, where the run ends in them.
+    """The state after so many instruction times; the report, where the run ends in them. Raises Refused where the program refuses it.
 
     >>> import lvdc
     >>> lvdc.save("IMAGE\\nLVDC 1\\nEND\\nRUN 3\\n", 2)
@@ -223,7 +227,7 @@ def save(deck: Given, times: int, *, worker: Asker | None = None, limit: float |
 
 
 def resume(saved: Given, *, worker: Asker | None = None, limit: float | None = None) -> Report:
-    """Goes on with a saved run up to its deck's count.
+    """Goes on with a saved run up to its deck's count. Raises Refused where the program refuses it.
 
     >>> import lvdc
     >>> saved = lvdc.save("IMAGE\\nLVDC 1\\nEND\\nRUN 3\\n", 2)
@@ -234,7 +238,7 @@ def resume(saved: Given, *, worker: Asker | None = None, limit: float | None = N
 
 
 def soak(number: int, *, worker: Asker | None = None, limit: float | None = None) -> Soak:
-    """Runs the deck that a number makes.
+    """Runs the deck that a number makes. Raises ValueError for one of 2^64 or more.
 
     >>> import lvdc
     >>> lvdc.soak(1, limit=60).number  # doctest: +SKIP
@@ -245,7 +249,7 @@ def soak(number: int, *, worker: Asker | None = None, limit: float | None = None
 
 
 def uplink(messages: Given, *, worker: Asker | None = None, limit: float | None = None) -> Uplink:
-    """Answers messages that patch an image: a text, bytes or a path.
+    """Answers messages that patch an image: a text, bytes or a path. Raises Refused where the program refuses it.
 
     >>> import lvdc
     >>> print(*lvdc.uplink("IMAGE\\nLVDC 1\\nEND\\nUPLINK\\nOPEN 1 2\\n").answers)

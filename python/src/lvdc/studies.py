@@ -184,7 +184,7 @@ def study_each(deck: Deck, scripts: Iterable[Script], *, worker: Asker | None = 
 
 def campaign(deck: Deck, scripts: Iterable[Script], *, worker: Asker | None = None, at_once: int = SCRIPTS_OF_CAMPAIGN,
              progress: bool | None = None, keep: str | os.PathLike[str] | None = None, outside: bool = False) -> Findings[CampaignRow]:
-    """The same without devices, and without what a study tells beyond the verdict and whether the outcome is the same.
+    """The same without devices, and without what a study tells beyond the verdict and whether the outcome is the same. Raises as study does.
 
     >>> import lvdc
     >>> deck = lvdc.Deck(lvdc.Image({lvdc.Address(0, 0, 0): 0o17000}), count=2)
