@@ -1,5 +1,5 @@
 """Cells, twins and banks: what is repaired, what is lost, what simplex pairs do."""
-from . import Case, deck
+from . import Case, deck, sum_deck
 
 TITLE = "memory"
 SHOWS = """The two memories that repair each other: damage, stuck bits and dead twins, under `run` and under `run --through`; and
@@ -98,6 +98,9 @@ CASES = [
     Case("a-stick-that-ends", "What was stuck shows the stored cell again when the event ends.", "run",
          read("Stuck in step 1 alone; step 7 reads the word without a repair.", "STICK 0 0 01 000 1 1 0000000001 0000000000", 3),
          has="A 000000005\nREPAIR 1 0 01 000 0 SWITCH", lacks=["REPAIR 7"]),
+    Case("an-operand-that-was-read", "In phase C the operand is read no more: a step isn't judged by it.", "run",
+         sum_deck("Both twins of 0 01 000 are damaged in step 2, behind the one read of it.",
+                  faults="DAMAGE 0 0 01 000 2 0000000001\nDAMAGE 1 0 01 000 2 0000000001"), has="END DONE\nTIMES 3\nMEM 0 01 000 ?"),
     Case("the-end-sees-the-last-step-begun",
          "Whether a word is told at the end is judged by what is stuck or dead in the last step begun.", "run",
          read("Both twins of 0 01 003 are stuck in step 2, the last one of the run.",
