@@ -94,6 +94,8 @@ CASES = [
             "The least negative fraction by the least positive one is too small for a step, and rounded down to -1.", "377777774",
             "000000004", "377777777"),
     product("a-product-of-two-signs", "Half by minus half.", "100000000", "300000000", "340000000"),
+    quotient("a-quotient-by-the-least-negative-word", "A quarter by the negative word that is nearest to 0 is the least fraction.", "040000000",
+             "377777774", "200000000"),
     quotient("a-quotient-of-two-signs", "A quarter by minus half.", "040000000", "300000000", "300000000"),
     quotient("a-quotient-is-cut-towards-0", "One third, with 24 bits, and its two lowest bits 0.", "000000004", "000000014",
              "052525250"),

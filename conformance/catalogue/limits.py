@@ -46,10 +46,14 @@ BELOW = [("FLIP module", "FLIP 0 1 0 0 0 1"), ("FLIP copy", "FLIP 1 0 0 0 0 1"),
          ("DEAD steps", "DEAD 0 3 10 9"), ("FORCE copy", "FORCE 1 0 9 9 0 1 1"),
          ("LAG module", "LAG 0 1 9 9"), ("LAG copy", "LAG 1 0 9 9"), ("DEAF copy", "DEAF 1 0 9 9"), ("FORCE module", "FORCE 0 1 9 9 0 1 1"),
          ("FORCE steps", "FORCE 1 1 10 9 0 1 1"), ("DEAF steps", "DEAF 1 1 10 9")]
+LONG = [("FLIP mask", "FLIP 5 1 9 9 0 0000000001"), ("FORCE mask", "FORCE 5 1 9 9 0 0000000001 1"), ("FORCE value", "FORCE 5 1 9 9 0 1 0000000001"),
+        ("DAMAGE pair", "DAMAGE 0 03 17 377 9 1"), ("DAMAGE sector", "DAMAGE 0 3 017 377 9 1"), ("DAMAGE location", "DAMAGE 0 3 17 0377 9 1"),
+        ("DAMAGE mask", "DAMAGE 0 3 17 377 9 00000000001"), ("STICK value", "STICK 0 3 17 377 9 9 1 00000000001"), ("DEAD pair", "DEAD 0 03 9 9")]
 SECTIONS = [
     ("TAPE port", "PORTS", "TAPE {} 1", "13", "14", "NoDevice"), ("TAPE port out of range", "PORTS", "TAPE {} 1", "13", "400", "BadLine"),
     ("TAPE word", "PORTS", "TAPE 0 {}", "377777777", "400000000", "BadLine"), ("UNPLUG port", "PORTS", "UNPLUG {} 9", "17", "20", "NoDevice"),
-    ("UNPLUG time", "PORTS", "UNPLUG 0 {}", "1000000", "1000001", "BadLine"),
+    ("UNPLUG time", "PORTS", "UNPLUG 0 {}", "1000000", "1000001", "BadLine"), ("TAPE last port", "PORTS", "TAPE {} 1", "13", "377", "NoDevice"),
+    ("UNPLUG last port", "PORTS", "UNPLUG {} 9", "17", "377", "NoDevice"), ("UNPLUG port out of range", "PORTS", "UNPLUG {} 9", "17", "400", "BadLine"),
 ]
 IMAGES = [("bank", "{} 17 377 000000001", "3", "4"), ("sector", "3 {} 377 000000001", "17", "20"), ("location", "3 17 {} 000000001", "377", "400"),
           ("word", "3 17 377 {}", "377777777", "400000000")]
@@ -62,16 +66,17 @@ def slug(name: str) -> str:
 
 
 def refused(name: str, line: str, given: str, cause: str, words: str = "run", status: int = 2) -> Case:
-    """A number above its limit."""
+    """A number out of its limits."""
     number = next(k for k, text in enumerate(given.split("\n"), 1) if text == line)
     return Case(slug(name), "%s: `%s` is refused." % (name, line), words, given, status, text="REFUSED %s %d\n" % (cause, number))
 
 
 def faults_above() -> list[Case]:
-    """Each number of a fault line one above its limit, and some below."""
+    """Each number of a fault line one above its limit, some below, and octal ones with a digit more than there may be."""
     cases = [refused(name + " above", line.replace("{}", above), image_deck(after=section("FAULTS", line.replace("{}", above))), "BadLine")
              for name, line, _, above in FAULTS]
-    return cases + [refused(name + " below", line, image_deck(after=section("FAULTS", line)), "BadLine") for name, line in BELOW]
+    return cases + [refused(name + wrong, line, image_deck(after=section("FAULTS", line)), "BadLine")
+                    for wrong, lines in ((" below", BELOW), (" with a digit more", LONG)) for name, line in lines]
 
 
 def decks_above() -> list[Case]:
@@ -149,6 +154,12 @@ SAVED = [
     ("IN port", FIRST_ORDER, "IN 0 377 377777777\n" + FIRST_ORDER, "IN 0 400 377777777"),
     ("IN word", FIRST_ORDER, "IN 0 377 377777777\n" + FIRST_ORDER, "IN 0 377 400000000"),
     ("REPAIR step", FIRST_ORDER, "REPAIR 2 3 17 377 1 SWITCH\n" + FIRST_ORDER, "REPAIR 3 3 17 377 1 SWITCH"),
+    ("CELL sector", FIRST_ORDER, FIRST_ORDER, "CELL 1 3 20 377 0000000001"),
+    ("CELL location", FIRST_ORDER, FIRST_ORDER, "CELL 1 3 17 400 0000000001"),
+    ("WORD sector", "WORD " + STOP, "WORD " + STOP + "\nWORD 3 17 377 000000001", "WORD " + STOP + "\nWORD 3 20 377 000000001"),
+    ("WORD location", "WORD " + STOP, "WORD " + STOP + "\nWORD 3 17 377 000000001", "WORD " + STOP + "\nWORD 3 17 400 000000001"),
+    ("REPAIR sector", FIRST_ORDER, "REPAIR 2 3 17 377 1 SWITCH\n" + FIRST_ORDER, "REPAIR 2 3 20 377 1 SWITCH"),
+    ("REPAIR location", FIRST_ORDER, "REPAIR 2 3 17 377 1 SWITCH\n" + FIRST_ORDER, "REPAIR 2 3 17 400 1 SWITCH"),
     ("REPAIR bank", FIRST_ORDER, "REPAIR 2 3 17 377 1 SWITCH\n" + FIRST_ORDER, "REPAIR 2 4 17 377 1 SWITCH"),
     ("STATE word", FIRST_ORDER, "STATE 000 377777777\n" + FIRST_ORDER, "STATE 000 400000000"),
     ("UNPLUG time", FIRST_ORDER, "UNPLUG 000 1000000\n" + FIRST_ORDER, "UNPLUG 000 1000001"),
@@ -174,7 +185,8 @@ def saved_cases() -> list[Case]:
 def ports() -> list[Case]:
     """Devices at the limits of their ports."""
     return [refused("saved STATE port above", "STATE 020 000000001", changed(STANDS, FIRST_ORDER, "STATE 020 000000001"), "NoDevice", "resume"),
-            refused("saved UNPLUG port above", "UNPLUG 020 1", changed(STANDS, FIRST_ORDER, "UNPLUG 020 1"), "NoDevice", "resume")]
+            refused("saved UNPLUG port above", "UNPLUG 020 1", changed(STANDS, FIRST_ORDER, "UNPLUG 020 1"), "NoDevice", "resume"),
+            refused("saved UNPLUG last port above", "UNPLUG 377 1", changed(STANDS, FIRST_ORDER, "UNPLUG 377 1"), "NoDevice", "resume")]
 
 
 def windows() -> list[Case]:
