@@ -60,9 +60,9 @@ def changed_text(change: Change) -> str:
     return text
 
 
-def compiled(source: str | ast.Module, path: pathlib.Path) -> types.CodeType:
-    """The code of a module's source."""
-    code = compile(source, str(path), "exec")
+def compiled(source: str | ast.Module, path: pathlib.Path, optimize: int = -1) -> types.CodeType:
+    """The code of a module's source; assertions are as this program's own, or with 0 they hold."""
+    code = compile(source, str(path), "exec", optimize=optimize)
     assert isinstance(code, types.CodeType)
     return code
 
