@@ -75,6 +75,7 @@ CASES = [
     asked("a-dead-line-longer-than-the-run", "A DEAD line may end after the run.", "DEAD 0 1 3 2999999"),
     asked("dead-by-two-lines", "Each DEAD line is asked by itself, though the two make one death.", "DEAD 0 1 0 2\nDEAD 0 1 3 5", 4),
     asked("both-twins-die", "The other twin is named by its own DEAD line.", "DEAD 0 1 0 5\nDEAD 1 1 0 5", 4),
+    asked("twin-0-is-named-and-twin-1-dies", "The other twin of twin 1 is twin 0.", "DEAD 1 1 0 5\nDAMAGE 0 1 00 000 0 1", 4),
     asked("a-stuck-bit-of-the-other-twin", "The other twin is named by a STICK line.", "DEAD 0 1 0 5\nSTICK 1 1 00 000 0 0 1 1", 4),
     asked("the-other-twin-after-the-run", "A line on the other twin that begins after the run isn't asked.",
           "DEAD 0 1 0 5\nDAMAGE 1 1 00 000 6 1"),

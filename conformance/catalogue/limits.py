@@ -53,7 +53,8 @@ SECTIONS = [
     ("TAPE port", "PORTS", "TAPE {} 1", "13", "14", "NoDevice"), ("TAPE port out of range", "PORTS", "TAPE {} 1", "13", "400", "BadLine"),
     ("TAPE word", "PORTS", "TAPE 0 {}", "377777777", "400000000", "BadLine"), ("UNPLUG port", "PORTS", "UNPLUG {} 9", "17", "20", "NoDevice"),
     ("UNPLUG time", "PORTS", "UNPLUG 0 {}", "1000000", "1000001", "BadLine"), ("TAPE last port", "PORTS", "TAPE {} 1", "13", "377", "NoDevice"),
-    ("UNPLUG last port", "PORTS", "UNPLUG {} 9", "17", "377", "NoDevice"), ("UNPLUG port out of range", "PORTS", "UNPLUG {} 9", "17", "400", "BadLine"),
+    ("UNPLUG last port", "PORTS", "UNPLUG {} 9", "17", "377", "NoDevice"),
+    ("UNPLUG port out of range", "PORTS", "UNPLUG {} 9", "17", "400", "BadLine"),
 ]
 IMAGES = [("bank", "{} 17 377 000000001", "3", "4"), ("sector", "3 {} 377 000000001", "17", "20"), ("location", "3 17 {} 000000001", "377", "400"),
           ("word", "3 17 377 {}", "377777777", "400000000")]
@@ -187,6 +188,7 @@ def ports() -> list[Case]:
     """Devices at the limits of their ports."""
     return [refused("saved STATE port above", "STATE 020 000000001", changed(STANDS, FIRST_ORDER, "STATE 020 000000001"), "NoDevice", "resume"),
             refused("saved UNPLUG port above", "UNPLUG 020 1", changed(STANDS, FIRST_ORDER, "UNPLUG 020 1"), "NoDevice", "resume"),
+            refused("saved STATE port out of range", "STATE 400 000000001", changed(STANDS, FIRST_ORDER, "STATE 400 000000001"), "BadSave", "resume"),
             refused("saved UNPLUG last port above", "UNPLUG 377 1", changed(STANDS, FIRST_ORDER, "UNPLUG 377 1"), "NoDevice", "resume")]
 
 

@@ -18,6 +18,17 @@ DEVICES = deck("A tape, a latch, the recorder; another tape is unplugged. A twin
                order="UTSRQPONMLKJIHGFEDCBA\nABCDEFGHIJKLMNOPQRSTU")
 
 
+LATER = """
+FLIP 2 3 7 8 0 000000004
+FORCE 5 1 7 8 0 000000007 000000003
+LAG 5 1 6 6
+DEAF 6 2 8 8
+DAMAGE 1 3 17 377 8 0000000001
+STICK 0 3 17 376 8 8 0000000001 0000000000
+DEAD 0 2 8 8
+"""
+
+
 def saved(given: str, times: int) -> str:
     return answer(["save", str(times)], given)[1]
 
@@ -99,6 +110,11 @@ CASES = [
          "What devices hold, UNPLUG lines, the script, the orders; copies that differ, with their counts.", "save 5", DEVICES,
          has="STATE 000 000000002\nSTATE 001 000000005\nSTATE 014 000000001\nSTATE 017 000000001\nUNPLUG 001 6\nUNPLUG 013 "
          "9\nDEAD 0 2 0 40"),
+    Case("a-device-before-and-behind-its-end", "A device is there until its UNPLUG line's time, though the state is of an earlier one.", "resume",
+         saved(deck("The tape at port 001 is read at even times.", "12401 10000", "", 10, ports="TAPE 001 1 2 3 4 5\nUNPLUG 001 6"), 3),
+         has="IN 2 001 000000002\nIN 4 001 000000003\nIN 6 001 000000000\nIN 8 001 000000000"),
+    Case("each-kind-of-fault-is-saved", "A saved script has the spelling of a saved text.", "save 1", sum_deck("All of steps to come.", faults=LATER),
+         has=LATER),
     Case("devices-go-on", "A run goes on with its devices, its script and its orders; the device of time 6 is taken away then.",
          "resume", DEVICES_SAVED, has="IN 0 000 000000001\nIN 5 000 000000002\nIN 8 001 000000000\nIN 10 000 000000003"),
     Case("devices-in-one-run", "The same deck in one run: the report that resume comes to.", "run", DEVICES,
@@ -129,6 +145,9 @@ CASES = [
             "COPY 3 1 0\n"), number(TWO_SAVED, "COPY 3 1")),
     refused("a-difference-count-too-large", "No copy differs in more steps than were made.", changed(TWO_SAVED, "COPY 3 1 0 ",
             "COPY 3 1 4 "), number(TWO_SAVED, "COPY 3 1")),
+    *(refused("phase-%d-in-two-copies" % phase, "A PHASE of %d modulo 4 in two copies is named at the second of them." % (phase % 4),
+              TWO_SAVED.replace("COPY 1 1 0 000000000", "COPY 1 1 0 00000000%d" % phase).replace("COPY 1 2 0 000000000", "COPY 1 2 0 00000000%d" % phase),
+              number(TWO_SAVED, "COPY 1 2")) for phase in (3, 5)),
     refused("a-vote-of-phase", "PHASE is voted 0 modulo 4 between times: 1 in two copies is named at the second of them.",
             TWO_SAVED.replace("COPY 1 1 0 000000000", "COPY 1 1 0 000000001").replace("COPY 1 2 0 000000000",
             "COPY 1 2 0 000000001"), number(TWO_SAVED, "COPY 1 2")),
