@@ -96,8 +96,6 @@ CASES = [
     product("a-product-of-two-signs", "Half by minus half.", "100000000", "300000000", "340000000"),
     quotient("a-quotient-by-the-least-negative-word", "A quarter by the negative word that is nearest to 0 is the least fraction.", "040000000",
              "377777774", "200000000"),
-    Case("that-quotient-of-the-plain-machine", "The same by the plain machine.", "run --plain", deck("A quarter by 377777774.", DIVIDE,
-         "040000000 377777774", 11), has="A 200000000\nPQ 200000000"),
     quotient("a-quotient-of-two-signs", "A quarter by minus half.", "040000000", "300000000", "300000000"),
     quotient("a-quotient-is-cut-towards-0", "One third, with 24 bits, and its two lowest bits 0.", "000000004", "000000014",
              "052525250"),

@@ -26,6 +26,8 @@ def of_pq(name: str, code: str, words: str, run: int, has: str, shows: str) -> C
 
 
 CASES = [
+    Case("a-word-that-nothing-stored", "A word that has no line is 0, which is executed as HOP 000.", "run",
+         deck("TRA 003, and HOP 000 there.", "10003", "000010016 000020016", 2), has="TIMES 2\nPLACE 0 00 0 004"),
     Case("the-start-without-a-time",
          "No time is made: place and data place are those of the start constant 000000016, all else is 0.", "run",
          deck("Nothing is run, and memory is empty.", run=0), text=EMPTY, worked=True),
