@@ -189,6 +189,7 @@ def ports() -> list[Case]:
     return [refused("saved STATE port above", "STATE 020 000000001", changed(STANDS, FIRST_ORDER, "STATE 020 000000001"), "NoDevice", "resume"),
             refused("saved UNPLUG port above", "UNPLUG 020 1", changed(STANDS, FIRST_ORDER, "UNPLUG 020 1"), "NoDevice", "resume"),
             refused("saved STATE port out of range", "STATE 400 000000001", changed(STANDS, FIRST_ORDER, "STATE 400 000000001"), "BadSave", "resume"),
+            refused("saved UNPLUG port out of range", "UNPLUG 400 1", changed(STANDS, FIRST_ORDER, "UNPLUG 400 1"), "BadSave", "resume"),
             refused("saved UNPLUG last port above", "UNPLUG 377 1", changed(STANDS, FIRST_ORDER, "UNPLUG 377 1"), "NoDevice", "resume")]
 
 

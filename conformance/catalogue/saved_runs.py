@@ -106,6 +106,9 @@ CASES = [
          has="A 000000005\nSAVER 000004016\nREPAIR 1 0 01 000 0 SWITCH\nREPAIR 7 0 01 000 1 SWITCH", worked=True),
     Case("a-repair-that-switched-nothing", "The report says of a saved repair what its line says.", "resume",
          state({}, ["0 00 000 000017001"], 1, "REPAIR 0 0 00 000 1\n"), has="END DONE\nREPAIR 0 0 00 000 1"),
+    Case("a-repair-in-the-last-bank", "Bank 7 is there in a saved text whose pair 3 is simplex.", "resume",
+         changed(state({}, ["0 00 000 000017001"], 1, "WORD 7 17 377 000000001\nREPAIR 0 7 17 377 1\n"), "COUNT 1\n", "COUNT 1\nSIMPLEX 3\n"),
+         has="END DONE\nMEM 7 17 377 ?\nREPAIR 0 7 17 377 1"),
     Case("devices-and-wrong-copies-are-saved",
          "What devices hold, UNPLUG lines, the script, the orders; copies that differ, with their counts.", "save 5", DEVICES,
          has="STATE 000 000000002\nSTATE 001 000000005\nSTATE 014 000000001\nSTATE 017 000000001\nUNPLUG 001 6\nUNPLUG 013 "
