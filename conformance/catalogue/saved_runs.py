@@ -149,7 +149,8 @@ CASES = [
     refused("a-difference-count-too-large", "No copy differs in more steps than were made.", changed(TWO_SAVED, "COPY 3 1 0 ",
             "COPY 3 1 4 "), number(TWO_SAVED, "COPY 3 1")),
     *(refused("phase-%d-in-two-copies" % phase, "A PHASE of %d modulo 4 in two copies is named at the second of them." % (phase % 4),
-              TWO_SAVED.replace("COPY 1 1 0 000000000", "COPY 1 1 0 00000000%d" % phase).replace("COPY 1 2 0 000000000", "COPY 1 2 0 00000000%d" % phase),
+              TWO_SAVED.replace("COPY 1 1 0 000000000", "COPY 1 1 0 00000000%d" % phase)
+              .replace("COPY 1 2 0 000000000", "COPY 1 2 0 00000000%d" % phase),
               number(TWO_SAVED, "COPY 1 2")) for phase in (3, 5)),
     refused("a-vote-of-phase", "PHASE is voted 0 modulo 4 between times: 1 in two copies is named at the second of them.",
             TWO_SAVED.replace("COPY 1 1 0 000000000", "COPY 1 1 0 000000001").replace("COPY 1 2 0 000000000",
