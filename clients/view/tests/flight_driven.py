@@ -9,7 +9,7 @@ import time
 import lvdc
 from lab_driven import Visitor
 from lab_running import Lab, Tally
-from measures import FEW_SIZES, FINE, SIZES, measures
+from measures import FEW_SIZES, FINE, SIZES, faint, measures
 from visitors import ALL_TEXTS, unreadable
 from lvdc.workers import Worker
 
@@ -288,18 +288,6 @@ def try_measures(page: Guest, tally: Tally, sizes: list[tuple[int, int]]) -> Non
     page.size(1366, 768)
 
 
-CONTRAST = """(() => {
-    const part = (it) => (it <= 0.04045 ? it / 12.92 : ((it + 0.055) / 1.055) ** 2.4);
-    const luminance = (name) => {
-        const colour = getComputedStyle(document.documentElement).getPropertyValue(name).trim();
-        const [r, g, b] = colour.match(/[0-9a-f]{2}/gi).map((it) => part(Number.parseInt(it, 16) / 255));
-        return 0.2126 * r + 0.7152 * g + 0.0722 * b;
-    };
-    return PAIRS.filter(([one, other, least]) => {
-        const [light, dark] = [luminance(one), luminance(other)].sort((a, b) => b - a);
-        return (light + 0.05) / (dark + 0.05) < least;
-    });
-})()"""
 CONTRASTS = [("--text", "--night", 4.5), ("--text", "--card", 4.5), ("--muted", "--card", 4.5), ("--text", "--well", 4.5), ("--muted", "--well", 4.5),
              ("--text", "--lie", 4.5), ("--text", "--alone", 4.5), ("--on-button", "--button", 4.5), ("--lie-edge", "--card", 4.5),
              ("--edge", "--night", 3), ("--edge", "--card", 3), ("--well-edge", "--card", 3), ("--lie-edge", "--night", 3)]
@@ -310,7 +298,7 @@ def try_flight(lab: Lab, tally: Tally, worker: Worker, is_whole: bool) -> None:
     with Guest(lab) as page:
         page.size(1366, 768)
         opened(page)
-        tally.expect("contrasts that are too low", page.run(CONTRAST.replace("PAIRS", json.dumps(CONTRASTS))), [])
+        tally.expect("contrasts that are too low", page.run(faint(CONTRASTS)), [])
         deck = page.run("flight.healthy.text")
         try_pairs(page, tally, worker, deck)
         try_claims(page, tally, worker, DRAWN_STRIKES if is_whole else FEW_STRIKES)

@@ -23,6 +23,7 @@ SIZES = [(390, 844), (768, 1024), (1366, 768), (1920, 1080)]
 LEAST_TARGET = 44
 LARGE_LETTERS = 24
 MOST_MILLISECONDS = 100
+MOST_PAGES = 500
 HOSTILE_AT_ONCE = 1000
 
 # Decks that can't be shown, and what the page says of each.
@@ -53,12 +54,12 @@ SAYS = """(() => {
     };
 })()"""
 RESTS = ("document.body.getAttribute('aria-busy') === 'false' && document.getElementById('outcome').dataset.kind !== undefined "
-         "&& document.querySelector('#board .light') !== null")
+         "&& document.querySelector('#board [role=\"button\"]') !== null")
 
 
 # All that a visitor can set, and where the page stands.
-CONTROLS = """[[...document.querySelectorAll('input, select, details, [aria-pressed]')].map((it) =>
-    [it.id || it.lang, it.value, it.checked, it.open, it.getAttribute('aria-pressed')].join()).join(' '), scrollY]"""
+CONTROLS = """[[...document.querySelectorAll('input, select, [aria-pressed], [aria-selected]')].map((it) =>
+    [it.id || it.lang, it.value, it.checked, it.getAttribute('aria-pressed'), it.getAttribute('aria-selected')].join()).join(' '), scrollY]"""
 
 
 class Visitor(Browser):
@@ -83,9 +84,11 @@ class Visitor(Browser):
             time.sleep(0.02)
 
     def press(self, query: str) -> None:
-        """Presses in the middle of an element with the mouse, and waits for what becomes of it."""
+        """Presses in the middle of an element with the mouse, and waits for what becomes of it. What stands behind a tab is brought to sight."""
         middle = f"""(() => {{
             const it = document.querySelector({json.dumps(query)});
+            const panel = it.closest('.lab-panel, #outcome')?.id ?? 'more';
+            if (!it.checkVisibility()) document.getElementById(`tab-${{panel}}`).click();
             it.scrollIntoView({{ block: 'center' }});
             const {{ left, top, width, height }} = it.getBoundingClientRect();
             return [left + width / 2, top + height / 2];
@@ -99,9 +102,23 @@ class Visitor(Browser):
         """Presses the lamp of a copy."""
         self.press(f'#board .light[data-module="{module}"][data-copy="{copy}"]')
 
+    def cell(self, twin: int, place: str) -> str:
+        """A query for a cell, once its page is turned to."""
+        query = f'#board .slot[data-twin="{twin}"][data-place="{place}"]'
+        for _ in range(MOST_PAGES):
+            if self.run(f"document.querySelector('{query}') !== null"):
+                break
+            self.run("document.querySelector('#cells-pages button:last-child').click()")
+        return query
+
     def press_cell(self, twin: int, place: str) -> None:
         """Presses a cell."""
-        self.press(f'#board .slot[data-twin="{twin}"][data-place="{place}"]')
+        self.press(self.cell(twin, place))
+
+    def states(self, twin: int, place: str) -> list[str]:
+        """What has befallen a cell, and what is done with it."""
+        told: str = self.run(f"document.querySelector('{self.cell(twin, place)}').dataset.states")
+        return told.split()
 
     def go_to(self, step: int) -> None:
         """Moves the slider."""
@@ -249,10 +266,10 @@ def try_cells(page: Visitor, tally: Tally, worker: Worker) -> None:
     page.go_to(steps[0] - 1)
     page.press_cell(0, place)
     says = try_outcome(page, tally, worker, "a cell", "always")
-    tally.expect("a cell: damaged", says["cells"][f"0 {place}"].split(), ["damaged", "marked"])
+    tally.expect("a cell: damaged", page.states(0, place), ["damaged", "marked"])
     repair = lvdc.run(says["deck"], worker=worker).repairs[0]
     page.go_to(repair.step)
-    tally.expect("a cell: mended as it is read", "mended" in page.says()["cells"][f"0 {place}"].split(), True)
+    tally.expect("a cell: mended as it is read", "mended" in page.states(0, place), True)
     page.press("#forward")
     page.press_cell(1, place)
     try_outcome(page, tally, worker, "a cell once more", "this-time")
@@ -291,7 +308,7 @@ def try_late(page: Visitor, tally: Tally, worker: Worker) -> None:
     for step in (steps[0] - 1, steps[0] + LATE):
         page.go_to(step)
         cells = re.findall(f"^CELL [01] {place} ([0-7]+)$", str(lvdc.save(page.says()["deck"], step // 3, worker=worker)), re.MULTILINE)
-        damaged = "damaged" in page.says()["cells"][f"0 {place}"].split()
+        damaged = "damaged" in page.states(0, place)
         tally.expect(f"a cell that is read late, at step {step}: its twins differ", [damaged, len(set(cells)) > 1], [step < steps[0]] * 2)
     page.choose(PROGRAM)
 
@@ -361,13 +378,19 @@ def try_keys(page: Visitor, tally: Tally) -> None:
     page.key("ArrowRight", 39)
     page.wait()
     tally.expect("keys: a step on", page.says()["step"], STEP + 1)
+    controls = "[...document.querySelectorAll('button, select, input, textarea')]"
+    unnamed = f"{controls}.filter((it) => !it.textContent.trim() && !it.ariaLabel && !it.labels?.length).length"
+    unreached = f"{controls}.filter((it) => it.tabIndex < 0 && it.role !== 'tab').length"
+    tally.expect("keys: all has a name and is reached", [page.run(unnamed), page.run(unreached)], [0, 0])
+    page.run("document.querySelector('#tabs [tabindex=\"0\"]').focus()")
+    page.key("ArrowRight", 39)
+    page.key("Enter", 13, "\r")
+    stops = "document.querySelectorAll('#tabs [tabindex=\"0\"]').length"
+    tally.expect("keys: a tab, of which one is a stop", [page.run("document.body.dataset.panel"), page.run(stops)], ["broken", 1])
     page.run("document.getElementById('undo').focus()")
     page.key("Enter", 13, "\r")
     page.wait()
     tally.expect("keys: undo", len(page.says()["acts"]), 1)
-    controls = "[...document.querySelectorAll('button, select, input, textarea')]"
-    unnamed = f"{controls}.filter((it) => !it.textContent.trim() && !it.ariaLabel && !it.labels?.length).length"
-    tally.expect("keys: all has a name and is reached", [page.run(unnamed), page.run(f"{controls}.filter((it) => it.tabIndex < 0).length")], [0, 0])
     page.press("#again")
 
 

@@ -16,9 +16,9 @@ const Board = (() => {
 
     const line = (one, other, kind) => svg('line', { x1: one.x, y1: one.y, x2: other.x, y2: other.y, class: kind });
     const text = (x, y, kind, words) => svg('text', { x, y, class: kind }, words);
-    /** A text in the middle of a box, pressed together where it would be too long. */
-    function fitted(place, y, kind, words, em, each) {
-        const made = text(place.middle, y, kind, words);
+    /** A text in the middle of a box, or where its style has it begin there, pressed together where it would be too long. */
+    function fitted(place, kind, words, em, each) {
+        const made = text(place.middle, place.y, kind, words);
         const room = place.width - 0.6 * em;
         if (words.length * each * em <= room) return made;
         made.setAttribute('textLength', String(room));
@@ -55,9 +55,9 @@ const Board = (() => {
 
     function wires(places) {
         const { bus, modules, memories, ports } = places;
-        const down = (gate) => line(gate, { x: gate.x, y: bus.y }, 'wire');
-        return svg('g', { class: 'wires', 'aria-hidden': 'true' }, ...[...modules.values(), ...memories, ports].map((it) => down(it.gate)),
-            line({ x: bus.first, y: bus.y }, { x: bus.last, y: bus.y }, 'bus'));
+        const ends = [bus.first, bus.last].map((it) => (bus.upright ? { x: bus.x, y: it } : { x: it, y: bus.y }));
+        const joined = ({ gate }) => line(gate, bus.upright ? { x: bus.x, y: gate.y } : { x: gate.x, y: bus.y }, 'wire');
+        return svg('g', { class: 'wires', 'aria-hidden': 'true' }, ...[...modules.values(), ...memories, ports].map(joined), line(...ends, 'bus'));
     }
 
     function lampPart(number, copy, place, press) {
@@ -66,14 +66,14 @@ const Board = (() => {
         return made;
     }
 
-    /** What a voter is drawn as: three wires come in above, and one leaves below. */
-    function voterPart({ voter, value, lamps }, em) {
-        const [w, h] = [1.5 * em, 0.75 * em];
+    /** What a voter is drawn as: three wires come in, and one leaves below. */
+    function voterPart({ voter, lamps, inlets, outlet }, em) {
+        const { across: w, down: h } = voter;
         const shape = polygon([[-w, -h], [w, -h], [0.55 * w, h], [-0.55 * w, h]], 'voter');
         const tally = svg('text', { class: 'tally', y: 0.32 * em });
         const group = svg('g', { class: 'voting', transform: `translate(${voter.x} ${voter.y})`, 'aria-hidden': 'true' }, shape, tally);
-        const rays = lamps.map((it) => line(it, { x: voter.x + (it.x - voter.x) * 0.25, y: voter.y - h }, 'ray'));
-        return { parts: [...rays, line({ x: voter.x, y: voter.y + h }, { x: voter.x, y: value - em }, 'ray'), group], rays, tally };
+        const rays = lamps.map((it, at) => line(it, inlets[at], 'ray'));
+        return { parts: [...rays, line(...outlet, 'ray'), group], rays, tally };
     }
 
     class Drawing {
@@ -81,6 +81,7 @@ const Board = (() => {
         constructor({ words = Words.of('en'), places = [], simplex = new Set() } = {}) {
             Object.assign(this, { words, cellPlaces: places, simplex, moment: NOTHING, chosen: null });
             this.marks = { copies: new Set(), cells: new Set() };
+            this.page = 0;
             this.element = svg('svg', { class: 'board', role: 'group', 'aria-label': words('drawing') });
             this.places = null;
             new ResizeObserver(() => this.lay()).observe(this.element);
@@ -89,26 +90,50 @@ const Board = (() => {
 
         // ---- laying out
 
-        /** Puts all parts where there is room for them now, and shows the moment again. */
+        /** Puts all parts where there is room for them now, and shows the moment again. The style says which parts are shown (`--face`), and how large a
+         * cell must be (`--least-cell`). */
         lay() {
+            const style = window.getComputedStyle(this.element);
+            const face = style.getPropertyValue('--face').trim();
+            if (face !== this.face) this.element.style.minHeight = '';
             const { width, height } = this.element.getBoundingClientRect();
             if (width === 0) return;
-            const em = Number.parseFloat(window.getComputedStyle(this.element).fontSize);
-            const key = `${Math.round(width)} ${Math.round(height)} ${em}`;
+            const em = Number.parseFloat(style.fontSize);
+            const least = Number.parseFloat(style.getPropertyValue('--least-cell')) || 0;
+            const key = `${face} ${Math.round(width)} ${Math.round(height)} ${em} ${least}`;
             if (key === this.laid) return;
-            this.laid = key;
-            this.places = Geometry.of(width, height, em, this.cellPlaces.length);
+            const isOther = face !== this.face;
+            Object.assign(this, { laid: key, face, room: { width, height, em, least } });
+            this.place();
+            if (isOther) this.follow();
+        }
+
+        /** Places all parts, draws them, and tells which page of the cells is shown. */
+        place() {
+            const { face, room: { width, height, em, least }, cellPlaces: { length }, page } = this;
+            this.places = face ? Pocket.of(face, width, height, em, length, page) : Geometry.of(width, height, em, length, { least, page });
             this.element.style.minHeight = `${this.places.least}px`;
+            this.element.dataset.face = face;
             this.build();
             this.draw();
             this.move(false);
+            this.press('paged', { ...this.places.cells, count: length });
+        }
+
+        /** Turns to a page of the cells, where that is another one. */
+        turnTo(page) {
+            const { pages } = this.places.cells;
+            this.page = (page + pages) % pages;
+            this.place();
         }
 
         build() {
-            const modules = Parts.MODULES.map((it) => this.moduleParts(it.number));
+            const { modules, bus } = this.places;
+            const parts = [...modules.keys()].map((it) => this.moduleParts(it));
             const memories = Parts.TWINS.map((twin) => this.memoryParts(twin));
             this.layer = svg('g', { class: 'moving', 'aria-hidden': 'true' });
-            this.element.replaceChildren(wires(this.places), this.busName(), ...modules, ...memories, this.portParts(), this.layer);
+            const name = bus.upright ? [] : [this.busName()];
+            this.element.replaceChildren(wires(this.places), ...name, ...parts, ...memories, this.portParts(), this.layer);
         }
 
         busName() {
@@ -122,8 +147,8 @@ const Board = (() => {
             const voter = voterPart(place, em);
             const press = (copy) => () => this.press('lamp', { module: number, copy });
             const lamps = Parts.COPIES.map((copy) => lampPart(number, copy, place.lamps[copy - 1], press(copy)));
-            const value = text(place.middle, place.value, 'value', '');
-            const name = fitted(place, place.name, 'name', this.words(`module.${number}`), em, EM_OF_BOLD);
+            const value = text(place.value.x, place.value.y, 'value', '');
+            const name = fitted(place.title, 'name', this.words(`module.${number}`), em, EM_OF_BOLD);
             const group = svg('g', { class: 'part', 'data-module': number }, svg('title', {}, this.words(`does.${number}`)),
                 frame(place, 'card', em), name, ...voter.parts, value, ...lamps);
             this.modules ??= new Map();
@@ -133,13 +158,14 @@ const Board = (() => {
 
         memoryParts(twin) {
             const place = this.places.memories[twin];
-            const { em } = this.places;
-            const cells = place.cells.map((cell, index) => this.cellPart(twin, this.cellPlaces[index], cell));
+            this.memories ??= [];
+            this.memories[twin] = { group: svg('g', {}), cells: [] };
+            if (place.cells.length === 0) return this.memories[twin].group;
+            const { em, cells: { first } } = this.places;
+            const cells = place.cells.map((cell, index) => this.cellPart(twin, this.cellPlaces[first + index], cell));
             const name = text(place.x + 0.7 * em, place.name, 'name twin-name', this.words('twin', { twin: Spelling.twin(twin, this.words) }));
             const group = svg('g', { class: 'twin', 'data-twin': twin }, frame(place, 'card', em), name, ...cells);
-            const left = this.cellPlaces.length - cells.length;
-            if (left > 0) group.append(text(place.middle, place.bottom - 0.4 * em, 'more', this.words('more.cells', { count: left })));
-            this.memories ??= [];
+            if (place.left > 0) group.append(text(place.middle, place.bottom - 0.4 * em, 'more', this.words('more.cells', { count: place.left })));
             this.memories[twin] = { group, cells };
             return Roving.over(group, cells);
         }
@@ -153,7 +179,8 @@ const Board = (() => {
         portParts() {
             const { ports, em } = this.places;
             this.portLines = svg('g', { class: 'port-lines' });
-            return svg('g', { class: 'ports' }, frame(ports, 'card', em), fitted(ports, ports.name, 'name', this.words('ports'), em, EM_OF_BOLD), this.portLines);
+            if (!ports.title) return this.portLines;
+            return svg('g', { class: 'ports' }, frame(ports, 'card', em), fitted(ports.title, 'name', this.words('ports'), em, EM_OF_BOLD), this.portLines);
         }
 
         // ---- pressing
@@ -170,11 +197,23 @@ const Board = (() => {
 
         /** Shows a moment; `moving` lets move what moves in it. What `mark` and `choose` take may come with it, and is drawn at once. */
         show(moment, moving = false, { copies, cells, module } = {}) {
+            const isOther = moment.step !== this.moment.step;
             this.moment = moment;
+            if (isOther) this.follow();
             if (copies) this.marks = { copies: new Set(copies), cells: new Set(cells) };
             if (module !== undefined) this.chosen = module;
             this.draw();
             this.move(moving);
+        }
+
+        /** Turns to the page of the cell that the moment is about. */
+        follow() {
+            const { exchange, repair, end } = this.moment;
+            const address = repair?.address ?? exchange?.address ?? end?.address;
+            if (!address || !(this.places?.cells.pages > 1)) return;
+            const { shown, page } = this.places.cells;
+            const due = Math.floor(this.cellPlaces.indexOf(Cells.placeOf(address)) / shown);
+            if (due >= 0 && due !== page) this.turnTo(due);
         }
 
         /** Marks copies, by keys as 3-1, and cells, by keys as 0 1 02 003 of which the first number is the twin, as hurt by a visitor. */
@@ -200,7 +239,7 @@ const Board = (() => {
 
         draw() {
             if (!this.places) return;
-            for (const { number } of Parts.MODULES) this.drawModule(number);
+            for (const number of this.places.modules.keys()) this.drawModule(number);
             for (const twin of Parts.TWINS) this.drawMemory(twin);
             this.drawPorts();
         }
@@ -234,14 +273,14 @@ const Board = (() => {
         }
 
         drawLamp(group, number, copy, kind) {
-            const { radius } = this.places.modules.get(number).lamps[copy - 1];
+            const { radius, touch: { width, height } } = this.places.modules.get(number).lamps[copy - 1];
             const marked = this.marks.copies.has(keyOf(number, copy));
             const state = [this.words(`lamp.${kind}`), ...(marked ? [this.words('lamp.marked')] : [])].join(', ');
             const saying = this.words('lamp', { module: this.words(`module.${number}`), copy, state });
             group.setAttribute('class', `light ${kind}${marked ? ' marked' : ''}`);
             group.setAttribute('data-kind', kind);
             group.setAttribute('aria-label', saying);
-            const hit = svg('rect', { x: -1.225 * radius, y: -1.7 * radius, width: 2.45 * radius, height: 3.4 * radius, class: 'hit' });
+            const hit = svg('rect', { x: -width / 2, y: -height / 2, width, height, class: 'hit' });
             const rings = kind === 'healed' ? [ring(radius)] : [];
             const bolts = marked ? [svg('g', { transform: `translate(${0.85 * radius} ${-0.6 * radius})` }, bolt(0.65 * radius))] : [];
             const digit = svg('text', { y: 0.35 * this.places.em, class: 'copy-number' }, String(copy));
@@ -272,7 +311,8 @@ const Board = (() => {
 
         drawMemory(twin) {
             const { group, cells } = this.memories[twin];
-            cells.forEach((cell, index) => this.drawCell(cell, twin, this.cellPlaces[index], this.places.memories[twin].cells[index].size));
+            const { memories, cells: { first } } = this.places;
+            cells.forEach((cell, index) => this.drawCell(cell, twin, this.cellPlaces[first + index], memories[twin].cells[index].size));
             group.classList.toggle('dead', this.moment.cells.dead[twin].size > 0);
         }
 
@@ -286,9 +326,10 @@ const Board = (() => {
             group.setAttribute('aria-label', saying);
             const side = size * 0.86;
             const labels = this.labelsOf(place, size);
+            const hit = svg('rect', { x: -size / 2, y: -size / 2, width: size, height: size, class: 'hit' });
             const box = svg('rect', { x: -side / 2, y: -side / 2, width: side, height: side, rx: side * 0.12, class: 'box' });
             const signs = states.filter((it) => CELL_SIGNS[it]).map((it) => CELL_SIGNS[it](size / 2));
-            group.replaceChildren(svg('title', {}, saying), box, ...labels, ...signs);
+            group.replaceChildren(svg('title', {}, saying), hit, box, ...labels, ...signs);
         }
 
         /** What stands in a cell where there is room: what was last read or stored there; in octal its location too. */
@@ -307,16 +348,16 @@ const Board = (() => {
 
         /** The last words that went through the ports, as many as there is room for. */
         drawPorts() {
-            const { ports, em } = this.places;
-            const room = Math.max(1, Math.min(LINES_OF_PORTS, Math.floor((ports.height - 2.6 * em) / (1.5 * em))));
-            const shown = this.moment.log.slice(-room);
+            const { ports } = this.places;
+            if (!ports.title) return;
+            const shown = this.moment.log.slice(-Math.min(LINES_OF_PORTS, ports.lines));
             const lines = shown.length === 0 ? [this.words('ports.none')] : shown.map((it) => this.exchangeText(it));
             this.portLines.replaceChildren(...lines.map((it, at) => this.portLine(it, at, this.portKind(shown, at))));
         }
 
         portLine(words, at, kind) {
             const { ports, em } = this.places;
-            return fitted(ports, ports.y + (3.1 + 1.5 * at) * em, kind, words, em, EM_OF_LETTER);
+            return fitted({ ...ports.told ?? ports, y: ports.first + 1.5 * at * em }, kind, words, em, EM_OF_LETTER);
         }
 
         portKind(shown, at) { return `port-line${shown[at]?.step === this.moment.step ? ' now' : ''}${shown.length === 0 ? ' none' : ''}`; }

@@ -9,6 +9,7 @@ const Geometry = (() => {
     const TITLE = 1.9;
     const MOST_CELL = 5;
     const LEAST_CELL = 0.7;
+    const FINGER = 44;
 
     const box = (x, y, width, height) => ({ x, y, width, height, middle: x + width / 2, bottom: y + height });
 
@@ -18,14 +19,23 @@ const Geometry = (() => {
         return Array.from({ length: count }, (_, at) => box(x + at * (each + gap), y, each, height));
     }
 
+    const VOTER = { across: 1.5, down: 0.75 };
+
+    /** Where the wires of the lamps come into a voter: from above. */
+    const inletsOf = (lamps, voter) => lamps.map((it) => ({ x: voter.x + (it.x - voter.x) * 0.25, y: voter.y - voter.down }));
+
     /** What stands in the box of a module: three lamps in a row, the voter under them, and what it holds. `down` is whether the bus is below. */
     function moduleIn(place, em, down) {
         const radius = Math.min(1.55 * em, place.width / 7.3, place.height / 2 - 3 * em);
         const lampY = place.y + 2.4 * em + radius + 0.15 * em;
-        const lamps = Parts.COPIES.map((copy) => ({ x: place.middle + (copy - 2) * 2.45 * radius, y: lampY, radius }));
-        const valueY = place.bottom - 0.9 * em;
-        const voter = { x: place.middle, y: (lampY + radius + valueY - 0.9 * em) / 2 + 0.1 * em };
-        return { ...place, name: place.y + 1.5 * em, lamps, voter, value: valueY, gate: { x: place.middle, y: down ? place.bottom : place.y } };
+        const pitch = Math.max(2.45 * radius, Math.min(FINGER, place.width / 2.9));
+        const touch = { width: pitch, height: Math.max(3.4 * radius, pitch) };
+        const lamps = Parts.COPIES.map((copy) => ({ x: place.middle + (copy - 2) * pitch, y: lampY, radius, touch }));
+        const value = { x: place.middle, y: place.bottom - 0.9 * em };
+        const voter = { x: place.middle, y: (lampY + radius + value.y - 0.9 * em) / 2 + 0.1 * em, across: VOTER.across * em, down: VOTER.down * em };
+        const outlet = [{ x: voter.x, y: voter.y + voter.down }, { x: voter.x, y: value.y - em }];
+        const gate = { x: place.middle, y: down ? place.bottom : place.y };
+        return { ...place, title: { ...place, y: place.y + 1.5 * em }, lamps, voter, inlets: inletsOf(lamps, voter), outlet, value, gate };
     }
 
     /** The size of cells with which so many fill a box best, and how many stand in a row. */
@@ -38,24 +48,37 @@ const Geometry = (() => {
         return { size, across: Math.max(1, Math.floor(width / size)) };
     }
 
-    /** How many cells a box has room for. */
-    const roomIn = (width, height, em) => Math.floor(width / (LEAST_CELL * em)) * Math.floor(height / (LEAST_CELL * em));
+    /** What a memory has beside its cells, above and below. */
+    const heightOfCells = (place, em) => place.height - (TITLE + 1.4) * em;
 
-    /** A memory: its title, and a cell for each place as far as there is room. */
-    function memoryIn(place, em, count, gate) {
-        const [width, height] = [place.width - em, place.height - (TITLE + 1.4) * em];
-        const shown = Math.min(count, roomIn(width, height, em));
-        const { size, across } = gridIn(shown, width, height, em);
-        const left = place.middle - Math.min(across, Math.max(1, shown)) * size / 2;
-        const high = Math.ceil(shown / across) * size;
-        const top = place.y + TITLE * em + (height - high) / 2;
-        const cells = Array.from({ length: shown }, (_, at) => ({
-            x: left + (at % across + 0.5) * size, y: top + (Math.floor(at / across) + 0.5) * size, size,
-        }));
-        return { ...place, name: place.y + 1.3 * em, cells, gate, under: Math.min(top + high + 0.8 * em, place.bottom - 0.9 * em) };
+    /** How many cells of a size the box of a memory has room for. */
+    const roomIn = (place, em, size) => Math.max(1, Math.floor((place.width - em) / size)) * Math.max(1, Math.floor(heightOfCells(place, em) / size));
+
+    /** The pages of so many cells: how many a page shows, and of the page that is asked for the first cell and how many it has. */
+    function pagesOf(count, room, asked) {
+        const shown = Math.max(1, Math.min(count, room));
+        const pages = Math.max(1, Math.ceil(count / shown));
+        const page = Math.min(asked, pages - 1);
+        return { shown, pages, page, first: page * shown, here: Math.min(shown, count - page * shown) };
     }
 
-    const portsIn = (place, em, down) => ({ ...place, name: place.y + 1.5 * em, gate: { x: place.middle, y: down ? place.bottom : place.y } });
+    /** A memory: its title, and the cells of a page. `left` are those that are on none. */
+    function memoryIn(place, em, { shown, here }, left, gate) {
+        const height = heightOfCells(place, em);
+        const { size, across } = gridIn(shown, place.width - em, height, em);
+        const from = place.middle - Math.min(across, shown) * size / 2;
+        const high = Math.ceil(shown / across) * size;
+        const top = place.y + TITLE * em + (height - high) / 2;
+        const cells = Array.from({ length: here }, (_, at) => ({
+            x: from + (at % across + 0.5) * size, y: top + (Math.floor(at / across) + 0.5) * size, size,
+        }));
+        return { ...place, name: place.y + 1.3 * em, cells, left, gate, under: Math.min(top + high + 0.8 * em, place.bottom - 0.9 * em) };
+    }
+
+    const portsIn = (place, em, down) => ({
+        ...place, title: { ...place, y: place.y + 1.5 * em }, first: place.y + 3.1 * em, lines: Math.max(1, Math.floor((place.height - 2.6 * em) / (1.5 * em))),
+        gate: { x: place.middle, y: down ? place.bottom : place.y },
+    });
 
     /** The rows of modules, and the bus after the first. */
     function rowsOf(form, width, card, em) {
@@ -83,8 +106,14 @@ const Geometry = (() => {
         return { x: twin === 0 ? 0.3 * em : width - 0.3 * em, y: place.y + 1.2 * em };
     }
 
+    /** The cells of both memories in these boxes. Where they may not be smaller than a least size they have pages; else as many as have room. */
+    function cellsIn(boxes, em, count, { least, page }) {
+        const cells = least > 0 ? pagesOf(count, roomIn(boxes[0], em, least), page) : pagesOf(Math.min(count, roomIn(boxes[0], em, LEAST_CELL * em)), count, 0);
+        return { cells, left: least > 0 ? 0 : count - cells.shown };
+    }
+
     /** All places of a drawing of this width and height, for letters of this size and so many cells. It may come out higher. */
-    function of(width, height, em, count) {
+    function of(width, height, em, count, paging = { least: 0, page: 0 }) {
         const form = width >= LEAST_EMS_OF_WIDE * em ? WIDE : NARROW;
         const high = Math.max(height, form.least * em);
         const card = form === WIDE ? Math.max(form.card * em, 0.4 * high) : Math.max(form.card * em, 0.26 * high);
@@ -92,18 +121,19 @@ const Geometry = (() => {
         const modules = new Map(boxes.filter(([name]) => name !== 'ports').map(([name, place, down]) => [name, moduleIn(place, em, down)]));
         const lower = lowerOf(form, width, high, bottom, em);
         const ports = form === WIDE ? portsIn(lower[2], em, false) : portsIn(boxes.find(([name]) => name === 'ports')[1], em, false);
-        const memories = Parts.TWINS.map((twin) => memoryIn(lower[twin], em, count, gateOf(form, lower[twin], twin, width, em)));
-        return { width, height: high, least: form.least * em, em, wide: form === WIDE, modules, bus, memories, ports };
+        const { cells, left } = cellsIn(lower, em, count, paging);
+        const memories = Parts.TWINS.map((twin) => memoryIn(lower[twin], em, cells, left, gateOf(form, lower[twin], twin, width, em)));
+        return { width, height: high, least: form.least * em, em, wide: form === WIDE, modules, bus, memories, ports, cells };
     }
 
     // ---- ways of words
 
-    const onBus = (places, gate) => ({ x: gate.x, y: places.bus.y });
+    const onBus = ({ bus }, gate) => (bus.upright ? { x: bus.x, y: gate.y } : { x: gate.x, y: bus.y });
 
     /** The points from a cell to its memory's way out, straight up, or first to the edge. */
     function fromCell(places, twin, index) {
         const memory = places.memories[twin];
-        const cell = memory.cells[index];
+        const cell = memory.cells[index - places.cells.first];
         if (!cell) return [memory.gate];
         const edge = { x: cell.x, y: cell.y - 0.43 * cell.size };
         return places.wide ? [edge, { x: cell.x, y: memory.y }] : [edge, { x: cell.x, y: memory.gate.y }, memory.gate];
@@ -111,7 +141,7 @@ const Geometry = (() => {
 
     const ENDS = {
         cell: (places, it) => fromCell(places, it.twin, it.index),
-        module: (places, it) => [places.modules.get(it.module).gate],
+        module: (places, it) => [(places.modules.get(it.module) ?? places.beyond).gate],
         ports: (places) => [places.ports.gate],
     };
 
@@ -124,12 +154,12 @@ const Geometry = (() => {
 
     /** The way of a word from a cell to that of the other twin, below the other cells. */
     function across(places, index, twin) {
-        const [from, to] = [places.memories[1 - twin].cells[index], places.memories[twin].cells[index]];
+        const [from, to] = [1 - twin, twin].map((it) => places.memories[it].cells[index - places.cells.first]);
         if (!from || !to) return [];
         const y = places.memories[twin].under;
         const edge = (cell) => ({ x: cell.x, y: cell.y + 0.43 * cell.size });
         return [edge(from), { x: from.x, y }, { x: to.x, y }, edge(to)];
     }
 
-    return { of, way, across };
+    return { FINGER, of, way, across, box, columns, roomIn, pagesOf, memoryIn };
 })();

@@ -21,22 +21,23 @@ const Motion = (() => {
         return lengths.map((it) => { sum += it; return sum / whole; });
     }
 
-    /** The longest level stretch of a way, by the index of its first point: where a word rests and can be read. */
-    function restAt(points) {
-        const lengths = points.slice(1).map((it, index) => (it.y === points[index].y ? Math.abs(it.x - points[index].x) : -1));
+    /** The longest stretch of a way along the bus, by the index of its first point: where a word rests and can be read. */
+    function restAt(points, { upright = false }) {
+        const [along, aside] = upright ? ['y', 'x'] : ['x', 'y'];
+        const lengths = points.slice(1).map((it, index) => (it[aside] === points[index][aside] ? Math.abs(it[along] - points[index][along]) : -1));
         return lengths.indexOf(Math.max(...lengths));
     }
 
     /** A way with the place at which a word rests put in, once to come there and once to leave. */
-    function withRest(points) {
-        const at = restAt(points);
+    function withRest(points, bus) {
+        const at = restAt(points, bus);
         const rest = { x: (points[at].x + points[at + 1].x) / 2, y: (points[at].y + points[at + 1].y) / 2 };
         return { points: [...points.slice(0, at + 1), rest, rest, ...points.slice(at + 1)], index: at + 1, rest };
     }
 
     /** The frames of a word, which rests on its way. */
-    function framesOfWord(way) {
-        const { points, index } = withRest(way);
+    function framesOfWord(way, bus) {
+        const { points, index } = withRest(way, bus);
         const all = offsets(points);
         return points.map((it, number) => ({ transform: at(it), offset: Math.min(1, all[number] * (1 - REST) + (number > index ? REST : 0)) }));
     }
@@ -54,8 +55,8 @@ const Motion = (() => {
     }
 
     /** Where a word rests, with room for its text on both sides. */
-    function restOf(points, text, { em, width }) {
-        const { rest } = withRest(points);
+    function restOf(points, text, { em, width, bus }) {
+        const { rest } = withRest(points, bus);
         const half = widthOf(text, em) / 2;
         return { x: Math.max(half, Math.min(width - half, rest.x)), y: rest.y };
     }
@@ -70,7 +71,7 @@ const Motion = (() => {
         const timing = { duration: TIME_OF_WORD, delay, fill: 'both', easing: 'linear' };
         const going = chip(text, kind, places.em);
         layer.append(going);
-        going.animate(framesOfWord(points), timing);
+        going.animate(framesOfWord(points, places.bus), timing);
         going.animate([{ opacity: delay > 0 ? 0 : 1 }, { opacity: 1, offset: 0.05 }, { opacity: 1, offset: 0.93 }, { opacity: 0 }], timing);
         rest.animate([{ opacity: 0 }, { opacity: 0, offset: 0.93 }, { opacity: 1 }], timing);
         way.animate([{ opacity: delay > 0 ? 0 : 0.25 }, { opacity: 1 }], timing);

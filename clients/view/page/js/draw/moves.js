@@ -47,9 +47,10 @@ const Moves = (() => {
         return points.length === 0 ? [] : [{ points, text: textOf(exchange, moment, look.words), kind: 'repair', delay: TIME_OF_WORD }];
     }
 
-    /** The votes of the three copies of a module, which come to the voter together; a copy that differs comes half the way. */
+    /** The votes of the three copies of a module, which come to the voter together; a copy that differs comes half the way. Where no modules are
+     * drawn there are none. */
     function votesOf(places, number, moment, delay) {
-        const { lamps, voter } = places.modules.get(number);
+        const { lamps, voter } = places.modules.get(number) ?? { lamps: [] };
         return lamps.map((lamp, at) => {
             const apart = moment.lamps.get(Trace.keyOf(number, at + 1)) === 'differed';
             const end = apart ? { x: (lamp.x + voter.x) / 2, y: (lamp.y + voter.y) / 2 } : voter;
@@ -60,7 +61,7 @@ const Moves = (() => {
     /** The pull of the vote on each copy that is back at it. */
     function pulls(places, moment) {
         const back = [...moment.lamps].filter(([, kind]) => kind === 'healed').map(([key]) => key.split('-').map(Number));
-        return back.map(([module, copy]) => {
+        return back.filter(([module]) => places.modules.has(module)).map(([module, copy]) => {
             const { lamps, voter } = places.modules.get(module);
             return { points: [voter, lamps[copy - 1]], kind: 'pull', delay: 0 };
         });

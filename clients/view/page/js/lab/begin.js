@@ -32,9 +32,10 @@
         on('again', 'click', () => page.startAgain());
         for (const twin of Parts.TWINS) on(`memory-${twin}`, 'click', () => page.hurt(Hurts.memory(twin, page.step)));
         on('languages', 'click', ({ target }) => {
-            if (target.lang === '' || target.id === 'languages') return;
-            window.localStorage.setItem(KEPT_LANGUAGE, target.lang);
-            page.speak(target.lang);
+            const { lang } = target.closest('#languages button') ?? {};
+            if (!lang) return;
+            window.localStorage.setItem(KEPT_LANGUAGE, lang);
+            page.speak(lang);
         });
     }
 
@@ -58,6 +59,7 @@
         on('copy', 'click', () => copyDeck(page));
         on('keep', 'click', () => keepDeck(page));
         on('file', 'change', (event) => open(page, event.target.files));
+        on('deck', 'change', (event) => page.use(event.target.value));
         document.addEventListener('dragover', (event) => event.preventDefault());
         document.addEventListener('drop', (event) => { event.preventDefault(); open(page, event.dataTransfer.files); });
     }

@@ -56,7 +56,7 @@ class LabPage {
             return;
         }
         this.forget();
-        Object.assign(this, { session, step: LabPage.FIRST_STEP });
+        Object.assign(this, { session, step: LabPage.FIRST_STEP, faults: [] });
         await this.guarded(async () => {
             await this.learnProgram(session);
             if (this.session === session) await this.refresh();
@@ -192,6 +192,7 @@ class LabPage {
             if (turn !== this.turn) return;
             this.what = what;
             this.showOutcome();
+            if (through) this.sight.tabs.showFor('outcome');
             await this.seek(this.step, false);
         });
     }

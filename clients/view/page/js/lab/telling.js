@@ -55,7 +55,8 @@ const LabTelling = (() => {
     /** An outcome in a title and a text; `lines` are the fault lines. */
     function outcome(it, lines, words) {
         const values = VALUES[it.kind]?.(it, lines, words) ?? {};
-        return { title: words(`lab.${it.kind}.title`), text: words(`lab.${it.kind}.text`, values) };
+        const lead = it.kind === 'healthy' ? words('lab.lead') : null;
+        return { title: words(`lab.${it.kind}.title`), text: words(`lab.${it.kind}.text`, values), lead };
     }
 
     /** A line of the port log. */
