@@ -40,8 +40,8 @@ DEBUG
 GO
 """).splitlines()
 BEGIN, END = 1, index(WHOLE, "END")
-KINDS = ["IMAGE", "LVDC 2", "START 0", "SIMPLEX 1", "0 00", "END", "START 16", "SIMPLEX 0", "PORTS", "TAPE", "UNPLUG", "FAULTS", "FLIP", "ORDER", "UTSR", "RUN",
-         "DEBUG", "GO"]
+KINDS = ["IMAGE", "LVDC 2", "START 0", "SIMPLEX 1", "0 00", "END", "START 16", "SIMPLEX 0", "PORTS", "TAPE", "UNPLUG", "FAULTS", "FLIP", "ORDER",
+         "UTSR", "RUN", "DEBUG", "GO"]
 DECIMALS = {"UNPLUG": (2,), "FLIP": (1, 2, 3, 4, 5), "FORCE": (1, 2, 3, 4, 5), "LAG": (1, 2, 3, 4), "DEAF": (1, 2, 3, 4), "DAMAGE": (1, 5),
             "STICK": (1, 5, 6), "DEAD": (1, 3, 4), "SIMPLEX": (1, 2)}
 ONE_DIGIT = {"DAMAGE": (2,), "STICK": (2,), "DEAD": (2,)}  # octal numbers that have one digit
@@ -103,4 +103,4 @@ def spelled() -> Iterator[Case]:
                 yield asked(name, shows, lines)
 
 
-CASES = [Case("all-lines", "The whole deck.", "run", text(WHOLE), 6, has="END STOPPED 2 EXM"), *each_missing(), *each_twice(), *exchanged(), *spelled()]
+CASES = [stops("all-lines", "The whole deck.", WHOLE), *each_missing(), *each_twice(), *exchanged(), *spelled()]

@@ -74,7 +74,7 @@ ABCDEFGHIJKLMNOPQRSTU
 END
 """
 WHOLE = (block(HEAD) + block(COPIES) + block(STATE) + block(LISTS)).splitlines()
-KINDS = ["LVDC", "STEPS", "COUNT", "SIMPLEX", "COPY", "SELECT", "CELL", "WORD", "IN", "REPAIR", "STATE", "UNPLUG", "FLIP", "UTSRQPONMLKJIHGFEDCBA", "END"]
+KINDS = "LVDC STEPS COUNT SIMPLEX COPY SELECT CELL WORD IN REPAIR STATE UNPLUG FLIP UTSRQPONMLKJIHGFEDCBA END".split()
 NEEDED = ("LVDC", "STEPS", "COUNT", "COPY", "SELECT", "END")
 TAKEN_TWICE = ("IN", "OUT", "FLIP", "FORCE", "LAG", "DEAF", "DAMAGE", "STICK", "DEAD", "STATE 000", "STATE 017", *WHOLE[-3:-1])
 SPELLED = [line for line in WHOLE[1:] if re.match("STEPS|COUNT|SIMPLEX|COPY 6 2|SELECT|CELL 1 0 01|WORD 3|IN|OUT|REPAIR|STATE 014|UNPLUG 001|"
@@ -159,7 +159,8 @@ def devices() -> Iterator[Case]:
 
 
 MEETINGS = [
-    ("a-latch-twice-beyond-its-range", "A latch's second line, whose word is out of range: BadSave.", "STATE 014 000000001\nSTATE 014 400000000", 2, "BadSave"),
+    ("a-latch-twice-beyond-its-range", "A latch's second line, whose word is out of range: BadSave.",
+     "STATE 014 000000001\nSTATE 014 400000000", 2, "BadSave"),
     ("a-ticker-before-a-tape", "The ticker's line comes first.", "STATE 016 000000001\nSTATE 000 000000001", 1, "NoDevice"),
     ("a-ticker-behind-a-recorder", "A ticker's port that falls: BadSave comes first.", "STATE 017 000000001\nSTATE 016 000000001", 2, "BadSave"),
     ("a-ticker-with-a-word-out-of-range", "BadSave comes before NoDevice.", "STATE 016 400000000", 1, "BadSave"),
@@ -231,8 +232,8 @@ def goes_on() -> Iterator[Case]:
                 (5, 6, 1, 0o377777777, 4, 0, 2, 5, 6))
     yield heard("a-latch-without-a-line", "The latch at 014 stands in its first state.", "STATE 015 000000006", (0, 6, 0, 0, 0, 0, 0, 0, 6))
     yield heard("a-tape-without-a-line", "A tape without a line is empty.", "STATE 001 000000003", (0, 0, 0, 3, 0, 0, 0, 0, 0))
-    yield heard("a-latch-taken-away-later", "A latch is there till its time.", "STATE 014 000000005\nSTATE 015 000000006\nUNPLUG 014 8\nUNPLUG 015 10",
-                (5, 6, 0, 0, 0, 0, 0, 0, 6))
+    yield heard("a-latch-taken-away-later", "A latch is there till its time.",
+                "STATE 014 000000005\nSTATE 015 000000006\nUNPLUG 014 8\nUNPLUG 015 10", (5, 6, 0, 0, 0, 0, 0, 0, 6))
     yield heard("a-latch-taken-away-at-once", "A latch is taken away at the time of the state.", "STATE 014 000000005\nUNPLUG 014 1",
                 (0, 0, 0, 0, 0, 0, 0, 0, 0))
     yield heard("a-latch-taken-away-before", "A latch that was taken away before the state has no line.", "STATE 015 000000006\nUNPLUG 014 0",
