@@ -26,6 +26,16 @@ def asked(name: str, shows: str, faults: str = "", unmet: int = 0, worked: bool 
                 text="FORM NO %d" % unmet if unmet else "FORM YES", worked=worked)
 
 
+def pairs_of_copies() -> list[Case]:
+    """Each two copies of each module, in both orders: in step 2 both are wrong."""
+    return [asked("copies-%d-and-%d-of-module-%d" % (one, two, m), "Copies %d and %d of module %d are wrong in step 2." % (one, two, m),
+                  "LAG %d %d 0 2\nLAG %d %d 2 5" % (m, one, m, two), 1)
+            for m in range(1, 8) for one in (1, 2, 3) for two in (1, 2, 3) if one != two]
+
+
+ONE_BY_ONE = "\n".join("LAG %d %d %d %d" % (m, (m + k) % 3 + 1, k, k) for k in range(6) for m in range(1, 8))
+
+
 CASES = [
     asked("what-masks", "One copy of a module may have two lines; a dead twin may be damaged; a bit in each half is seen; the last "
           "line begins after the run.", FIRST_ROW, worked=True),
@@ -96,4 +106,6 @@ CASES = [
          text="REFUSED UnknownOperation 2"),
     Case("a-word-after-form", "form takes no word.", "form 1", deck("Other words."), 1, text=USAGE),
     Case("a-flag-after-form", "Nor a flag.", "form --through", deck("Other words."), 1, text=USAGE),
+    asked("one-copy-in-each-step", "In each step another copy of each module is wrong.", ONE_BY_ONE),
+    *pairs_of_copies(),
 ]

@@ -50,9 +50,9 @@ OF_GROUP = {
     "programs": "effects operands delays results steps", "shifts": "shifts stops", "banks": "effects simplex twins admission",
     "limits": "", "long-runs": "effects ports copies twins admission", "states": "latches copies steps",
     "modules": "latches steps", "faults": "copies admission", "meetings": "copies twins admission", "memory": "twins admission",
-    "refusals": "", "images": "", "sources": "sources",
-    "listings": "sources", "debugger": "sessions", "saved-runs": "saved-texts admission", "campaigns": "scripts admission",
-    "uplinks": "messages", "macros": "macros", "usage": "", "traces": "traces steps latches copies",
+    "refusals": "", "deck-lines": "", "images": "", "sources": "sources",
+    "listings": "sources", "debugger": "sessions", "saved-runs": "saved-texts admission", "saved-lines": "saved-texts",
+    "campaigns": "scripts admission", "uplinks": "messages", "macros": "macros", "usage": "", "traces": "traces steps latches copies",
     "saved-traces": "traces saved-texts steps latches copies admission", "forms": "scripts",
     "studies": "scripts copies admission",
 }
