@@ -3,6 +3,7 @@
 /** What a copy of a module says, for a visitor: a number, or a word. It is one latch of the module, as docs/MACHINE.md has it, in other spelling. */
 const FlightSaying = (() => {
     const SIGN = 2 ** 25;
+    const MOST_CHARACTERS = 5;
     const NAMES = ['HOP', 'MPY', 'SUB', 'DIV', 'TNZ', 'MPH', 'AND', 'ADD', 'TRA', 'XOR', 'PIO', 'STO', 'TMI', 'RSU', 'SHF', 'CLA'];
     const REQUESTS = ['nothing', 'store', 'store', 'write', 'read', 'nothing', 'nothing', 'nothing'];
 
@@ -20,10 +21,13 @@ const FlightSaying = (() => {
 
     const spelled = (number, language, digits) => number.toLocaleString(language, { useGrouping: false, maximumFractionDigits: digits }).replace('-', '−');
 
-    /** A number in few characters; a large one is rounded, to thousands or to tenths of millions. */
+    /** A number in at most five characters, as many as fit a lamp on a phone: whole, or rounded to thousands, or to millions. */
     function short(number, language) {
-        if (Math.abs(number) < 100000) return spelled(number, language, 0);
-        return Math.abs(number) < 1000000 ? `${spelled(number / 1000, language, 0)}k` : `${spelled(number / 1000000, language, 1)}M`;
+        const spellings = [
+            spelled(number, language, 0), `${spelled(number / 1000, language, 0)}k`,
+            `${spelled(number / 1000000, language, 1)}M`, `${spelled(number / 1000000, language, 0)}M`,
+        ];
+        return spellings.find((it) => it.length <= MOST_CHARACTERS);
     }
 
     const SAYS = {
