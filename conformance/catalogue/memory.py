@@ -1,4 +1,8 @@
 """Cells, twins and banks: what is repaired, what is lost, what simplex pairs do."""
+import itertools
+
+from simulation.words import Hop, word_of
+
 from . import Case, deck, sum_deck
 
 TITLE = "memory"
@@ -158,3 +162,32 @@ CASES = [
               faults="DAMAGE 0 0 17 375 0 0000000001\nDAMAGE 1 0 17 375 0 0000000001"),
          has="END DONE\nMEM 0 17 375 ?", lacks=["REPAIR"]),
 ]
+
+
+# ---- places whose pair, sector and location are three different numbers
+
+
+def at_place(note: str, pair: int, sector: int, location: int, faults: str) -> str:
+    """CLA 010, STO, CLA of a location, CLA 010 and CLA of the location again, in the sector of the pair."""
+    start = "%09o" % word_of(Hop(0, 0, 0, 0, 2 * pair, sector, 1, 1))
+    code = "17010 %05o %05o 17010 %05o" % (0o13000 + location, 0o17000 + location, 0o17000 + location)
+    return deck(note, code, "", 5, "%o %02o 010 000000005" % (pair, sector), start=start, faults=faults)
+
+
+def of_place(twin: int, pair: int, sector: int, location: int) -> list[Case]:
+    """A twin of the pair that is dead while the word is stored and read, and one whose cell is damaged while it is dead in two other pairs."""
+    at, name = "%o %02o %03o" % (pair, sector, location), "twin-%d-of-%d-%d-%d" % (twin, pair, sector, location)
+    read = "REPAIR 7 %s %d%s" % (at, twin, "" if twin else " SWITCH")
+    read_while_dead = read if pair else read.removesuffix(" SWITCH")  # in pair 0 the fetch before it has switched
+    return [
+        Case("a-dead-" + name, "A read stores nothing in a dead twin: when it is there again, it shows what it had before the store.", "run",
+             at_place("Twin %d of pair %o is dead in the steps 4 to 8." % (twin, pair), pair, sector, location, "DEAD %d %o 4 8" % (twin, pair)), 5,
+             has=["END INADMISSIBLE 13 MEMORY " + at, "TIMES 4", read_while_dead]),
+        Case("a-repaired-" + name, "A twin that is dead in other pairs is rewritten in this one.", "run",
+             at_place("A bit of twin %d at %s." % (twin, at), pair, sector, location,
+                      "DAMAGE %d %s 6 1\nDEAD %d %o 0 14\nDEAD %d %o 0 14" % (twin, at, twin, sector, twin, location)),
+             has=["END DONE", "A 000000005", read], lacks=["REPAIR 13"]),
+    ]
+
+
+CASES += [case for place in itertools.permutations(range(4), 3) for twin in (0, 1) for case in of_place(twin, *place)]
