@@ -6,7 +6,7 @@ ghost use Rattle.lvdc_withstands.specs.Form.{place_of, none_twice};
 ghost use Rattle.lvdc_withstands.specs.Places.{Marks};
 
 use lvdc_fault::Event;
-use lvdc_map::Address;
+use lvdc_map::{Address, Sectors};
 use lvdc_word::NoMemory;
 use std::alloc::Global;
 
@@ -24,15 +24,16 @@ pub(crate) fn has_none_twice(alloc: Global, lines: &[Event]) -> Result<bool, NoM
 }
 
 /// A mark for each address, none of which is set.
-fn no_marks(alloc: Global) -> Result<Vec<bool>, NoMemory>
+fn no_marks(alloc: Global) -> Result<Sectors<bool>, NoMemory>
     ensures size { IfOk result (λ marks. length marks.items ≡ 32768) }
     ensures none { IfOk result (λ marks. (k : ℕ) → slice_index_or marks.items k false ≡ false) }
 {
-    Ok(Vec::from_elem(alloc, false, Address::COUNT)?)
+    let marks = Sectors::filled(alloc, false)?;
+    Ok(marks)
 }
 
 /// Marks the place that a line names, if it names one. False where it is marked already.
-fn is_first_to_name(line: &Event, named: &mut Vec<bool>) -> bool
+fn is_first_to_name(line: &Event, named: &mut Sectors<bool>) -> bool
     requires { length named.old.items ≡ 32768 }
     ensures { Marks (place_of line.now) named.old.items named.new.items result }
 {
@@ -41,8 +42,8 @@ fn is_first_to_name(line: &Event, named: &mut Vec<bool>) -> bool
     };
     is_address(place);
     let number = place.number();
-    let is_first = !named[number];
-    named[number] = true;
+    let is_first = !named.at(number);
+    named.put(number, true);
     is_first
 }
 
