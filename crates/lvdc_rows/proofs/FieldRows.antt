@@ -1,7 +1,7 @@
 -- Worked fields of lines: FORCE, DEAF and STICK with unlike numbers, the lines of SIMPLEX, and word lines of an image.
-use Rattle.std.proofs.Common.{◌≡◌, List, ℕ, [], ◌∷◌, true, false, Some, None, map, codes, refl}
+use Rattle.std.proofs.Common.{◌≡◌, [], ◌∷◌, true, false, Some, None, map, codes, refl}
 use Rattle.lvdc_text.specs.Numbers.{word_in}
-use Rattle.lvdc_fault.specs.declared.event.Event.TheVariants.{Force, Deaf, Damage, Stick}
+use Rattle.lvdc_fault.specs.declared.event.Event.TheVariants.{Force, Deaf, Stick}
 use Rattle.lvdc_image.specs.Image.{simplex_line, simplex_lines}
 use Rattle.lvdc_image.specs.Reading.{is_spaced, entry_in}
 use Rattle.lvdc_lines.specs.Fields.{step_in, twin_in, pair_in, cell_in, module_copy_in, index_in, span_in, place_in}
