@@ -50,3 +50,9 @@ the_highest_bit_goes = refl
 
 the_same_with_a_0 : phase_of (record { control = 0o27; m = 6; h = 2; q = 2 ^ 25 + 3 }) ≡ record { control = 0o23; m = 6; h = 4; q = 6 }
 the_same_with_a_0 = refl
+
+the_bit_below_stays : phase_of (record { control = 0o27; m = 6; h = 4; q = 2 ^ 24 + 1 }) ≡ record { control = 0o23; m = 6; h = 2; q = 2 ^ 25 + 3 }
+the_bit_below_stays = refl
+
+the_same_before_a_0 : phase_of (record { control = 0o27; m = 6; h = 2; q = 2 ^ 24 + 1 }) ≡ record { control = 0o23; m = 6; h = 4; q = 2 ^ 25 + 2 }
+the_same_before_a_0 = refl
