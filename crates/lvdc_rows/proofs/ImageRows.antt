@@ -46,6 +46,21 @@ words : map image
 unfolding image lines_from entry_in words_from banks_named banks_in image_of
 words = refl
 
+-- a text that ends too soon, eight digits, and a sign that is no digit
+ends : map image (codes "LVDC 1\n" ∷ codes "LVDC 2\nSTART 000000016\nSIMPLEX 1\n" ∷ codes "LVDC 2\nSTART 00000016\nEND\n" ∷ codes "LVDC 1\n0 01 003 00000000/\nEND\n" ∷ [])
+    ≡ Err (BadImageLine 2) ∷ Err (BadImageLine 4) ∷ Err (BadImageLine 2) ∷ Err (BadImageLine 2) ∷ []
+unfolding image lines_from entry_in words_from banks_named banks_in image_of
+ends = refl
+
+the_greatest_word : image (codes "LVDC 1\n0 01 003 377777777\nEND\n")
+    ≡ Ok (record { words = record { at = record { pair = 0; sector = 1; loc = 3 }; word = 0o377777777 } ∷ []; start = None; banks = 0 })
+unfolding image lines_from entry_in words_from banks_named banks_in image_of
+the_greatest_word = refl
+
+no_simplex_lines : (banks_named (codes ".1") ≡ None) × (banks_in (codes "COMPLEX 1") ≡ None) × (banks_in (codes "SIMPLEX 1") ≡ Some 2)
+unfolding banks_named banks_in
+no_simplex_lines = (refl, refl, refl)
+
 -- ---- the names of a source's refusals, and their lines
 
 names : map name_of (LineTooLong 3 ∷ BadLabel 4 ∷ UnknownOperation 5 ∷ ExecuteModified 6 ∷ BadDirective 7 ∷ BadOperand 8 ∷ MissingEnd 9 ∷ AfterEnd 10 ∷ [])
