@@ -220,7 +220,7 @@ class Changer:
 
     def other_fields(self, kind: str | None, field: str, end: int) -> Iterator[Change]:
         """The next field of a record with the same type."""
-        fields = next((it for it in self.types.records.get(kind or "", []) if field in it), {})
+        fields: dict[str, str] = next((it for it in self.types.records.get(kind or "", []) if field in it), {})
         alike = [it for it, other in fields.items() if other == fields[field]]
         if len(alike) > 1:
             yield self.change("a field", end - len(field), end, alike[(alike.index(field) + 1) % len(alike)])

@@ -2,7 +2,6 @@
 
 A number is one of Python, a list a tuple, a variant a tuple that begins with its name, a record a dictionary, a function one of one
 argument. What isn't known here (a quantified fact, a lemma) isn't computed, and a row that needs it is left out and counted."""
-import itertools
 import pathlib
 import re
 from collections.abc import Callable
@@ -93,14 +92,14 @@ def folded(step: Callable[[Value], Callable[[Value], Value]], first: Value, item
     return first
 
 
+def lines_of_parts(parts: tuple[Value, ...]) -> tuple[Value, ...]:
+    """The parts without the CR at their ends, and the last one where it isn't empty."""
+    return tuple([it[:-1] if it[-1:] == (13,) else it for it in parts[:-1]]) + parts[-1:] * bool(parts and parts[-1])
+
+
 def or_none(found: int, items: tuple[Value, ...]) -> Value:
     """A place in a list, if it is one."""
     return ("Some", found) if found < len(items) else ("None",)
-
-
-def and_others(old: int, test: Callable[[int], bool]) -> int:
-    """The first number from one on that passes."""
-    return next(it for it in itertools.count(old) if test(it))
 
 
 # The words of the library that definitions use, each with how many arguments it takes.
@@ -119,7 +118,8 @@ NATIVE: dict[str, tuple[int, Callable[..., Value]]] = {
     "slice_range": (3, lambda xs, a, b: xs[a:max(a, b)]), "slice_split": (2, split), "fold": (3, folded),
     "list_any": (2, lambda p, xs: any(p(x) for x in xs)), "list_all": (2, lambda p, xs: all(p(x) for x in xs)), "find": (2, found_in),
     "position": (2, lambda p, xs: or_none(prefix(lambda x: not p(x), xs), xs)),
-    "before_first": (2, lambda p, xs: xs[:prefix(lambda x: not p(x), xs)]), "after_first": (2, lambda p, xs: xs[prefix(lambda x: not p(x), xs) + 1:]),
+    "before_first": (2, lambda p, xs: xs[:prefix(lambda x: not p(x), xs)]),
+    "after_first": (2, lambda p, xs: xs[prefix(lambda x: not p(x), xs) + 1:]),
     "prefix_len": (2, prefix), "suffix_len": (2, lambda p, xs: prefix(p, xs[::-1])), "count_by": (2, lambda p, xs: sum(map(bool, map(p, xs)))),
     "range_with_len": (2, lambda a, n: tuple(range(a, a + few(n)))), "flat_map": (2, lambda f, xs: sum((f(x) for x in xs), ())),
     "filter_map": (2, lambda f, xs: tuple([y[1] for y in map(f, xs) if y[0] == "Some"])), "concat": (1, lambda xs: sum(xs, ())),
@@ -128,11 +128,13 @@ NATIVE: dict[str, tuple[int, Callable[..., Value]]] = {
     "cons_option": (2, lambda o, xs: (o[1], *xs) if o[0] == "Some" else xs), "option_to_list": (1, lambda o: o[1:]),
     "is_some": (1, lambda o: o[0] == "Some"), "is_none": (1, lambda o: o[0] == "None"), "is_ok": (1, lambda r: r[0] == "Ok"),
     "is_err": (1, lambda r: r[0] == "Err"), "unwrap_or": (2, lambda o, d: o[1] if o[0] == "Some" else d),
-    "option_map": (2, lambda f, o: ("Some", f(o[1])) if o[0] == "Some" else o), "option_and_then": (2, lambda f, o: f(o[1]) if o[0] == "Some" else o),
+    "option_map": (2, lambda f, o: ("Some", f(o[1])) if o[0] == "Some" else o),
+    "option_and_then": (2, lambda f, o: f(o[1]) if o[0] == "Some" else o),
     "bytes_eq": (2, lambda a, b: a == b), "decimal": (1, lambda n: digits(10, False, n)), "digits": (3, digits),
     "strip_carriage_return": (1, lambda xs: xs[:-1] if xs[-1:] == (13,) else xs),
-    "lines_of_parts": (1, lambda parts: tuple([x[:-1] if x[-1:] == (13,) else x for x in parts[:-1]]) + parts[-1:] * bool(parts and parts[-1])),
-    "string_bytes": (1, lambda s: s), "codes": (1, lambda s: s), "vec_len": (1, len), "tt": (0, lambda: ("tt",)), "true": (0, lambda: True), "false": (0, lambda: False),
+    "lines_of_parts": (1, lines_of_parts),
+    "string_bytes": (1, lambda s: s), "codes": (1, lambda s: s), "vec_len": (1, len), "tt": (0, lambda: ("tt",)),
+    "true": (0, lambda: True), "false": (0, lambda: False),
     "zero": (0, lambda: 0), "[]": (0, tuple),
 }
 INFIX = {"+": "({0} + {1})", "*": "({0} * {1})", "-": "max(0, {0} - {1})", "/": "quotient({0}, {1})", "%": "remainder({0}, {1})",
@@ -143,7 +145,7 @@ FACTS = {"IsTrue": "({0}) is True", "IsFalse": "({0}) is False", "IsSome": "({0}
          "IsOk": "({0})[0] == 'Ok'", "IsErr": "({0})[0] == 'Err'"}
 # The crates whose clauses are those of the programs.
 PROGRAMS = ("lvdc_cli", "lvdc_console", "lvdc_service")
-SAMPLES = tuple({"pair": p, "sector": s, "loc": x} for p in range(8) for s in (0, 1, 2, 3, 4, 15) for x in (0, 1, 2, 3, 4, 5, 6, 7, 8, 9, 252, 253, 254, 255))
+SAMPLES = tuple({"pair": p, "sector": s, "loc": x} for p in range(8) for s in (0, 1, 2, 3, 4, 15) for x in (*range(10), *range(252, 256)))
 
 
 def same(one: Value, other: Value) -> bool:

@@ -51,10 +51,10 @@ banks_of_twins : (map (λ pair. holds 5 0 (bank pair)) (0 ∷ 1 ∷ 2 ∷ 3 ∷ 
 unfolding bank
 banks_of_twins = (refl, refl)
 
--- bank 3 of a simplex pair 3 is in twin 0 alone
-the_last_pair : (holds 8 0 (bank 3) ≡ true) × (holds 8 1 (bank 3) ≡ false) × (holds 8 1 (bank 7) ≡ true)
+-- bank 3 of a simplex pair 3 is in twin 0 alone, and of a duplex pair 0 there is no bank 4
+the_last_pair : (holds 8 0 (bank 3) ≡ true) × (holds 8 1 (bank 3) ≡ false) × (holds 8 1 (bank 7) ≡ true) × (holds 8 0 (bank 4) ≡ false)
 unfolding bank
-the_last_pair = (refl, refl, refl)
+the_last_pair = (refl, refl, refl, refl)
 
 -- ---- HOP constants: 101 1011 1 10101010 011 0110 1 0 1, instruction module 5 and data module 3
 

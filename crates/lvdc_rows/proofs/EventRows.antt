@@ -1,9 +1,9 @@
 -- Worked events: in which steps and of which copy each kind acts, what it does to the copy, and what can be recovered. The numbers of
 -- each event are unlike: module 5, copy 2, steps 7 to 9, latch 3.
-use Rattle.std.proofs.Common.{◌≡◌, ℕ, List, [], ◌∷◌, Bool, true, false, Some, None, map, refl}
+use Rattle.std.proofs.Common.{◌≡◌, List, [], ◌∷◌, Bool, true, false, Some, None, map, refl}
 use Rattle.lvdc_map.specs.Address.{Spot}
 use Rattle.lvdc_vote.specs.declared.hurt.Hurt.TheVariants as hurts
-use Rattle.lvdc_fault.specs.Script.{makes_wrong, deafens, wrong_module, is_active, first_of, active_events}
+use Rattle.lvdc_fault.specs.Script.{makes_wrong, deafens, wrong_module, span_of, is_active, first_of, active_events}
 use Rattle.lvdc_fault.specs.Hurts.{hurts_by, hurts_on}
 use Rattle.lvdc_fault.specs.Recoverable.{recovers_by, shown_by}
 use Rattle.lvdc_fault.specs.declared.event.Event.{Event}
@@ -106,6 +106,10 @@ active_in_step_6 : active_events (flip ∷ Damage 1 place 6 0o60 ∷ Stick 1 pla
     ≡ Damage 1 place 6 0o60 ∷ Stick 1 place 6 9 0o60 0o40 ∷ []
 unfolding flip place
 active_in_step_6 = refl
+
+damage_is_one_step : span_of (Damage 1 place 4 0o60) ≡ record { first = 4; last = 4 }
+unfolding place
+damage_is_one_step = refl
 
 -- ---- what can be recovered in a simplex pair: twin 0 shows banks 0 to 3, twin 1 banks 4 to 7
 

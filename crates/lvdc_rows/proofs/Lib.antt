@@ -30,3 +30,16 @@ mod SnapshotRows
 mod TableRows
 mod TextRows
 mod TraceRows
+mod NumberRows
+mod AddressRows
+mod CodeRows
+mod EventRows
+mod UnitRows
+mod WishRows
+mod PhaseRows
+mod FieldRows
+mod ReportRows
+mod EntryRows
+mod ImageRows
+mod SlotRows
+mod ExchangeRows

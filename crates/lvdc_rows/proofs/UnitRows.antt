@@ -8,6 +8,8 @@ use Rattle.lvdc_modules.specs.Rows.{bus_of, start_latches}
 use Rattle.lvdc_modules.specs.Accumulator.{accumulator_row}
 use Rattle.lvdc_modules.specs.Locator.{locator_row}
 use Rattle.lvdc_modules.specs.Multiplier.{multiplier_row}
+use Rattle.lvdc_modules.specs.Wish.{wish}
+use Rattle.lvdc_modules.specs.declared.wanted.Wanted.TheVariants.{Nothing, Operand}
 
 -- the bus at location 004 with data sector 1: A has 14 and OPERAND 20, memory 7 and the port 7000
 bus : ℕ → ℕ → List ℕ → Bus
@@ -100,6 +102,22 @@ an_operand_in_pq = refl
 execute_modified : locator_row (bus 2 0o16600 idle) ≡ 0o10004 ∷ 0o77 ∷ []
 unfolding bus idle
 execute_modified = refl
+
+-- ---- INSTR is 13 bits of its latch: ADD
+
+a_bit_above_the_instruction : accumulator_row (bus 2 0o27101 idle) ≡ 0o34 ∷ 0o20 ∷ []
+unfolding bus idle
+a_bit_above_the_instruction = refl
+
+-- ---- in phase B an operand is read, unless a hold is left
+
+-- the same bus in phase B with CLA 101 and this hold
+waiting : ℕ → Bus
+waiting hold = record (bus 1 0o17101 idle) { timer = record { phase = 1; hold = hold } }
+
+wishes : (wish (waiting 0) 0 ≡ Operand (record { pair = 0; sector = 1; loc = 0o101 })) × (wish (waiting 3) 0 ≡ Nothing) × (wish (waiting 1) 0 ≡ Nothing)
+unfolding waiting bus idle
+wishes = (refl, refl, refl)
 
 -- ---- before the first step: PLACE has its fields of the start, DATA the others, and all else is 0
 

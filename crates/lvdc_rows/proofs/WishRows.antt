@@ -29,6 +29,10 @@ the_saver_in_module_4 : (word_of_request (StoreSaver (record { dmod = 4; sector 
     × (request_of 0o230072 ≡ StoreSaver (record { dmod = 4; sector = 6; loc = 7 }))
 the_saver_in_module_4 = (refl, refl)
 
+-- 0 10 0110 00000111 001
+a_store_in_module_4 : request_of 0o230071 ≡ StoreA (record { dmod = 4; sector = 6; loc = 7 })
+a_store_in_module_4 = refl
+
 -- 1 01 0001 11111111 001
 a_store_in_module_3 : (word_of_request (StoreA (record { dmod = 3; sector = 1; loc = 255 })) ≡ 0o507771)
     × (request_of 0o507771 ≡ StoreA (record { dmod = 3; sector = 1; loc = 255 }))
