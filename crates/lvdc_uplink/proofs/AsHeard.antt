@@ -9,7 +9,7 @@ use Rattle.lvdc_uplink.specs.Patching.{placed_in, placed_by, with_words, patched
 use Rattle.lvdc_uplink.specs.Messages.{message_of}
 use Rattle.lvdc_uplink.specs.Link.{Link, Step, link_to, after_message, by_message, after_text, is_acknowledged, again, is_applying}
 use Rattle.lvdc_uplink.specs.History.{AreAbove, answers_from, link_after}
-use Rattle.lvdc_uplink.specs.Heard.{Heard, nothing_heard, hears_by, hears, heard_from, changed, IsWhole, last_id, last_check, IsSound, IsAsHeard, IsHeldIf, AreHeld}
+use Rattle.lvdc_uplink.specs.Heard.{Heard, nothing_heard, hears_by, hears, heard_from, changed, IsWhole, last_id, last_check, IsSoundLoad, IsAsHeard, IsHeldIf, AreHeld}
 use Rattle.lvdc_uplink.specs.declared.answer.Answer.{Answer}
 use Rattle.lvdc_uplink.specs.declared.message.Message.{Message}
 use Rattle.lvdc_uplink.proofs.Placing.{with_words-append}
@@ -68,7 +68,7 @@ module _ (opening : Contents) (heard : Heard) (link : Link) (message : Message) 
       ap (hears_by (Some message) (is_acknowledged step.answer)) heard_is
       ∙ message_hears link.image link.last link.check heard.done link.load message is.sound
 
-  still_sound : IsSound step.link.last step.link.load
+  still_sound : IsSoundLoad step.link.last step.link.load
   still_sound = line_sound link (Some message) ranged is.sound
 
   one : (load : Load) → Applied link step load → committed ≡ load ∷ []
@@ -77,8 +77,8 @@ module _ (opening : Contents) (heard : Heard) (link : Link) (message : Message) 
   nothing : Kept link step → committed ≡ []
   nothing kept = rw kept.applying refl
 
-  held_sound : (held : Option Load) (load : Load) → held ≡ Some load → IsSound link.last held → link.last < load.id
-  held_sound held load same sound = (subst (IsSound link.last) same sound).0
+  held_sound : (held : Option Load) (load : Load) → held ≡ Some load → IsSoundLoad link.last held → link.last < load.id
+  held_sound held load same sound = (subst (IsSoundLoad link.last) same sound).0
 
   with_one : (load : Load) → Applied link step load → IsAsHeard opening (heard_with (load ∷ [])) step.link
   with_one load applied = record {
