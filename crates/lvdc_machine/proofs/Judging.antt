@@ -14,7 +14,7 @@ use Rattle.lvdc_model.specs.Exchanges.{wished}
 use Rattle.lvdc_model.specs.Runs.{own_verdict, own_logic, own_memory, recovers, read_of_wish}
 use Rattle.lvdc_machine.specs.View.{View}
 use Rattle.lvdc_machine.specs.Shows.{Shows}
-use Rattle.lvdc_forces.specs.Parts.{IsKnown}
+use Rattle.lvdc_forces.specs.Parts.{IsRightAt}
 use Rattle.lvdc_forces.specs.declared.known.Known.{Known}
 use Rattle.lvdc_machine.specs.Sound.{KnowsForce}
 use Rattle.lvdc_machine.specs.Steps.{IsSoundAt, IsFoundSound, IsRecovered}
@@ -50,7 +50,7 @@ pub found-bad : (o : Trial) (v : Voted) (at : Spot) (step : ℕ) → step ≡ v.
 found-bad o v at step is e = rw (← e) (ap (λ s. Memory s at) is)
 
 -- what is known of the copies is so in that step
-pub known_then : (script : List Event) (last : Option ℕ) (steps : ℕ) (known : Known) → KnowsForce script last known → last ≡ Some steps → IsKnown script steps known
+pub known_then : (script : List Event) (last : Option ℕ) (steps : ℕ) (known : Known) → KnowsForce script last known → last ≡ Some steps → IsRightAt script steps known
 known_then script last steps known knows is = subst (λ (l : Option ℕ). KnowsForce script l known) is knows
 
 -- a sound word of the address that is to be read is one by every state that is shown
