@@ -16,7 +16,7 @@ use Rattle.lvdc_port.specs.declared.requests.PortRequest.TheVariants as requests
 use Rattle.lvdc_modules.specs.Rows.{bus_of}
 use Rattle.lvdc_modules.specs.Wish.{wish}
 use Rattle.lvdc_modules.specs.declared.wanted.Wanted.{Wanted}
-use Rattle.lvdc_plain.specs.Accesses.{fetched, fetched_by, operand, operand_by, spot_of}
+use Rattle.lvdc_plain.specs.Accesses.{fetched, fetched_by, operand, operand_by, address_of_place}
 use Rattle.lvdc_plain.specs.Plain.{PlainState, World}
 use Rattle.lvdc_plain.specs.Run.{plugged, run}
 use Rattle.lvdc_plain.specs.Table.{fetched_instr, operand_place, device_time, step}
@@ -82,7 +82,7 @@ wished-plain Stands o v law k =
 
 -- the bank of a place is there, of a fetch and of an operand too
 place-bank : BankLaw → (banks : ℕ) (h : HopConstant) (address : ℕ) → IsHopConstant h → (kind : OperandKind)
-    → HasBanks banks (spot_of (place_at kind (data_spot banks h address)))
+    → HasBanks banks (address_of_place (place_at kind (data_spot banks h address)))
 place-bank law banks h address ok kinds.Memory = law banks h.dmod (data_spot banks h address) ok.dmod refl
 place-bank law banks h address ok kinds.Pq = tt
 place-bank law banks h address ok kinds.Saver = law banks h.dmod (data_spot banks h address) ok.dmod refl
@@ -98,7 +98,7 @@ operand-bank law None zero p ok = by_takes (takes_operand (fetched_instr p).op)
     address : ℕ
     address = (fetched_instr p).address
 
-    by_takes : (b : Bool) → HasBanks p.banks (cond b (spot_of (operand_place p address)) None)
+    by_takes : (b : Bool) → HasBanks p.banks (cond b (address_of_place (operand_place p address)) None)
     by_takes true = place-bank law p.banks p.place address ok (operand_kind address)
     by_takes false = tt
 operand-bank law None (suc hold) p ok = tt
