@@ -21,7 +21,7 @@ AreStill device_of faults old ready = (port : ℕ) → count_at device_of faults
 
 -- so an end has its cause since before
 pub plain_since : {B : Type 0} (device_of : B → device.Device) (faults : B → ℕ) (end : PlainEnd) (old ready new : List B)
-    → AreStill device_of faults old ready → plain_calls.HasCause device_of faults end ready new → plain_calls.HasCause device_of faults end old new
+    → AreStill device_of faults old ready → plain_calls.PlainEndHasCause device_of faults end ready new → plain_calls.PlainEndHasCause device_of faults end old new
 plain_since device_of faults end old ready new still c =
     subst (λ (first : ℕ → ℕ). plain.Caused end first (λ port. count_at device_of faults port new) (λ port. has_port device_of port new)) (λ i port. still port i) c
 

@@ -59,12 +59,12 @@ module _ {B : Type 0} (device_of : B → device.Device) (faults : B → ℕ) (de
   pub has_run_plainly : AreStill device_of faults old prepared → (m : plain_view.View) (end : PlainEnd)
       → plain.Stands (record { image = words; banks = deck.banks; start = deck.start; unplugs = unplugs; devices = ready }) (0 + deck.count) m (map device_of new)
       → end ≡ plain_view.answer_of_end m.end
-      → plain_calls.HasCause device_of faults end prepared new
+      → plain_calls.PlainEndHasCause device_of faults end prepared new
       → HasRunPlainly device_of faults (trial_of (map device_of old) deck) deck.count old new m
   has_run_plainly still m end stands is cause =
       let S : Opening → Type 0 = λ o. plain.Stands o (0 + deck.count) m (map device_of new) in
       record {
         stands = subst (λ (k : ℕ). plain.Stands (trial_of (map device_of old) deck).opening k m (map device_of new)) (zero-add deck.count)
             (subst S (opening_same deck (map device_of old) ready words unplugs w u made_ready) stands);
-        cause = subst (λ (e : PlainEnd). plain_calls.HasCause device_of faults e old new) is (plain_since device_of faults end old prepared new still cause);
+        cause = subst (λ (e : PlainEnd). plain_calls.PlainEndHasCause device_of faults e old new) is (plain_since device_of faults end old prepared new still cause);
       }

@@ -35,7 +35,7 @@ pub record HasRun {B : Type 0} (device_of : B → device.Device) (faults : B →
 -- the plain machine has run a trial of so many times; its end has its cause
 pub record HasRunPlainly {B : Type 0} (device_of : B → device.Device) (faults : B → ℕ) (o : Trial) (n : ℕ) (old new : List B) (m : plain_view.View) : Type 0 where
   pub stands : plain.Stands o.opening n m (map device_of new)
-  pub cause : plain_calls.HasCause device_of faults (plain_view.answer_of_end m.end) old new
+  pub cause : plain_calls.PlainEndHasCause device_of faults (plain_view.answer_of_end m.end) old new
 
 -- a state of the voted machine tells an account: its parts are those of the account, and what the redundancy did stands in this
 -- other state

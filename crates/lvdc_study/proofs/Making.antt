@@ -193,7 +193,7 @@ none-rose device_of faults ready new (Some (Device step port)) u c = absurd u
 
 -- the same of the plain machine
 none-plainly-rose : {B : Type 0} (device_of : B → device.Device) (faults : B → ℕ) (ready new : List B) (end : Option PlainEnd) → NonePlainlyFailed end
-    → plain_calls.HasCause device_of faults (plain_view.answer_of_end end) ready new → (port : ℕ) → has_port device_of port new ≡ true
+    → plain_calls.PlainEndHasCause device_of faults (plain_view.answer_of_end end) ready new → (port : ℕ) → has_port device_of port new ≡ true
     → count_at device_of faults port new ≡ count_at device_of faults port ready
 none-plainly-rose device_of faults ready new None u c = c
 none-plainly-rose device_of faults ready new (Some plain_ends.Done) u c = c
@@ -232,7 +232,7 @@ module _ {B : Type 0} (device_of : B → device.Device) (faults : B → ℕ) (ol
   has-failed (Some (Inadmissible verdict)) port is c = absurd is
   has-failed (Some (Device step failed)) port is c = rose-since failed port is c.rose
 
-  pub has-plainly-failed : (end : Option PlainEnd) (port : ℕ) → EndsPlainlyIn end port → plain_calls.HasCause device_of faults (plain_view.answer_of_end end) ready new
+  pub has-plainly-failed : (end : Option PlainEnd) (port : ℕ) → EndsPlainlyIn end port → plain_calls.PlainEndHasCause device_of faults (plain_view.answer_of_end end) ready new
       → Rose (count_at device_of faults port old) (count_at device_of faults port new)
   has-plainly-failed None port is c = absurd is
   has-plainly-failed (Some plain_ends.Done) port is c = absurd is
@@ -254,7 +254,7 @@ module _ {B : Type 0} (device_of : B → device.Device) (faults : B → ℕ) (ol
     counts = λ port has. none-rose device_of faults ready new end unfailed cause port has ∙ count-same device_of faults port ready old ports counts;
   }
 
-  pub since-plain : (end : Option PlainEnd) → NonePlainlyFailed end → plain_calls.HasCause device_of faults (plain_view.answer_of_end end) ready new
+  pub since-plain : (end : Option PlainEnd) → NonePlainlyFailed end → plain_calls.PlainEndHasCause device_of faults (plain_view.answer_of_end end) ready new
       → ((port : ℕ) → has_port device_of port new ≡ true → has_port device_of port ready ≡ true) → Since device_of faults old new
   since-plain end unfailed cause left = record {
     left = λ port has. sym (has-ports device_of ready old ports port) ∙ left port has;
