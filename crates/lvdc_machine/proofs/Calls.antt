@@ -10,7 +10,7 @@ use Rattle.lvdc_model.specs.declared.outcome.Outcome.{Outcome}
 use Rattle.lvdc_model.specs.declared.outcome.Outcome.TheVariants.{Inadmissible}
 use Rattle.lvdc_machine.specs.declared.mode.Mode.TheVariants.{Through}
 use Rattle.lvdc_machine.specs.Calls.{Leaves, Answers}
-use Rattle.lvdc_machine.specs.Causes.{HasCause}
+use Rattle.lvdc_machine.specs.Causes.{EndHasCause}
 use Rattle.lvdc_machine.specs.Room.{exchanges_to_come}
 use Rattle.lvdc_machine.specs.Steps.{IsMade}
 use Rattle.lvdc_machine.specs.View.{View, answer_of_end}
@@ -53,7 +53,7 @@ unjudged (Some end) free verdict is = free verdict (rw is refl)
 
 -- where none had come, the end that is then kept is answered
 pub answers-made : {B : Type 0} (device_of : B → device.Device) (faults : B → ℕ) (before after : View) (old new : List B) (end : Outcome)
-    → before.end ≡ None → end ≡ answer_of_end after.end → HasCause device_of faults (answer_of_end after.end) old new
+    → before.end ≡ None → end ≡ answer_of_end after.end → EndHasCause device_of faults (answer_of_end after.end) old new
     → (before.mode ≡ Through → (verdict : Verdict) → after.end ≢ Some (Inadmissible verdict))
     → Answers device_of faults end before after old new
 answers-made device_of faults before after old new end going answer cause through = record {

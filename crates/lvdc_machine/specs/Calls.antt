@@ -10,7 +10,7 @@ use Rattle.lvdc_model.specs.Trial.{Trial}
 use Rattle.lvdc_model.specs.Voted.{Voted}
 use Rattle.lvdc_model.specs.declared.outcome.Outcome.{Outcome}
 use Rattle.lvdc_model.specs.declared.outcome.Outcome.TheVariants.{Inadmissible}
-use Rattle.lvdc_machine.specs.Causes.{HasCause}
+use Rattle.lvdc_machine.specs.Causes.{EndHasCause}
 use Rattle.lvdc_machine.specs.Resumed.{StandsFrom}
 use Rattle.lvdc_machine.specs.Room.{pace_of, exchanges_to_come}
 use Rattle.lvdc_machine.specs.Stands.{Stands}
@@ -60,7 +60,7 @@ pub record Leaves {B : Type 0} (device_of : B → device.Device) (spare : B → 
 pub record Answers {B : Type 0} (device_of : B → device.Device) (faults : B → ℕ) (end : Outcome) (before after : View) (old new : List B) : Type 0 where
   pub answer : end ≡ answer_of_end after.end
   pub kept : IsSome before.end → (after ≡ before) × (new ≡ old)
-  pub cause : IsNone before.end → HasCause device_of faults end old new
+  pub cause : IsNone before.end → EndHasCause device_of faults end old new
   pub through : before.mode ≡ Through → IsNone before.end → (verdict : Verdict) → end ≢ Inadmissible verdict
 
 -- a call makes so many steps, or fewer where an end comes: it goes on by them in its mode's run, from each state of each trial from

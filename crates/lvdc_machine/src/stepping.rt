@@ -18,7 +18,7 @@ ghost use Rattle.lvdc_model.specs.Twins.{read_answer};
 ghost use Rattle.lvdc_model.specs.Voted.{Voted};
 ghost use Rattle.lvdc_model.specs.declared.outcome.Outcome.TheVariants.{Stopped, Inadmissible, Device};
 ghost use Rattle.lvdc_machine.specs.declared.mode.Mode.TheVariants.{Guarded, Through};
-ghost use Rattle.lvdc_machine.specs.Causes.{Fails, HasCause};
+ghost use Rattle.lvdc_machine.specs.Causes.{Fails, EndHasCause};
 ghost use Rattle.lvdc_machine.specs.Room.{exchanges_to_come, MayExchange, MayRepair, IsDue};
 ghost use Rattle.lvdc_snapshot.specs.Notes.{IsNoted};
 ghost use Rattle.lvdc_machine.specs.Made.{of_port, without_a_word, read_made, exchange_made, made_next, told_by};
@@ -544,7 +544,7 @@ impl Machine {
         ensures told { (o : Trial) (first : Voted) (n : ℕ) → StandsFrom o first n self.old (map device_of devices.old.items)
             → result ≡ told_by self.new.end (made_next self.old.mode o (state_from self.old.end self.old.mode o first n)) }
         ensures through { self.old.mode ≡ Through → (verdict : Verdict) → self.new.end ≢ Some (Inadmissible verdict) }
-        ensures cause { HasCause device_of faults (answer_of_end self.new.end) devices.old.items devices.new.items }
+        ensures cause { EndHasCause device_of faults (answer_of_end self.new.end) devices.old.items devices.new.items }
         ensures leaves { Leaves device_of spare 1 self.old self.new devices.old.items devices.new.items }
     {
         self.unplug_due(devices);
