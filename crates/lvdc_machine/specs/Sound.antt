@@ -24,7 +24,7 @@ KnowsForce script last known = IfSome last (λ step. IsRightAt script step known
 -- script, what is known of them is so in the step in force, and there is room for what may still come; the log of a machine with the
 -- room of its mode is of its own steps alone; a machine with room by times judges, and one that judges has phases that go with the
 -- steps; where no end has come the votes are against a stop; and what is noted is of steps that were made
-pub record IsSound (m : Inside) : Type 0 where
+pub record IsSoundMachine (m : Inside) : Type 0 where
   pub events : All IsEvent m.script
   pub on_memory : AreOnMemory m.script m.on_memory.events
   pub forces : AreForces m.script m.forces
