@@ -9,7 +9,7 @@ use Rattle.lvdc_fault.specs.declared.verdict.Verdict.{Verdict}
 use Rattle.lvdc_model.specs.declared.outcome.Outcome.{Outcome}
 use Rattle.lvdc_model.specs.declared.outcome.Outcome.TheVariants.{Inadmissible}
 use Rattle.lvdc_machine.specs.declared.mode.Mode.TheVariants.{Through}
-use Rattle.lvdc_machine.specs.Calls.{Leaves, Answers}
+use Rattle.lvdc_machine.specs.Calls.{LeavesAfterSteps, Answers}
 use Rattle.lvdc_machine.specs.Causes.{EndHasCause}
 use Rattle.lvdc_machine.specs.Room.{exchanges_to_come}
 use Rattle.lvdc_machine.specs.Steps.{IsMade}
@@ -38,7 +38,7 @@ answers-still device_of faults m devices end is = record {
 }
 
 pub leaves-kept : {B : Type 0} (device_of : B → device.Device) (spare : B → ℕ) (steps : ℕ) (m : View) (devices : List B)
-    → AreFit device_of spare (exchanges_to_come m) devices → Leaves device_of spare steps m m devices devices
+    → AreFit device_of spare (exchanges_to_come m) devices → LeavesAfterSteps device_of spare steps m m devices devices
 leaves-kept device_of spare steps m devices fit = record {
   keeps = record { banks = refl; script = refl; unplugs = refl; limit = refl; mode = refl; pace = refl };
   most = omega arith;

@@ -49,7 +49,7 @@ pub record Begins (o : Trial) (mode : Mode) (limit : ℕ) (m : View) (devices : 
 
 -- what a call of so many steps leaves: no more steps were made, no device is there that wasn't, and those that are there are fit
 -- for the exchanges that may still be made
-pub record Leaves {B : Type 0} (device_of : B → device.Device) (spare : B → ℕ) (steps : ℕ) (before after : View) (old new : List B) : Type 0 where
+pub record LeavesAfterSteps {B : Type 0} (device_of : B → device.Device) (spare : B → ℕ) (steps : ℕ) (before after : View) (old new : List B) : Type 0 where
   pub keeps : Keeps before after
   pub most : after.steps ≤ before.steps + steps
   pub left : (port : ℕ) → has_port device_of port new ≡ true → has_port device_of port old ≡ true
@@ -70,4 +70,4 @@ pub record MakesSteps {B : Type 0} (device_of : B → device.Device) (spare faul
   pub stands : (o : Trial) (first : Voted) (n : ℕ) → StandsFrom o first n before (map device_of old)
       → StandsFrom o first (n + steps) after (map device_of new)
   pub answers : Answers device_of faults end before after old new
-  pub leaves : Leaves device_of spare steps before after old new
+  pub leaves : LeavesAfterSteps device_of spare steps before after old new

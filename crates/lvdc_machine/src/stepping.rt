@@ -7,7 +7,7 @@ ghost use Rattle.lvdc_port.specs.Devices.{HasSpare, AreDistinct};
 ghost use Rattle.lvdc_port.specs.declared.requests.PortRequest.TheVariants as requests;
 ghost use Rattle.lvdc_modules.specs.Wish.{wish, IsThereFor};
 ghost use Rattle.lvdc_plain.specs.Lists.{Since, AreFit};
-ghost use Rattle.lvdc_machine.specs.Calls.{Leaves};
+ghost use Rattle.lvdc_machine.specs.Calls.{LeavesAfterSteps};
 ghost use Rattle.lvdc_fault.specs.Script.{two_wrong};
 ghost use Rattle.lvdc_fault.specs.declared.verdict.Verdict.{Verdict};
 ghost use Rattle.lvdc_fault.specs.declared.verdict.Verdict.TheVariants.{Admissible};
@@ -545,7 +545,7 @@ impl Machine {
             → result ≡ told_by self.new.end (made_next self.old.mode o (state_from self.old.end self.old.mode o first n)) }
         ensures through { self.old.mode ≡ Through → (verdict : Verdict) → self.new.end ≢ Some (Inadmissible verdict) }
         ensures cause { EndHasCause device_of faults (answer_of_end self.new.end) devices.old.items devices.new.items }
-        ensures leaves { Leaves device_of spare 1 self.old self.new devices.old.items devices.new.items }
+        ensures leaves { LeavesAfterSteps device_of spare 1 self.old self.new devices.old.items devices.new.items }
     {
         self.unplug_due(devices);
         self.begin();
