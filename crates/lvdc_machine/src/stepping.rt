@@ -20,7 +20,7 @@ ghost use Rattle.lvdc_model.specs.declared.outcome.Outcome.TheVariants.{Stopped,
 ghost use Rattle.lvdc_machine.specs.declared.mode.Mode.TheVariants.{Guarded, Through};
 ghost use Rattle.lvdc_machine.specs.Causes.{Fails, EndHasCause};
 ghost use Rattle.lvdc_machine.specs.Room.{exchanges_to_come, MayExchange, MayRepair, IsDue};
-ghost use Rattle.lvdc_snapshot.specs.Notes.{IsNoted};
+ghost use Rattle.lvdc_snapshot.specs.Notes.{IsRepairOfStep};
 ghost use Rattle.lvdc_machine.specs.Made.{of_port, without_a_word, read_made, exchange_made, made_next, told_by};
 ghost use Rattle.lvdc_modules.specs.declared.wanted.Wanted.TheVariants.{PortWrite};
 ghost use Rattle.lvdc_modules.specs.declared.wanted.Wanted.TheVariants as wishes;
@@ -252,7 +252,7 @@ impl Machine {
         requires line { IsSome brought.line → MayExchange self.old.pace self.old.steps }
         requires repair { IsSome brought.repair → MayRepair self.old.pace self.old.steps }
         requires dated { IfSome brought.line (λ line. line.time ≡ self.old.steps / 3) }
-        requires noted { IfSome brought.repair (IsNoted self.old.banks self.old.steps) }
+        requires noted { IfSome brought.repair (IsRepairOfStep self.old.banks self.old.steps) }
         ensures shows { (o : Trial) (v : Voted) (ds : List device.Device) → Shows o self.old ds v
             → Shows o self.new ds (latches o (noting v brought) brought.memory brought.port) }
         ensures made { IsMade self.old self.new }
