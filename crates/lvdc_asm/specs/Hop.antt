@@ -3,7 +3,7 @@ use Rattle.std.specs.Prelude.{ℕ, ◌*◌, true, List, slice_index_or, Option, 
 use Rattle.std.specs.Option.{option_and_then}
 use Rattle.lvdc_map.specs.Address.{Spot}
 use Rattle.lvdc_map.specs.Hop.{HopConstant}
-use Rattle.lvdc_place.specs.Placement.{Kept}
+use Rattle.lvdc_place.specs.Placement.{LayoutView}
 use Rattle.lvdc_place.specs.declared.spot.Spot.{Spot as Place}
 use Rattle.lvdc_asm.specs.DataPlace.{DataPlace}
 use Rattle.lvdc_asm.specs.Names.{definition_of}
@@ -16,7 +16,7 @@ pub record Plan : Type 0 where
   pub spots : List (Option Place)
 
 -- the names, with the places that a layout keeps
-abbrev pub plan_at : List (List ℕ × Definition) → Kept → Plan
+abbrev pub plan_at : List (List ℕ × Definition) → LayoutView → Plan
 plan_at names layout = record { names = names; spots = layout.spots }
 
 -- where a definition's item stands, and the USE in force there

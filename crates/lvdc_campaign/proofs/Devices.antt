@@ -21,7 +21,7 @@ use Rattle.lvdc_plain.specs.declared.records.Unplug.{Unplug}
 use Rattle.lvdc_fault.specs.declared.event.Event.{Event}
 use Rattle.lvdc_model.specs.declared.outcome.Outcome.{Outcome}
 use Rattle.lvdc_model.specs.declared.outcome.Outcome.TheVariants.{Done, Stopped, Inadmissible, Device}
-use Rattle.lvdc_machine.specs.Causes.{HasCause}
+use Rattle.lvdc_machine.specs.Causes.{EndHasCause}
 use Rattle.lvdc_machine.specs.Stands.{Stands}
 use Rattle.lvdc_machine.specs.View.{View, answer_of_end}
 use Rattle.lvdc_machine.specs.declared.mode.Mode.TheVariants.{Guarded}
@@ -93,7 +93,7 @@ module _ {B : Type 0} (device_of : B → device.Device) (faults : B → ℕ) (im
   pub empty-after : map device_of new ≡ []
   empty-after = none-there device_of new none
 
-  unfailed : (end : Option Outcome) → HasCause device_of faults (answer_of_end end) ready new → NoneFailed end
+  unfailed : (end : Option Outcome) → EndHasCause device_of faults (answer_of_end end) ready new → NoneFailed end
   unfailed None c = tt
   unfailed (Some Done) c = tt
   unfailed (Some (Stopped step stop)) c = tt
@@ -110,12 +110,12 @@ module _ {B : Type 0} (device_of : B → device.Device) (faults : B → ℕ) (im
         script = script;
       }) (0 + 3 * times) m (map device_of new)
       → answer ≡ answer_of_end m.end
-      → HasCause device_of faults answer ready new
+      → EndHasCause device_of faults answer ready new
       → HasRunWithin (trial_under (program_of image start banks) script) times most m (map device_of new)
   has_run_judged script times most m answer opens mode_is limit distinct stands is cause =
       let o = trial_under (program_of image start banks) script in
       let S : Opening → Type 0 = λ p. Stands (trial_under p script) (0 + 3 * times) m (map device_of new) in
-      let C : Outcome → Type 0 = λ e. HasCause device_of faults e ready new in
+      let C : Outcome → Type 0 = λ e. EndHasCause device_of faults e ready new in
       let here : Stands o (0 + 3 * times) m (map device_of new) = subst S is_program stands in
       let later : Stands o (3 * times) m (map device_of new) = subst (λ (n : ℕ). Stands o n m (map device_of new)) (zero-add (3 * times)) here in
       record {

@@ -11,7 +11,7 @@ use Rattle.lvdc_model.specs.Trial.{Trial}
 use Rattle.lvdc_model.specs.Voted.{voted_start}
 use Rattle.lvdc_model.specs.declared.outcome.Outcome.{Outcome}
 use Rattle.lvdc_model.specs.declared.outcome.Outcome.TheVariants.{Done, Stopped, Inadmissible, Device}
-use Rattle.lvdc_machine.specs.Causes.{HasCause}
+use Rattle.lvdc_machine.specs.Causes.{EndHasCause}
 use Rattle.lvdc_machine.specs.Onward.{IsRefusal, HasRefused, GoesThrough}
 use Rattle.lvdc_machine.specs.Stands.{state_by, Stands}
 use Rattle.lvdc_machine.specs.View.{View, answer_of_end}
@@ -93,7 +93,7 @@ module _ {B : Type 0} (device_of : B → device.Device) (spare faults : B → �
 -- no device fails where none is
 pub none-failed : {B : Type 0} (device_of : B → device.Device) (faults : B → ℕ) (old new : List B) → map device_of old ≡ []
     → ((port : ℕ) → has_port device_of port new ≡ true → has_port device_of port old ≡ true)
-    → (end : Option Outcome) → HasCause device_of faults (answer_of_end end) old new → NoneFailed end
+    → (end : Option Outcome) → EndHasCause device_of faults (answer_of_end end) old new → NoneFailed end
 none-failed device_of faults old new empty left None c = tt
 none-failed device_of faults old new empty left (Some Done) c = tt
 none-failed device_of faults old new empty left (Some (Stopped step stop)) c = tt
@@ -107,4 +107,4 @@ pub gone-alone : {B : Type 0} {device_of : B → device.Device} {spare faults : 
     → HasRunGuarded o times m (map device_of old) → map device_of old ≡ [] → GoesThrough device_of spare faults end m after old new → HasRun Through o times after
 gone-alone {device_of = device_of} {spare = spare} {faults = faults} {m = m} {after = after} {old = old} {new = new} {end = end} o times h empty g =
     has-gone device_of spare faults o times m after old new end h g
-    (none-failed device_of faults old new empty g.left after.end (subst (λ (e : Outcome). HasCause device_of faults e old new) g.answer g.cause))
+    (none-failed device_of faults old new empty g.left after.end (subst (λ (e : Outcome). EndHasCause device_of faults e old new) g.answer g.cause))

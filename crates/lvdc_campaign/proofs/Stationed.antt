@@ -164,7 +164,7 @@ quiet-station quiet good same shows p count s at none empty =
 module _ (p : Opening) (count : ℕ) (s : Snapshot) (script : List Event) where
   -- a machine made from a station, over the devices of the plain run, stands in the run of its script
   pub stands-late : (m : View) (old new : List device.Device) (unplugs : List Unplug)
-      → ((o : Trial) (first : ℕ) → AllBeginFrom first o.script → (n : ℕ) → n ≤ first → (m : View) (ds : List device.Device) → m.end ≡ None → m.steps ≡ n
+      → ((o : Trial) (first : ℕ) → AllBeginFrom first o.script → (n : ℕ) → n ≤ first → (m : View) (ds : List device.Device) → m.end ≡ None
       → StandsFrom o (run_of m.mode (fault_free o) n) 0 m ds → Stands o n m ds)
       → ((p : Opening) (times : ℕ) → IsOpening p → (fault_free_at p (3 * times)).devices ≡ (run p times).devices)
       → IsStation p count s → AllBeginFrom s.steps script → (pace : Pace) → IsFresh Guarded pace count s.steps m
@@ -178,7 +178,7 @@ module _ (p : Opening) (count : ℕ) (s : Snapshot) (script : List Event) where
       let devices : (fault_free_at p s.steps).devices ≡ old =
       ap (λ (n : ℕ). (fault_free_at p n).devices) (sym whole) ∙ plain p (s.steps / 3) h.opening ∙ sym there in
       let begins = made o (fault_free_at p s.steps) refl lines (sym h.banks) h.means devices in
-      law o s.steps later s.steps (le_refl s.steps) m new fresh.end fresh.steps_are
+      law o s.steps later s.steps (le_refl s.steps) m new fresh.end
       (subst (λ (k : Mode). StandsFrom o (run_of k (fault_free o) s.steps) 0 m new) (sym fresh.mode_is) begins)
 
   module _ (times : ℕ) (ahead : s.steps ≤ 3 * times) where

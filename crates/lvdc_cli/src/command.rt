@@ -1,4 +1,4 @@
-ghost use Rattle.std.specs.Prelude.{◌≡◌, string_bytes};
+ghost use Rattle.std.specs.Prelude.{◌≡◌, ◌∷◌, []};
 ghost use Rattle.lvdc_text.specs.Words.{texts};
 ghost use Rattle.lvdc_cli.specs.Words.{flagged, product_of, form_of, soak_number, times_of, of_one, of_two, command_of, reads_for, limit_of};
 
@@ -32,6 +32,20 @@ pub enum Command {
 }
 
 impl Command {
+    /// The command that one word is.
+    pub fn from_word(word: &str) -> Option<Command>
+        ensures { result ≡ command_of (word.now ∷ []) }
+    {
+        of_one(word)
+    }
+
+    /// The command that two words are. None has more words.
+    pub fn from_two_words(first: &str, second: &str) -> Option<Command>
+        ensures { result ≡ command_of (first.now ∷ second.now ∷ []) }
+    {
+        of_two(first, second)
+    }
+
     /// Whether an input is read for it.
     pub fn reads(self) -> bool
         ensures { result ≡ reads_for self }
@@ -61,10 +75,10 @@ impl Command {
 }
 
 /// The command that a flag after `run` asks for.
-fn flagged(flag: &String) -> Option<Command>
-    ensures { result ≡ flagged (string_bytes flag.now) }
+fn flagged(flag: &str) -> Option<Command>
+    ensures { result ≡ flagged flag.now }
 {
-    match flag.as_str() {
+    match flag {
         "--plain" => Some(Command::Run(Engine::Plain)),
         "--through" => Some(Command::Run(Engine::Through)),
         _ => None,
@@ -72,20 +86,20 @@ fn flagged(flag: &String) -> Option<Command>
 }
 
 /// The command that a flag after `asm` asks for.
-fn product_of(flag: &String) -> Option<Command>
-    ensures { result ≡ product_of (string_bytes flag.now) }
+fn product_of(flag: &str) -> Option<Command>
+    ensures { result ≡ product_of flag.now }
 {
-    match flag.as_str() {
+    match flag {
         "--image" => Some(Command::Assemble(Product::Image)),
         _ => None,
     }
 }
 
 /// The command that a flag after `macro` asks for.
-fn form_of(flag: &String) -> Option<Command>
-    ensures { result ≡ form_of (string_bytes flag.now) }
+fn form_of(flag: &str) -> Option<Command>
+    ensures { result ≡ form_of flag.now }
 {
-    match flag.as_str() {
+    match flag {
         "--image" => Some(Command::Expand(Form::Image)),
         _ => None,
     }
@@ -93,8 +107,8 @@ fn form_of(flag: &String) -> Option<Command>
 
 /// The number after `soak`: one to ten decimal digits below 2^32.
 #[tactic(auto, unfolding(crate::specs::Words::soak_number))]
-fn soak_number(word: &String) -> Option<u32>
-    ensures { result ≡ soak_number (string_bytes word.now) }
+fn soak_number(word: &str) -> Option<u32>
+    ensures { result ≡ soak_number word.now }
 {
     match decimal(word.as_bytes(), 10) {
         Some(number) if number <= u64::from(u32::MAX) => Some(number as u32),
@@ -104,17 +118,17 @@ fn soak_number(word: &String) -> Option<u32>
 
 /// The instruction times after `save`: one to seven decimal digits.
 #[tactic(auto, unfolding(crate::specs::Words::times_of))]
-fn times_of(word: &String) -> Option<u64>
-    ensures { result ≡ times_of (string_bytes word.now) }
+fn times_of(word: &str) -> Option<u64>
+    ensures { result ≡ times_of word.now }
 {
     decimal(word.as_bytes(), 7)
 }
 
 /// What one word asks for.
-fn of_one(word: &String) -> Option<Command>
-    ensures { result ≡ of_one (string_bytes word.now) }
+fn of_one(word: &str) -> Option<Command>
+    ensures { result ≡ of_one word.now }
 {
-    match word.as_str() {
+    match word {
         "run" => Some(Command::Run(Engine::Guarded)),
         "asm" => Some(Command::Assemble(Product::Listing)),
         "debug" => Some(Command::Debug),
@@ -127,10 +141,10 @@ fn of_one(word: &String) -> Option<Command>
 }
 
 /// What two words ask for.
-fn of_two(first: &String, second: &String) -> Option<Command>
-    ensures { result ≡ of_two (string_bytes first.now) (string_bytes second.now) }
+fn of_two(first: &str, second: &str) -> Option<Command>
+    ensures { result ≡ of_two first.now second.now }
 {
-    match first.as_str() {
+    match first {
         "run" => flagged(second),
         "asm" => product_of(second),
         "macro" => form_of(second),
@@ -151,8 +165,8 @@ pub fn read_command(words: &[String]) -> Option<Command>
     ensures { result ≡ command_of (texts words.now) }
 {
     match words {
-        [first] => of_one(first),
-        [first, second] => of_two(first, second),
+        [first] => of_one(first.as_str()),
+        [first, second] => of_two(first.as_str(), second.as_str()),
         _ => None,
     }
 }

@@ -8,7 +8,7 @@ use Rattle.lvdc_model.specs.Trial.{Trial}
 use Rattle.lvdc_model.specs.Voted.{Voted}
 use Rattle.lvdc_model.specs.declared.outcome.Outcome.{Outcome}
 use Rattle.lvdc_model.specs.declared.outcome.Outcome.TheVariants.{Done, Stopped, Inadmissible, Device}
-use Rattle.lvdc_machine.specs.Causes.{HasCause}
+use Rattle.lvdc_machine.specs.Causes.{EndHasCause}
 use Rattle.lvdc_machine.specs.Resumed.{EndsFrom, StandsFrom, state_from}
 use Rattle.lvdc_machine.specs.Shows.{Shows}
 use Rattle.lvdc_snapshot.specs.Snapshot.{Means}
@@ -44,7 +44,7 @@ answers s devices steps (Some (Inadmissible verdict)) ends = refl
 answers s devices steps (Some (Device step port)) ends = (ends, refl)
 
 module _ {B : Type 0} (device_of : B → device.Device) (faults : B → ℕ) (s : Saved) (old new : List B) where
-  by_kept : (kept : Option Outcome) (a : Answer) → AnswersBy kept s (map device_of old) a → HasCause device_of faults (answer_of_end kept) old new
+  by_kept : (kept : Option Outcome) (a : Answer) → AnswersBy kept s (map device_of old) a → EndHasCause device_of faults (answer_of_end kept) old new
       → IsResumed device_of faults s old new a
   by_kept None a is quiet = subst (λ (x : Answer). IsResumed device_of faults s old new x) (sym is) (made quiet)
   by_kept (Some Done) a is quiet = subst (λ (x : Answer). IsResumed device_of faults s old new x) (sym is) (made quiet)

@@ -11,7 +11,7 @@ use Rattle.lvdc_model.specs.Trial.{Trial}
 use Rattle.lvdc_model.specs.Voted.{Voted}
 use Rattle.lvdc_model.specs.declared.outcome.Outcome.{Outcome}
 use Rattle.lvdc_model.specs.declared.outcome.Outcome.TheVariants.{Done, Stopped, Inadmissible, Device}
-use Rattle.lvdc_machine.specs.Causes.{HasCause}
+use Rattle.lvdc_machine.specs.Causes.{EndHasCause}
 use Rattle.lvdc_machine.specs.Resumed.{StandsFrom}
 use Rattle.lvdc_machine.specs.View.{View, answer_of_end}
 use Rattle.lvdc_machine.specs.declared.mode.Mode.TheVariants.{Guarded}
@@ -33,8 +33,8 @@ all-taken s old now is = record {
 
 -- its end has its cause since before it
 since-caused : {B : Type 0} {device_of : B → device.Device} {faults : B → ℕ} {old mid : List B} → Since device_of faults old mid → (new : List B) (end : Outcome)
-    → ((port : ℕ) → has_port device_of port new ≡ true → has_port device_of port mid ≡ true) → HasCause device_of faults end mid new
-    → HasCause device_of faults end old new
+    → ((port : ℕ) → has_port device_of port new ≡ true → has_port device_of port mid ≡ true) → EndHasCause device_of faults end mid new
+    → EndHasCause device_of faults end old new
 since-caused h new Done left same = λ port has. same port has ∙ h.counts port (left port has)
 since-caused h new (Stopped step stop) left same = λ port has. same port has ∙ h.counts port (left port has)
 since-caused h new (Inadmissible verdict) left same = λ port has. same port has ∙ h.counts port (left port has)
@@ -57,11 +57,11 @@ pub has-run : {B : Type 0} (device_of : B → device.Device) (faults : B → ℕ
     → ((o : Trial) (v : Voted) → MeansOf s (map device_of old) o v → StandsFrom o v 0 made (map device_of mid))
     → ((o : Trial) (v : Voted) (n : ℕ) → StandsFrom o v n made (map device_of mid) → StandsFrom o v (n + 3 * (s.count - s.snapshot.steps / 3)) m (map device_of new))
     → end ≡ answer_of_end m.end → Since device_of faults old mid
-    → ((port : ℕ) → has_port device_of port new ≡ true → has_port device_of port mid ≡ true) → HasCause device_of faults end mid new
+    → ((port : ℕ) → has_port device_of port new ≡ true → has_port device_of port mid ≡ true) → EndHasCause device_of faults end mid new
     → HasRun device_of faults s old new m
 has-run device_of faults s old mid new made m end runnable mode begins goes answer since left cause = record {
   mode = mode;
   stands = λ o v means.
       subst (λ (n : ℕ). StandsFrom o v n m (map device_of new)) (times-left s runnable) (goes o v 0 (begins o v means));
-  cause = subst (λ (e : Outcome). HasCause device_of faults e old new) answer (since-caused since new end left cause);
+  cause = subst (λ (e : Outcome). EndHasCause device_of faults e old new) answer (since-caused since new end left cause);
 }

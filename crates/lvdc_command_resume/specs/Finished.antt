@@ -3,7 +3,7 @@ use Rattle.std.specs.Prelude.{◌≡◌, ℕ, List, map}
 use Rattle.lvdc_port.specs.Device.{Device}
 use Rattle.lvdc_model.specs.Trial.{Trial}
 use Rattle.lvdc_model.specs.Voted.{Voted}
-use Rattle.lvdc_machine.specs.Causes.{HasCause}
+use Rattle.lvdc_machine.specs.Causes.{EndHasCause}
 use Rattle.lvdc_machine.specs.Resumed.{StandsFrom}
 use Rattle.lvdc_snapshot.specs.Snapshot.{Means}
 use Rattle.lvdc_machine.specs.View.{View, answer_of_end}
@@ -25,4 +25,4 @@ pub record MeansOf (s : Saved) (devices : List Device) (o : Trial) (v : Voted) :
 pub record HasRun {B : Type 0} (device_of : B → Device) (faults : B → ℕ) (s : Saved) (old new : List B) (m : View) : Type 0 where
   pub mode : m.mode ≡ Guarded
   pub stands : (o : Trial) (v : Voted) → MeansOf s (map device_of old) o v → StandsFrom o v (steps_left s) m (map device_of new)
-  pub cause : HasCause device_of faults (answer_of_end m.end) old new
+  pub cause : EndHasCause device_of faults (answer_of_end m.end) old new

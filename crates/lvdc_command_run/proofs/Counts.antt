@@ -9,7 +9,7 @@ use Rattle.lvdc_plain.specs.Calls as plain_calls
 use Rattle.lvdc_plain.specs.Stands as plain
 use Rattle.lvdc_plain.specs.declared.records.PlainEnd.{PlainEnd}
 use Rattle.lvdc_model.specs.declared.outcome.Outcome.{Outcome}
-use Rattle.lvdc_machine.specs.Causes.{Caused, HasCause}
+use Rattle.lvdc_machine.specs.Causes.{Caused, EndHasCause}
 use Rattle.lvdc_deck.specs.declared.deck.Deck.{Deck}
 use Rattle.lvdc_command_run.specs.declared.job.Job.{Job}
 use Rattle.lvdc_command_run.specs.Ready.{AreSupplied}
@@ -21,13 +21,13 @@ AreStill device_of faults old ready = (port : ℕ) → count_at device_of faults
 
 -- so an end has its cause since before
 pub plain_since : {B : Type 0} (device_of : B → device.Device) (faults : B → ℕ) (end : PlainEnd) (old ready new : List B)
-    → AreStill device_of faults old ready → plain_calls.HasCause device_of faults end ready new → plain_calls.HasCause device_of faults end old new
+    → AreStill device_of faults old ready → plain_calls.PlainEndHasCause device_of faults end ready new → plain_calls.PlainEndHasCause device_of faults end old new
 plain_since device_of faults end old ready new still c =
     subst (λ (first : ℕ → ℕ). plain.Caused end first (λ port. count_at device_of faults port new) (λ port. has_port device_of port new)) (λ i port. still port i) c
 
 -- the same of the voted machine's end
 pub caused_since : {B : Type 0} (device_of : B → device.Device) (faults : B → ℕ) (end : Outcome) (old ready new : List B)
-    → AreStill device_of faults old ready → HasCause device_of faults end ready new → HasCause device_of faults end old new
+    → AreStill device_of faults old ready → EndHasCause device_of faults end ready new → EndHasCause device_of faults end old new
 caused_since device_of faults end old ready new still c =
     subst (λ (first : ℕ → ℕ). Caused end first (λ port. count_at device_of faults port new) (λ port. has_port device_of port new)) (λ i port. still port i) c
 

@@ -76,7 +76,7 @@ module _ {B : Type 0} (device_of : B → device.Device) (faults : B → ℕ) (o 
 
   -- by the end that was kept
   by_kept : (kept : Option PlainEnd) → EndsAs o.opening n m (map device_of new) kept
-      → plain_calls.HasCause device_of faults (answer_of_end kept) old new
+      → plain_calls.PlainEndHasCause device_of faults (answer_of_end kept) old new
       → Comes device_of faults o n old new m (answer_of_end kept)
   by_kept None r quiet = by_run Done (ap (λ (stop : Option Stop). end_by stop (run o.opening n).plain.times) r.stop) r.shows r.left quiet
   by_kept (Some (Stopped step stop)) r quiet =

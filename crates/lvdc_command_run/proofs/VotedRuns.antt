@@ -21,7 +21,7 @@ use Rattle.lvdc_command_run.specs.Accounts.{Account, account, begun_account, end
 use Rattle.lvdc_reply.specs.Answer.{Answer, answer_with}
 use Rattle.lvdc_command_run.specs.Trials.{trial_of}
 use Rattle.lvdc_command_run.specs.Answers.{account_answer, soak_answer, run_answer, failed_answer}
-use Rattle.lvdc_machine.specs.Causes.{HasCause}
+use Rattle.lvdc_machine.specs.Causes.{EndHasCause}
 use Rattle.lvdc_command_run.specs.Finished.{HasRun, Tells, TellsBy, HasJudged}
 use Rattle.lvdc_command_run.specs.Runs.{Exchanges}
 use Rattle.lvdc_command_run.specs.Replies.{IsRun, made, failed, IsRunOf, IsUnreported, reporting}
@@ -47,7 +47,7 @@ AnswersBy kept j o n a = a ≡ run_answer j o n
 -- so with its devices the run of a machine is the job's run
 module _ {B : Type 0} (device_of : B → device.Device) (faults : B → ℕ) (j : Job) (o : Trial) (n : ℕ) (old new : List B) where
   by_kept : (kept : Option Outcome) (a : Answer) → AnswersBy kept j o n a
-      → HasCause device_of faults (answer_of_end kept) old new
+      → EndHasCause device_of faults (answer_of_end kept) old new
       → IsRun device_of faults j o n old new a
   by_kept None a is quiet = subst (λ (x : Answer). IsRun device_of faults j o n old new x) (sym is) (made quiet)
   by_kept (Some Done) a is quiet = subst (λ (x : Answer). IsRun device_of faults j o n old new x) (sym is) (made quiet)

@@ -15,7 +15,7 @@ use Rattle.lvdc_model.specs.Known.{is_known}
 use Rattle.lvdc_model.specs.Runs.{guarded}
 use Rattle.lvdc_model.specs.Trial.{Trial}
 use Rattle.lvdc_model.specs.Voted.{Voted}
-use Rattle.lvdc_machine.specs.Causes.{HasCause}
+use Rattle.lvdc_machine.specs.Causes.{EndHasCause}
 use Rattle.lvdc_machine.specs.Stands.{Stands, state_by}
 use Rattle.lvdc_machine.specs.View.{View, answer_of_end}
 use Rattle.lvdc_machine.specs.declared.mode.Mode.{Mode}
@@ -30,12 +30,12 @@ pub record HasRun {B : Type 0} (device_of : B → device.Device) (faults : B →
   pub opening : IsOpening o.opening
   pub mode_is : m.mode ≡ mode
   pub stands : Stands o (3 * n) m (map device_of new)
-  pub cause : HasCause device_of faults (answer_of_end m.end) old new
+  pub cause : EndHasCause device_of faults (answer_of_end m.end) old new
 
 -- the plain machine has run a trial of so many times; its end has its cause
 pub record HasRunPlainly {B : Type 0} (device_of : B → device.Device) (faults : B → ℕ) (o : Trial) (n : ℕ) (old new : List B) (m : plain_view.View) : Type 0 where
   pub stands : plain.Stands o.opening n m (map device_of new)
-  pub cause : plain_calls.HasCause device_of faults (plain_view.answer_of_end m.end) old new
+  pub cause : plain_calls.PlainEndHasCause device_of faults (plain_view.answer_of_end m.end) old new
 
 -- a state of the voted machine tells an account: its parts are those of the account, and what the redundancy did stands in this
 -- other state

@@ -9,7 +9,7 @@ use Rattle.lvdc_model.specs.Trial.{Trial}
 use Rattle.lvdc_model.specs.Voted.{Voted}
 use Rattle.lvdc_model.specs.declared.outcome.Outcome.{Outcome}
 use Rattle.lvdc_model.specs.declared.outcome.Outcome.TheVariants.{Done, Stopped, Inadmissible, Device}
-use Rattle.lvdc_machine.specs.Causes.{HasCause}
+use Rattle.lvdc_machine.specs.Causes.{EndHasCause}
 use Rattle.lvdc_machine.specs.Shows.{Shows}
 use Rattle.lvdc_machine.specs.Stands.{state_by, EndsAs}
 use Rattle.lvdc_machine.specs.View.{View, answer_of_end}
@@ -56,7 +56,7 @@ module _ {B : Type 0} (device_of : B → device.Device) (faults : B → ℕ) (n 
   due_by (Some (Device step port)) = failed_answer (job.Deck engine.Guarded) o step port
   due_by kept = stop_answer (map device_of old) deck n
 
-  stop_by : (kept : Option Outcome) (v : Voted) → TellsBy kept o n v → HasCause device_of faults (answer_of_end kept) old new
+  stop_by : (kept : Option Outcome) (v : Voted) → TellsBy kept o n v → EndHasCause device_of faults (answer_of_end kept) old new
       → IsStop device_of faults n deck old new (due_by kept)
   stop_by None v t quiet = made quiet
   stop_by (Some Done) v t quiet = made quiet

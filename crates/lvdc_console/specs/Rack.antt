@@ -41,8 +41,8 @@ abbrev pub rack : List Device
 rack = devices_below 16
 
 -- what stands here is this device, and it never fails
-abbrev pub IsSound : {B : Type 0} → (B → Device) → (B → ℕ) → B → Device → Type 0
-IsSound device_of faults box device = (device_of box ≡ device) × (faults box ≡ never)
+abbrev pub IsUnfailing : {B : Type 0} → (B → Device) → (B → ℕ) → B → Device → Type 0
+IsUnfailing device_of faults box device = (device_of box ≡ device) × (faults box ≡ never)
 
 -- the list has the devices at the ports below this one, each as it is before a run, none of which ever fails, and it has room for
 -- all sixteen

@@ -1,5 +1,5 @@
 ghost use Rattle.std.specs.Prelude.{◌+◌, ◌≤◌, vec_len, vec_capacity, IfOk};
-ghost use Rattle.lvdc_console.specs.Rack.{tape_at, latch_at, ticker_at, recorder_at, device_at, IsSound, IsFilled};
+ghost use Rattle.lvdc_console.specs.Rack.{tape_at, latch_at, ticker_at, recorder_at, device_at, IsUnfailing, IsFilled};
 
 use crate::rack::{latch, plug_in, recorder, tape, ticker};
 use lvdc_port::{Latch, PortDevice, Recorder, Tape, Ticker};
@@ -34,10 +34,10 @@ pub(crate) fn four_tapes(
     port: u8,
 ) -> Result<(Box<Tape>, Box<Tape>, Box<Tape>, Box<Tape>), NoMemory>
     requires { port + 4 ≤ 16 }
-    ensures { IfOk result (λ made. IsSound ⟦<Tape as PortDevice>⟧.device_of ⟦<Tape as PortDevice>⟧.faults made.0.value (tape_at port)
-        × IsSound ⟦<Tape as PortDevice>⟧.device_of ⟦<Tape as PortDevice>⟧.faults made.1.value (tape_at (port + 1))
-        × IsSound ⟦<Tape as PortDevice>⟧.device_of ⟦<Tape as PortDevice>⟧.faults made.2.value (tape_at (port + 2))
-        × IsSound ⟦<Tape as PortDevice>⟧.device_of ⟦<Tape as PortDevice>⟧.faults made.3.value (tape_at (port + 3))) }
+    ensures { IfOk result (λ made. IsUnfailing ⟦<Tape as PortDevice>⟧.device_of ⟦<Tape as PortDevice>⟧.faults made.0.value (tape_at port)
+        × IsUnfailing ⟦<Tape as PortDevice>⟧.device_of ⟦<Tape as PortDevice>⟧.faults made.1.value (tape_at (port + 1))
+        × IsUnfailing ⟦<Tape as PortDevice>⟧.device_of ⟦<Tape as PortDevice>⟧.faults made.2.value (tape_at (port + 2))
+        × IsUnfailing ⟦<Tape as PortDevice>⟧.device_of ⟦<Tape as PortDevice>⟧.faults made.3.value (tape_at (port + 3))) }
 {
     Ok((
         tape(alloc, port)?,
@@ -52,10 +52,10 @@ pub(crate) fn four_tapes(
 pub(crate) fn other_devices(
     alloc: Global,
 ) -> Result<(Box<Latch>, Box<Latch>, Box<Ticker>, Box<Recorder>), NoMemory>
-    ensures { IfOk result (λ made. IsSound ⟦<Latch as PortDevice>⟧.device_of ⟦<Latch as PortDevice>⟧.faults made.0.value (latch_at 0o14)
-        × IsSound ⟦<Latch as PortDevice>⟧.device_of ⟦<Latch as PortDevice>⟧.faults made.1.value (latch_at 0o15)
-        × IsSound ⟦<Ticker as PortDevice>⟧.device_of ⟦<Ticker as PortDevice>⟧.faults made.2.value (ticker_at 0o16)
-        × IsSound ⟦<Recorder as PortDevice>⟧.device_of ⟦<Recorder as PortDevice>⟧.faults made.3.value (recorder_at 0o17)) }
+    ensures { IfOk result (λ made. IsUnfailing ⟦<Latch as PortDevice>⟧.device_of ⟦<Latch as PortDevice>⟧.faults made.0.value (latch_at 0o14)
+        × IsUnfailing ⟦<Latch as PortDevice>⟧.device_of ⟦<Latch as PortDevice>⟧.faults made.1.value (latch_at 0o15)
+        × IsUnfailing ⟦<Ticker as PortDevice>⟧.device_of ⟦<Ticker as PortDevice>⟧.faults made.2.value (ticker_at 0o16)
+        × IsUnfailing ⟦<Recorder as PortDevice>⟧.device_of ⟦<Recorder as PortDevice>⟧.faults made.3.value (recorder_at 0o17)) }
 {
     Ok((
         latch(alloc, 0o14)?,
@@ -76,10 +76,10 @@ pub(crate) fn plug_in_four(
 )
     requires before { IsFilled device_of faults port devices.old.items (vec_len devices.old) (vec_capacity devices.old) }
     requires room { port + 4 ≤ 16 }
-    requires first { IsSound device_of faults first (device_at port) }
-    requires second { IsSound device_of faults second (device_at (port + 1)) }
-    requires third { IsSound device_of faults third (device_at (port + 2)) }
-    requires fourth { IsSound device_of faults fourth (device_at (port + 3)) }
+    requires first { IsUnfailing device_of faults first (device_at port) }
+    requires second { IsUnfailing device_of faults second (device_at (port + 1)) }
+    requires third { IsUnfailing device_of faults third (device_at (port + 2)) }
+    requires fourth { IsUnfailing device_of faults fourth (device_at (port + 3)) }
     ensures { IsFilled device_of faults (port + 4) devices.new.items (vec_len devices.new) (vec_capacity devices.new) }
 {
     plug_in(devices, port, first);

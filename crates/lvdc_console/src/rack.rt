@@ -1,6 +1,6 @@
 ghost use Rattle.std.specs.Prelude.{◌≡◌, ◌+◌, ◌<◌, map, vec_len, vec_capacity, IfOk};
 ghost use Rattle.lvdc_port.specs.Devices.{AreDistinct, HoldWords, NeverFail};
-ghost use Rattle.lvdc_console.specs.Rack.{rack, tape_at, latch_at, ticker_at, recorder_at, device_at, IsSound, IsFilled};
+ghost use Rattle.lvdc_console.specs.Rack.{rack, tape_at, latch_at, ticker_at, recorder_at, device_at, IsUnfailing, IsFilled};
 
 use lvdc_port::{Latch, PortDevice, Recorder, Tape, Ticker};
 use lvdc_word::NoMemory;
@@ -8,28 +8,28 @@ use std::alloc::Global;
 
 /// A tape without words, in a box.
 pub(crate) fn tape(alloc: Global, port: u8) -> Result<Box<Tape>, NoMemory>
-    ensures { IfOk result (λ made. IsSound ⟦<Tape as PortDevice>⟧.device_of ⟦<Tape as PortDevice>⟧.faults made.value (tape_at port)) }
+    ensures { IfOk result (λ made. IsUnfailing ⟦<Tape as PortDevice>⟧.device_of ⟦<Tape as PortDevice>⟧.faults made.value (tape_at port)) }
 {
     Ok(Box::new(alloc, Tape::new(alloc, port))?)
 }
 
 /// A latch that holds 0, in a box.
 pub(crate) fn latch(alloc: Global, port: u8) -> Result<Box<Latch>, NoMemory>
-    ensures { IfOk result (λ made. IsSound ⟦<Latch as PortDevice>⟧.device_of ⟦<Latch as PortDevice>⟧.faults made.value (latch_at port)) }
+    ensures { IfOk result (λ made. IsUnfailing ⟦<Latch as PortDevice>⟧.device_of ⟦<Latch as PortDevice>⟧.faults made.value (latch_at port)) }
 {
     Ok(Box::new(alloc, Latch::new(port))?)
 }
 
 /// A ticker, in a box.
 pub(crate) fn ticker(alloc: Global, port: u8) -> Result<Box<Ticker>, NoMemory>
-    ensures { IfOk result (λ made. IsSound ⟦<Ticker as PortDevice>⟧.device_of ⟦<Ticker as PortDevice>⟧.faults made.value (ticker_at port)) }
+    ensures { IfOk result (λ made. IsUnfailing ⟦<Ticker as PortDevice>⟧.device_of ⟦<Ticker as PortDevice>⟧.faults made.value (ticker_at port)) }
 {
     Ok(Box::new(alloc, Ticker::new(port))?)
 }
 
 /// A recorder without words, in a box.
 pub(crate) fn recorder(alloc: Global, port: u8) -> Result<Box<Recorder>, NoMemory>
-    ensures { IfOk result (λ made. IsSound ⟦<Recorder as PortDevice>⟧.device_of ⟦<Recorder as PortDevice>⟧.faults made.value (recorder_at port)) }
+    ensures { IfOk result (λ made. IsUnfailing ⟦<Recorder as PortDevice>⟧.device_of ⟦<Recorder as PortDevice>⟧.faults made.value (recorder_at port)) }
 {
     Ok(Box::new(alloc, Recorder::new(alloc, port))?)
 }
@@ -42,7 +42,7 @@ pub(crate) fn plug_in(
 )
     requires port { _port < 16 }
     requires before { IsFilled device_of faults _port devices.old.items (vec_len devices.old) (vec_capacity devices.old) }
-    requires next { IsSound device_of faults device (device_at _port) }
+    requires next { IsUnfailing device_of faults device (device_at _port) }
     ensures { IsFilled device_of faults (_port + 1) devices.new.items (vec_len devices.new) (vec_capacity devices.new) }
 {
     let pushed = devices.push(device);

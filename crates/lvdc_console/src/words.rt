@@ -1,4 +1,4 @@
-ghost use Rattle.std.specs.Prelude.{◌≡◌, ◌≤◌, IfSome, string_bytes};
+ghost use Rattle.std.specs.Prelude.{◌≡◌, ◌≤◌, ◌∷◌, [], IfSome};
 ghost use Rattle.lvdc_text.specs.Words.{texts};
 ghost use Rattle.lvdc_console.specs.Words.{first_of, count_of, traced, of_one, of_three, of_four, inquiry_of, most_bytes, IsInquiry};
 
@@ -18,6 +18,30 @@ pub enum Inquiry {
 }
 
 impl Inquiry {
+    /// The inquiry that one word is.
+    pub fn from_word(name: &str) -> Option<Inquiry>
+        ensures value { result ≡ inquiry_of (name.now ∷ []) }
+        ensures ranges { IfSome result IsInquiry }
+    {
+        of_one(name)
+    }
+
+    /// The inquiry that three words are. None has two.
+    pub fn from_three_words(name: &str, first: &str, count: &str) -> Option<Inquiry>
+        ensures value { result ≡ inquiry_of (name.now ∷ first.now ∷ count.now ∷ []) }
+        ensures ranges { IfSome result IsInquiry }
+    {
+        of_three(name, first, count)
+    }
+
+    /// The inquiry that four words are. None has more.
+    pub fn from_four_words(name: &str, flag: &str, first: &str, count: &str) -> Option<Inquiry>
+        ensures value { result ≡ inquiry_of (name.now ∷ flag.now ∷ first.now ∷ count.now ∷ []) }
+        ensures ranges { IfSome result IsInquiry }
+    {
+        of_four(name, flag, first, count)
+    }
+
     /// The most bytes that are read for it.
     pub fn most_bytes(self) -> usize
         ensures { result ≡ most_bytes self }
@@ -30,8 +54,8 @@ impl Inquiry {
 
 /// The first step of a trace.
 #[tactic(auto, unfolding(crate::specs::Words::first_of))]
-fn first_of(word: &String) -> Option<u64>
-    ensures value { result ≡ first_of (string_bytes word.now) }
+fn first_of(word: &str) -> Option<u64>
+    ensures value { result ≡ first_of word.now }
     ensures most { IfSome result (λ first. first ≤ 3000000) }
 {
     match plain_decimal(word.as_bytes(), 7) {
@@ -42,8 +66,8 @@ fn first_of(word: &String) -> Option<u64>
 
 /// How many steps a trace tells.
 #[tactic(auto, unfolding(crate::specs::Words::count_of))]
-fn count_of(word: &String) -> Option<u64>
-    ensures value { result ≡ count_of (string_bytes word.now) }
+fn count_of(word: &str) -> Option<u64>
+    ensures value { result ≡ count_of word.now }
     ensures most { IfSome result (λ count. count ≤ 100000) }
 {
     match plain_decimal(word.as_bytes(), 6) {
@@ -53,8 +77,8 @@ fn count_of(word: &String) -> Option<u64>
 }
 
 /// The trace that two words ask for, where both are numbers.
-fn traced(mode: Mode, first: &String, count: &String) -> Option<Inquiry>
-    ensures value { result ≡ traced mode (first_of (string_bytes first.now)) (count_of (string_bytes count.now)) }
+fn traced(mode: Mode, first: &str, count: &str) -> Option<Inquiry>
+    ensures value { result ≡ traced mode (first_of first.now) (count_of count.now) }
     ensures ranges { IfSome result IsInquiry }
 {
     match first_of(first) {
@@ -70,23 +94,23 @@ fn traced(mode: Mode, first: &String, count: &String) -> Option<Inquiry>
 }
 
 /// What two words ask for behind the name of an inquiry.
-fn of_three(name: &String, first: &String, count: &String) -> Option<Inquiry>
-    ensures value { result ≡ of_three (string_bytes name.now) (string_bytes first.now) (string_bytes count.now) }
+fn of_three(name: &str, first: &str, count: &str) -> Option<Inquiry>
+    ensures value { result ≡ of_three name.now first.now count.now }
     ensures ranges { IfSome result IsInquiry }
 {
-    match name.as_str() {
+    match name {
         "trace" => traced(Mode::Guarded, first, count),
         _ => None,
     }
 }
 
 /// What they ask for with a flag before them.
-fn of_four(name: &String, flag: &String, first: &String, count: &String) -> Option<Inquiry>
-    ensures value { result ≡ of_four (string_bytes name.now) (string_bytes flag.now) (string_bytes first.now) (string_bytes count.now) }
+fn of_four(name: &str, flag: &str, first: &str, count: &str) -> Option<Inquiry>
+    ensures value { result ≡ of_four name.now flag.now first.now count.now }
     ensures ranges { IfSome result IsInquiry }
 {
-    match name.as_str() {
-        "trace" => match flag.as_str() {
+    match name {
+        "trace" => match flag {
             "--through" => traced(Mode::Through, first, count),
             _ => None,
         },
@@ -95,11 +119,11 @@ fn of_four(name: &String, flag: &String, first: &String, count: &String) -> Opti
 }
 
 /// What is asked by a name alone.
-fn of_one(name: &String) -> Option<Inquiry>
-    ensures value { result ≡ of_one (string_bytes name.now) }
+fn of_one(name: &str) -> Option<Inquiry>
+    ensures value { result ≡ of_one name.now }
     ensures ranges { IfSome result IsInquiry }
 {
-    match name.as_str() {
+    match name {
         "form" => Some(Inquiry::Form),
         "study" => Some(Inquiry::Study),
         _ => None,
@@ -112,9 +136,14 @@ pub fn read_inquiry(words: &[String]) -> Option<Inquiry>
     ensures ranges { IfSome result IsInquiry }
 {
     match words {
-        [name] => of_one(name),
-        [name, first, count] => of_three(name, first, count),
-        [name, flag, first, count] => of_four(name, flag, first, count),
+        [name] => of_one(name.as_str()),
+        [name, first, count] => of_three(name.as_str(), first.as_str(), count.as_str()),
+        [name, flag, first, count] => of_four(
+            name.as_str(),
+            flag.as_str(),
+            first.as_str(),
+            count.as_str(),
+        ),
         _ => None,
     }
 }

@@ -12,7 +12,7 @@ use Rattle.lvdc_model.specs.Trial.{Trial}
 use Rattle.lvdc_model.specs.Voted.{Voted, voted_start}
 use Rattle.lvdc_model.specs.declared.outcome.Outcome.{Outcome}
 use Rattle.lvdc_model.specs.declared.outcome.Outcome.TheVariants.{Done, Stopped, Inadmissible, Device}
-use Rattle.lvdc_machine.specs.Calls.{Leaves, Answers}
+use Rattle.lvdc_machine.specs.Calls.{LeavesAfterSteps, Answers}
 use Rattle.lvdc_machine.specs.Causes.{Caused}
 use Rattle.lvdc_machine.specs.Resumed.{StandsFrom, EndsFrom, state_from, steps_after}
 use Rattle.lvdc_machine.specs.Shows.{Shows}
@@ -170,7 +170,7 @@ run_left asked times limit steps few made within = omega (arith, made, within)
 module _ {B : Type 0} (device_of : B → device.Device) (spare faults : B → ℕ) (asked times : ℕ) (before after : View) (old new : List B) (end : Outcome)
     (ready : IsReady device_of spare asked before.limit before old) (within : asked + times ≤ before.limit)
     (stands : (o : Trial) (first : Voted) (n : ℕ) → StandsFrom o first n before (map device_of old) → StandsFrom o first (n + 3 * times) after (map device_of new))
-    (answers : Answers device_of faults end before after old new) (leaves : Leaves device_of spare (3 * times) before after old new) where
+    (answers : Answers device_of faults end before after old new) (leaves : LeavesAfterSteps device_of spare (3 * times) before after old new) where
   pub run_moves : Moves device_of faults asked (asked + times) before after old new
   run_moves = record {
     forward = omega arith;

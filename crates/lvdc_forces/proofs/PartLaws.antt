@@ -17,7 +17,7 @@ use Rattle.lvdc_fault.proofs.Lowest.{find_same}
 use Rattle.lvdc_fault.specs.Hurts.{hurts_by, hurts_on}
 use Rattle.lvdc_forces.specs.Untouched.{IsUntouched}
 use Rattle.lvdc_forces.specs.InForce.{faults_at, mark_at, no_faults}
-use Rattle.lvdc_forces.specs.Parts.{StaysUntil, faults_in, no_part, part_at, events_of, IsRight, total_of, share_then, IsKnown}
+use Rattle.lvdc_forces.specs.Parts.{StaysUntil, faults_in, no_part, part_of_script, events_of_part, IsRightUntil, total_of, share_then, IsRightAt}
 use Rattle.lvdc_forces.specs.Shares.{no_share, share_at, share_with, share_on, share_of, share_next, share_join}
 use Rattle.lvdc_forces.specs.declared.in_force.Faults.{Faults}
 use Rattle.lvdc_forces.specs.declared.known.Known.{Known}
@@ -67,7 +67,7 @@ module _ (s t m c : ℕ) where
 
 -- what is worked out for a step is right while no event of the part begins or has ended
 pub right_part : (es : List Event) (step : ℕ) (p : Part) → ((n : ℕ) → n < 21 → share_at p.shares n ≡ share_on es step (n / 3 + 1) (n % 3 + 1))
-    → All (StaysUntil step p.until) es → IsRight es step p
+    → All (StaysUntil step p.until) es → IsRightUntil es step p
 right_part es step p at stays n t h low high =
     at n h
     ∙ sym (same_share step t (n / 3 + 1) (n % 3 + 1) es
@@ -147,7 +147,7 @@ pub known_by : (script : List Event) (t : ℕ) (k : Known) (shares : List Share)
     → k.force.any ≡ list_any (λ (mark : Bool). mark) k.force.marks
     → k.force.deaf ≡ list_any (λ (f : Faults). f.deaf) k.force.copies
     → k.wrong ≡ find (two_marked k.force.marks) (1 ∷ 2 ∷ 3 ∷ 4 ∷ 5 ∷ 6 ∷ 7 ∷ [])
-    → IsKnown script t k
+    → IsRightAt script t k
 known_by script t k shares right marks copies any deaf wrong =
     record {
       force =
@@ -181,7 +181,7 @@ then_is a es t m c = by (is_wrong es t m c) refl where
 
 -- what so many parts do
 total_right : (parts : List Part) (script : List Event) (t n count : ℕ)
-    → ((k : ℕ) → k < count → share_at (part_at parts k).shares n ≡ share_of (events_of script k) t n)
+    → ((k : ℕ) → k < count → share_at (part_of_script parts k).shares n ≡ share_of (events_of_part script k) t n)
     → total_of parts n count ≡ share_of (take (256 * count) script) t n
 total_right parts script t n zero h = refl
 total_right parts script t n (suc k) h =
@@ -191,13 +191,13 @@ total_right parts script t n (suc k) h =
     let here = h k (omega arith) in
     let more : 256 * k + 256 ≡ 256 * suc k = omega arith in
     (λ j. share_then (before j) (here j))
-    ∙ then_is (share_of (take (256 * k) script) t n) (events_of script k) t m c
+    ∙ then_is (share_of (take (256 * k) script) t n) (events_of_part script k) t m c
     ∙ join_shares (take (256 * k) script) (take 256 (drop (256 * k) script)) t m c
     ∙ ap (λ (es : List Event). share_on es t m c) (sym (take-add (256 * k) 256 script) ∙ ap (λ (i : ℕ). take i script) more)
 
 -- what all parts do is what the script does
 pub totals_right : (parts : List Part) (script : List Event) (t n : ℕ) → length script ≤ 256 * length parts
-    → ((k : ℕ) → k < length parts → share_at (part_at parts k).shares n ≡ share_of (events_of script k) t n)
+    → ((k : ℕ) → k < length parts → share_at (part_of_script parts k).shares n ≡ share_of (events_of_part script k) t n)
     → total_of parts n (length parts) ≡ share_of script t n
 totals_right parts script t n whole h =
     total_right parts script t n (length parts) h ∙ ap (λ (es : List Event). share_of es t n) (take_all (256 * length parts) script whole)
@@ -233,7 +233,7 @@ stays_more script from position step until change next e low here sooner before 
     (subst (StaysUntil step next) (sym is) (λ t m c up down. stays t m c up (omega (arith, sooner, down)))))
 
 -- one part more of which nothing is known
-pub push_unknown : (parts : List Part) → ((k : ℕ) → part_at parts k ≡ no_part) → (k : ℕ) → part_at (parts ++ no_part ∷ []) k ≡ no_part
+pub push_unknown : (parts : List Part) → ((k : ℕ) → part_of_script parts k ≡ no_part) → (k : ℕ) → part_of_script (parts ++ no_part ∷ []) k ≡ no_part
 push_unknown [] h zero = refl
 push_unknown [] h (suc k) = refl
 push_unknown (p ∷ parts) h zero = h 0

@@ -19,16 +19,16 @@ abbrev pub no_part : Part
 no_part = record { until = 0; names_any = false; shares = replicate 21 no_share; told = refl }
 
 -- a part by its number
-abbrev pub part_at : List Part → ℕ → Part
-part_at parts k = slice_index_or parts k no_part
+abbrev pub part_of_script : List Part → ℕ → Part
+part_of_script parts k = slice_index_or parts k no_part
 
 -- the events of a part of a script, by its number
-abbrev pub events_of : List Event → ℕ → List Event
-events_of script k = take 256 (drop (256 * k) script)
+abbrev pub events_of_part : List Event → ℕ → List Event
+events_of_part script k = take 256 (drop (256 * k) script)
 
 -- what is told of a part is right at each step from one up to that at which one of its events begins or has ended
-abbrev pub IsRight : List Event → ℕ → Part → Type 0
-IsRight es step p = (n t : ℕ) → n < 21 → step ≤ t → t < p.until → share_at p.shares n ≡ share_of es t n
+abbrev pub IsRightUntil : List Event → ℕ → Part → Type 0
+IsRightUntil es step p = (n t : ℕ) → n < 21 → step ≤ t → t < p.until → share_at p.shares n ≡ share_of es t n
 
 -- what is done to a copy, and what comes after it, if that names the copy
 abbrev pub share_then : Share → Share → Share
@@ -37,14 +37,14 @@ share_then a b = if b.named then share_join a b else a
 -- what so many parts do to copy n
 abbrev pub total_of : List Part → ℕ → ℕ → Share
 total_of parts n zero = no_share
-total_of parts n (suc k) = share_then (total_of parts n k) (share_at (part_at parts k).shares n)
+total_of parts n (suc k) = share_then (total_of parts n k) (share_at (part_of_script parts k).shares n)
 
 -- what is in force on a copy by what is done to it
 abbrev pub faults_in : Share → Faults
 faults_in s = if s.named then record { deaf = s.deaf; harm = harm_in s } else no_faults
 
 -- what is known is what a script does in a step: what is in force on each copy, which copies are wrong, and which module has two
-pub record IsKnown (script : List Event) (step : ℕ) (k : Known) : Type 0 where
+pub record IsRightAt (script : List Event) (step : ℕ) (k : Known) : Type 0 where
   pub force : IsInForce script step k.force
   pub marks : (n : ℕ) → n < 21 → mark_at k.force.marks n ≡ is_wrong script step (n / 3 + 1) (n % 3 + 1)
   pub wrong : k.wrong ≡ wrong_module script step
@@ -54,5 +54,5 @@ pub record IsKnown (script : List Event) (step : ℕ) (k : Known) : Type 0 where
 pub record AreForces (script : List Event) (f : Forces) : Type 0 where
   pub whole : length script ≤ 256 * length f.parts.items
   pub few : 256 * length f.parts.items ≤ length script + 256
-  pub parts : (k : ℕ) → k < length f.parts.items → IsRight (events_of script k) f.at (part_at f.parts.items k)
-  pub known : (t : ℕ) → f.at ≤ t → t < f.until → IsKnown script t f.known
+  pub parts : (k : ℕ) → k < length f.parts.items → IsRightUntil (events_of_part script k) f.at (part_of_script f.parts.items k)
+  pub known : (t : ℕ) → f.at ≤ t → t < f.until → IsRightAt script t f.known

@@ -6,7 +6,7 @@ ghost use Rattle.lvdc_fault.specs.declared.event.Event.{Event};
 ghost use Rattle.lvdc_fault.specs.Events.{IsEvent};
 ghost use Rattle.lvdc_fault.specs.Script.{is_wrong, wrong_module};
 ghost use Rattle.lvdc_forces.specs.InForce.{IsInForce};
-ghost use Rattle.lvdc_forces.specs.Parts.{events_of, no_part, part_at, AreForces, IsKnown, IsRight};
+ghost use Rattle.lvdc_forces.specs.Parts.{events_of_part, no_part, part_of_script, AreForces, IsRightAt, IsRightUntil};
 
 use crate::in_force::InForce;
 use crate::known::Known;
@@ -59,7 +59,7 @@ impl Forces {
         requires events { All IsEvent script.now }
         requires bound { step < 2 ^ 63 }
         ensures fit { AreForces script.now self.new }
-        ensures known { IsKnown script.now step self.new.known }
+        ensures known { IsRightAt script.now step self.new.known }
     {
         if self.lasts(step) {
             self.at = step;
@@ -88,7 +88,7 @@ impl Forces {
         requires last_number { number ≤ 7 }
         requires first_copy { 1 ≤ copy }
         requires last_copy { copy ≤ 3 }
-        ensures { (script : List Event) (step : ℕ) → IsKnown script step self.now.known → result ≡ is_wrong script step number copy }
+        ensures { (script : List Event) (step : ℕ) → IsRightAt script step self.now.known → result ≡ is_wrong script step number copy }
     {
         self.known.force.marks[3 * usize::from(number - 1) + usize::from(copy - 1)]
     }
@@ -108,7 +108,7 @@ impl Forces {
         requires events { All IsEvent script.now }
         requires bound { step < 2 ^ 63 }
         ensures fit { AreForces script.now self.new }
-        ensures known { IsKnown script.now step self.new.known }
+        ensures known { IsRightAt script.now step self.new.known }
     {
         self.until = renew_all(script, self.at, step, &mut self.parts);
         self.known = Known::of_parts(&self.parts);
@@ -120,7 +120,7 @@ impl Forces {
 fn add_unknown(count: usize, parts: &mut Vec<Part>) -> Result<(), NoMemory>
     requires { parts.old.items ≡ [] }
     ensures count { OnOk result (length parts.new.items ≡ count) }
-    ensures unknown { OnOk result ((k : ℕ) → part_at parts.new.items k ≡ no_part) }
+    ensures unknown { OnOk result ((k : ℕ) → part_of_script parts.new.items k ≡ no_part) }
 {
     for _made in 0..count {
         add_one(parts)?;
@@ -142,10 +142,10 @@ fn renew_all(script: &Script, at: u64, step: u64, parts: &mut Vec<Part>) -> u64
     requires few { 256 * length parts.old.items ≤ length script.now + 256 }
     requires bound { step < 2 ^ 63 }
     ensures length { length parts.new.items ≡ length parts.old.items }
-    ensures right { ((k : ℕ) → k < length parts.old.items → IsRight (events_of script.now k) at (part_at parts.old.items k))
-        → (k : ℕ) → k < length parts.old.items → IsRight (events_of script.now k) step (part_at parts.new.items k) }
+    ensures right { ((k : ℕ) → k < length parts.old.items → IsRightUntil (events_of_part script.now k) at (part_of_script parts.old.items k))
+        → (k : ℕ) → k < length parts.old.items → IsRightUntil (events_of_part script.now k) step (part_of_script parts.new.items k) }
     ensures later { step < result }
-    ensures until { (k : ℕ) → k < length parts.old.items → result ≤ (part_at parts.new.items k).until }
+    ensures until { (k : ℕ) → k < length parts.old.items → result ≤ (part_of_script parts.new.items k).until }
 {
     let mut until = u64::MAX;
     for number in 0..parts.len() {

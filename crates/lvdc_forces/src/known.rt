@@ -6,7 +6,7 @@ ghost use Rattle.lvdc_fault.specs.Events.{IsEvent};
 ghost use Rattle.lvdc_fault.specs.Script.{are_two};
 ghost use Rattle.lvdc_fault.specs.declared.event.Event.{Event};
 ghost use Rattle.lvdc_forces.specs.InForce.{faults_at, mark_at};
-ghost use Rattle.lvdc_forces.specs.Parts.{faults_in, total_of, IsKnown};
+ghost use Rattle.lvdc_forces.specs.Parts.{faults_in, total_of, IsRightAt};
 ghost use Rattle.lvdc_forces.specs.Shares.{share_at, share_of};
 
 use crate::in_force::{Faults, InForce};
@@ -33,7 +33,7 @@ impl Known {
     /// What is known by the parts of a script.
     pub(crate) fn of_parts(parts: &[Part]) -> Known
         ensures { (script : List Event) (step : ℕ) → All IsEvent script
-            → ((n : ℕ) → n < 21 → total_of parts.now n (length parts.now) ≡ share_of script step n) → IsKnown script step result }
+            → ((n : ℕ) → n < 21 → total_of parts.now n (length parts.now) ≡ share_of script step n) → IsRightAt script step result }
     {
         let shares = totals(parts);
         let marks = marks_of(&shares);

@@ -1,5 +1,5 @@
-//! What a script has in force on the 21 copies of the logic, step after step: worked out anew only where an event begins or ends, and
-//! there only for the part of the script that it stands in.
+//! What a script has in force on the 21 copies of the logic, step after step. It is worked out anew only where an event begins or
+//! ends, and there only for the part of the script that it stands in; no clause says when.
 #![tactic(auto)]
 
 mod forces;

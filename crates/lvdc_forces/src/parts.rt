@@ -4,7 +4,7 @@
 ghost use Rattle.std.specs.Prelude.{◌≡◌, ℕ, ◌+◌, ◌-◌, ◌*◌, ◌/◌, ◌%◌, ◌≤◌, ◌<◌, ◌^◌, true, false, length, take, drop, All};
 ghost use Rattle.lvdc_fault.specs.Events.{IsEvent};
 ghost use Rattle.lvdc_fault.specs.Script.{is_within};
-ghost use Rattle.lvdc_forces.specs.Parts.{StaysUntil, IsRight, events_of, share_then};
+ghost use Rattle.lvdc_forces.specs.Parts.{StaysUntil, IsRightUntil, events_of_part, share_then};
 ghost use Rattle.lvdc_forces.specs.Shares.{share_at, share_on};
 
 use crate::part::Part;
@@ -17,7 +17,7 @@ fn work_out(script: &Script, number: usize, step: u64, part: &mut Part)
     requires events { All IsEvent script.now }
     requires number { 256 * number ≤ length script.now }
     requires bound { step < 2 ^ 63 }
-    ensures right { IsRight (events_of script.now number) step part.new }
+    ensures right { IsRightUntil (events_of_part script.now number) step part.new }
     ensures later { step < part.new.until }
 {
     let length = script.len();
@@ -94,7 +94,7 @@ pub(crate) fn renew(script: &Script, number: usize, at: u64, step: u64, part: &m
     requires events { All IsEvent script.now }
     requires number { 256 * number ≤ length script.now }
     requires bound { step < 2 ^ 63 }
-    ensures right { IsRight (events_of script.now number) at part.old → IsRight (events_of script.now number) step part.new }
+    ensures right { IsRightUntil (events_of_part script.now number) at part.old → IsRightUntil (events_of_part script.now number) step part.new }
     ensures later { step < part.new.until }
     ensures until { result ≡ part.new.until }
 {

@@ -11,7 +11,7 @@ use Rattle.lvdc_map.specs.Memory.{are_rising, AllThere}
 use Rattle.lvdc_map.specs.declared.placed.Placed.{Placed}
 use Rattle.lvdc_image.specs.declared.fault.ImageFault.{ImageFault}
 use Rattle.lvdc_image.specs.declared.fault.ImageFault.TheVariants.{BadImageLine, AddressOrder, BadWord, NoMemory as WantsMemory}
-use Rattle.lvdc_image.specs.Image.{Contents, IsPlaced, IsImage, IsSound, word_line, start_line, simplex_line, simplex_lines, image_lines}
+use Rattle.lvdc_image.specs.Image.{Contents, IsPlaced, IsImage, IsImageInRange, word_line, start_line, simplex_line, simplex_lines, image_lines}
 use Rattle.lvdc_text.specs.Lines.{NumberedLine}
 use Rattle.lvdc_image.specs.Reading.{texts, words_from, image_with, banks_in, by_banks, after_start, start_number, start_of, by_start, from_start, image_of}
 use Rattle.lvdc_image.proofs.Parts.{both, heads}
@@ -195,7 +195,7 @@ image_of-printed image start banks words s b w rising there duplex placed ok sma
     image_of-again lines image is (subst (λ (ps : List Placed). All IsPlaced ps) w placed) (subst (λ (h : Option HopConstant). IfSome h IsHopConstant) s ok) (subst (λ (n : ℕ). n < 16) b small) e
 
 -- a call that refuses lines as the definition does refuses those of an image for want of memory alone
-pub refused-image : (lines : List NumberedLine) (image : Contents) (result : Result Contents ImageFault) → IsSound image → texts lines ≡ image_lines image
+pub refused-image : (lines : List NumberedLine) (image : Contents) (result : Result Contents ImageFault) → IsImageInRange image → texts lines ≡ image_lines image
     → IfErr result (λ fault. fault ≢ WantsMemory → image_of lines ≡ Err fault) → IfErr result (λ fault. fault ≡ WantsMemory)
 refused-image lines image (Ok read) can e refusal = tt
 refused-image lines image (Err WantsMemory) can e refusal = refl

@@ -26,7 +26,7 @@ pub record IsImage (image : Contents) : Type 0 where
   pub duplex : image.start ≡ None → image.banks ≡ 0
 
 -- an image, with its numbers in their ranges
-pub record IsSound (image : Contents) : Type 0 where
+pub record IsImageInRange (image : Contents) : Type 0 where
   pub sound : IsImage image
   pub words : All IsPlaced image.words
   pub start : IfSome image.start IsHopConstant

@@ -1,7 +1,7 @@
 ghost use Rattle.std.specs.Prelude.{◌≡◌, ◌≢◌, ◌-◌, ◌^◌, ◌<◌, length, map, codes, IfOk, IfErr, All, Ok, Err, None};
 ghost use Rattle.std.specs.Str.{bytes_eq};
 ghost use Rattle.lvdc_text.specs.Lines.{IsWithin, part_of, numbered};
-ghost use Rattle.lvdc_image.specs.Image.{Contents, IsSound, image_lines};
+ghost use Rattle.lvdc_image.specs.Image.{Contents, IsImageInRange, image_lines};
 ghost use Rattle.lvdc_image.specs.Reading.{entry_in, placed_of, words_from, image_with, after_start, from_start, image_of};
 ghost use Rattle.lvdc_image.specs.declared.fault.ImageFault.TheVariants.{NoMemory as WantsMemory};
 
@@ -181,7 +181,7 @@ pub fn read_image(alloc: Global, bytes: &[u8], lines: &[Line]) -> Result<Image, 
     // Each image has one list of lines.
     ensures one { IfOk result (λ image. map (part_of bytes.now) lines.now ≡ image_lines image) }
     // The lines of an image are refused for want of memory alone.
-    ensures each { (image : Contents) → IsSound image → map (part_of bytes.now) lines.now ≡ image_lines image
+    ensures each { (image : Contents) → IsImageInRange image → map (part_of bytes.now) lines.now ≡ image_lines image
         → IfErr result (λ fault. fault ≡ WantsMemory) }
 {
     read_by_version(alloc, bytes, lines)

@@ -30,7 +30,7 @@ use Rattle.lvdc_asm.specs.DataPlace.{DataPlace, first_data}
 use Rattle.lvdc_asm.specs.Hop.{Plan, hop_at}
 use Rattle.lvdc_asm.specs.Operands.{number_address}
 use Rattle.lvdc_asm.specs.Pool.{Progress, is_same_literal, literal_of}
-use Rattle.lvdc_laws_assembly.specs.Holds.{HoldsCode, Holds, NamesLiteral, IsAddressOf}
+use Rattle.lvdc_laws_assembly.specs.Holds.{HoldsCode, HoldsLine, NamesLiteral, IsAddressOf}
 use Rattle.lvdc_laws_assembly.specs.Images.{half_of, word_at}
 use Rattle.lvdc_laws_assembly.specs.Lines.{IsLine, fills, IsBare}
 use Rattle.lvdc_laws_assembly.proofs.Uses.{after_all, same-after}
@@ -159,7 +159,7 @@ some-syl None h = absurd (true≢false (sym h))
 some-syl (Some syl) h = (syl, refl)
 
 line-holds : (a : Assembled) (is : IsWalked a) (line : ℕ) (body : Body) (here : Place) (assumed : DataPlace) → LineStands body here → IsPlace assumed → HasForm body
-    → ItemHolds a.plan is.parts.done assumed (record { line = line; label = []; body = body }) (Some here) → Holds a here assumed body
+    → ItemHolds a.plan is.parts.done assumed (record { line = line; label = []; body = body }) (Some here) → HoldsLine a here assumed body
 line-holds a is line (says.Instruction op operand) here assumed stands place form holds =
     let syl = some-syl here.syl stands.form in
     code-at a is line op operand here assumed syl.0 syl.1
@@ -206,11 +206,11 @@ pub each-stands : (a : Assembled) → IsWalked a → (number : ℕ) (item : Item
 each-stands a is number item says takes = have-places a.items a.plan.spots number item is.forms says takes
 
 -- each line holds
-pub each-holds : (a : Assembled) → IsWalked a → (number : ℕ) (item : Item) (here : Place) (assumed : DataPlace) → IsLine a number item here assumed → Holds a here assumed item.body
+pub each-holds : (a : Assembled) → IsWalked a → (number : ℕ) (item : Item) (here : Place) (assumed : DataPlace) → IsLine a number item here assumed → HoldsLine a here assumed item.body
 each-holds a is number item here assumed line =
     let holds : ItemHolds a.plan is.parts.done (after_all first_data (take number a.items)) item (Some here) =
     held-at a.plan is.parts.done first_data a.items a.plan.spots number item here is.walked.hold line.says line.stands in
-    subst (λ (place : DataPlace). Holds a here place item.body) (same-after first_data (take number a.items) ∙ line.uses)
+    subst (λ (place : DataPlace). HoldsLine a here place item.body) (same-after first_data (take number a.items) ∙ line.uses)
     (line-holds a is item.line item.body here (after_all first_data (take number a.items)) (stands-at a.items a.plan.spots number item here is.forms is.apart.inside line.says line.stands)
     (line-place a.items number is.program) (item-form kind.Nowhere a.items number item is.program line.says) holds)
 

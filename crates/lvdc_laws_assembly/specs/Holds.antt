@@ -85,7 +85,7 @@ pub record HoldsCode (assembled : Assembled) (here : Place) (assumed : DataPlace
   pub bits : IsAddressOf assembled (hop_at here.at syl assumed) op operand address
 
 -- what the image holds for a line that stands here: an instruction, or a word
-abbrev pub Holds : Assembled → Place → DataPlace → Body → Type 0
-Holds assembled here assumed (says.Instruction op operand) = HoldsCode assembled here assumed op operand
-Holds assembled here assumed (says.Constant constant) = HoldsWord assembled constant here.at
-Holds assembled here assumed body = Unit {0}
+abbrev pub HoldsLine : Assembled → Place → DataPlace → Body → Type 0
+HoldsLine assembled here assumed (says.Instruction op operand) = HoldsCode assembled here assumed op operand
+HoldsLine assembled here assumed (says.Constant constant) = HoldsWord assembled constant here.at
+HoldsLine assembled here assumed body = Unit {0}

@@ -10,7 +10,7 @@ ghost use Rattle.lvdc_place.specs.Placement.{takes_place};
 ghost use Rattle.lvdc_place.specs.declared.spot.Spot.{Spot as Place};
 ghost use Rattle.lvdc_asm.specs.Assembly.{Assembled, assembly_of};
 ghost use Rattle.lvdc_asm.specs.DataPlace.{DataPlace};
-ghost use Rattle.lvdc_laws_assembly.specs.Holds.{Holds};
+ghost use Rattle.lvdc_laws_assembly.specs.Holds.{HoldsLine};
 ghost use Rattle.lvdc_laws_assembly.specs.Images.{word_at, half_of};
 ghost use Rattle.lvdc_asm.specs.Hop.{target_of};
 ghost use Rattle.lvdc_asm.specs.Target.{Target};
@@ -27,7 +27,7 @@ pub fn image_holds_lines()
     // At the place of a line that makes code a machine fetches its instruction; at that of a constant the word is its value.
     ensures lines { (lines : List NumberedLine) (assembled : Assembled) → assembly_of lines ≡ Ok assembled
         → (number : ℕ) (item : Item) (here : Place) (assumed : DataPlace) → IsLine assembled number item here assumed
-        → Holds assembled here assumed item.body }
+        → HoldsLine assembled here assumed item.body }
     // Where a word is pooled it stands.
     ensures pool { (lines : List NumberedLine) (assembled : Assembled) → assembly_of lines ≡ Ok assembled
         → (index : ℕ) → IfSome (slice_get assembled.pool index) (λ pooled. word_at assembled.words pooled.1 ≡ Some pooled.0.word) }

@@ -21,7 +21,7 @@ use Rattle.lvdc_model.specs.Exchanges.{begin_step, exchanges, wished, voted_step
 use Rattle.lvdc_model.specs.Runs.{judged_by, guarded_by, guarded}
 use Rattle.lvdc_laws_voted.specs.Copies.{ModuleAgrees, Agree, wrong_before}
 use Rattle.lvdc_laws_voted.specs.Laws.{VotesLaw, CopiesLaw}
-use Rattle.lvdc_laws_voted.specs.Relation.{Kept, Follows, Goes, Halts}
+use Rattle.lvdc_laws_voted.specs.Relation.{IsOnCourse, Follows, Goes, Halts}
 use Rattle.lvdc_laws_voted.specs.Ends.{IsBegun, Comes, Good, Bad}
 use Rattle.lvdc_laws_failures.specs.Listeners.{Listener, Exchange, Three, told_by_three, all_heard}
 use Rattle.lvdc_laws_failures.specs.Split.{Split, Run, Adversary}
@@ -56,7 +56,7 @@ votes-beside law run v h = ap votes h.voted ∙ heard-votes Exchange run.now.cop
 -- ---- one step
 
 -- the votes after a step that was made are the rows over the votes before it
-votes-next : Cited → (o : Trial) (v next : Voted) (w : Wanted) → Kept Standing o v.steps v → wrong_module o.script v.steps ≡ None
+votes-next : Cited → (o : Trial) (v next : Voted) (w : Wanted) → IsOnCourse Standing o v.steps v → wrong_module o.script v.steps ≡ None
     → IsMade o (begin_step o v) w next → votes next ≡ after_phase (votes v) (memory_word o (begin_step o v) w) (answer_word (begin_step o v) w)
 votes-next law o v next w k logic made =
     let memory = memory_word o (begin_step o v) w in
@@ -66,7 +66,7 @@ votes-next law o v next w k logic made =
     ∙ ap (λ (states : List (List ℕ)). after_phase states memory port) (sym (law.votes (wrong_before o.script v.steps) 1 v.copies k.states k.shows.agree))
 
 -- a step of the split machine goes on beside that of the voted one
-beside-step : Cited → (o : Trial) (a : Adversary) (run : Run) (v : Voted) → Kept Standing o v.steps v → wrong_module o.script v.steps ≡ None
+beside-step : Cited → (o : Trial) (a : Adversary) (run : Run) (v : Voted) → IsOnCourse Standing o v.steps v → wrong_module o.script v.steps ≡ None
     → ((m : ℕ) → 1 ≤ m → m ≤ 7 → are_two (a.fails run m) ≡ false) → IsFound (voted_step o (begin_step o v)).end → (before : List Split) → IsBeside run v
     → IsBeside (record { now = split_from o a run (begin_step o run.now.voted); before = before }) (voted_step o (begin_step o v))
 beside-step law o a run v k logic few found before h =
@@ -229,7 +229,7 @@ beside law o a ok (suc n) good one = by_run (follows law o ok n parts.0) (beside
         let going : run.now.voted.end ≡ None = same_end h ∙ k.going in
         subst (λ (r : Run). IsBeside r (guarded o (suc n))) (sym (run-goes run.now.voted.end o a run going))
         (subst (λ (u : Voted). IsBeside (record { now = split_from o a run (begin_step o run.now.voted); before = run.now ∷ run.before }) u) (sym made)
-        (beside-step law o a run v (subst (λ (m : ℕ). Kept Standing o m v) (sym e) k) (none-named_by o v.steps (wrong_module o.script v.steps) refl verdict)
+        (beside-step law o a run v (subst (λ (m : ℕ). IsOnCourse Standing o m v) (sym e) k) (none-named_by o v.steps (wrong_module o.script v.steps) refl verdict)
         (one n (omega arith) going) (subst (λ (u : Voted). IsFound u.end) made (found-follows o (suc n) _ (follows law o ok (suc n) good))) (run.now ∷ run.before) h))
     by_run (Halts le d) h =
         let still : guarded o (suc n) ≡ v = guarded-stays v.end o v _ d.ended in

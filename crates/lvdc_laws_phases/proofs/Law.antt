@@ -12,7 +12,7 @@ use Rattle.lvdc_port.specs.Devices.{exchange_word}
 use Rattle.lvdc_port.specs.declared.requests.PortRequest.TheVariants.{Read}
 use Rattle.lvdc_plain.specs.Plain.{PlainState}
 use Rattle.lvdc_plain.specs.Table.{fetched_instr, operand_place, device_time}
-use Rattle.lvdc_plain.specs.Accesses.{fetched_by, operand_by, spot_of}
+use Rattle.lvdc_plain.specs.Accesses.{fetched_by, operand_by, address_of_place}
 use Rattle.lvdc_modules.specs.declared.bus.Bus.{Bus}
 use Rattle.lvdc_modules.specs.declared.wanted.Wanted.{Wanted}
 use Rattle.lvdc_modules.specs.declared.wanted.Wanted.TheVariants.{Fetch, Operand}
@@ -37,7 +37,7 @@ first_law right b p devices memory port stop s words answered =
     (wishes 0 b p (omega arith) stop s ∙ (λ i. read_wish Fetch (fetched_by (stop i) (z i) p))) answered)
 
 -- the operand that is answered is found
-found : (place : Place) (b : Bus) (p : PlainState) (devices : List Device) → IsAnswered (read_wish Operand (spot_of place)) b p devices → IsFound place b p
+found : (place : Place) (b : Bus) (p : PlainState) (devices : List Device) → IsAnswered (read_wish Operand (address_of_place place)) b p devices → IsFound place b p
 found (Memory at) b p devices h = h
 found (Saver at) b p devices h = h
 found Pq b p devices h = tt
@@ -47,9 +47,9 @@ pub second_law : UnitIsRight → SecondLaw
 second_law right b p devices memory port stop s answered =
     second_by right p.hold b p memory port refl s
     (λ z t. found (operand_place p (fetched_instr p).address) b p devices
-    (answers (wish b p.banks) (read_wish Operand (spot_of (operand_place p (fetched_instr p).address))) b p devices
+    (answers (wish b p.banks) (read_wish Operand (address_of_place (operand_place p (fetched_instr p).address))) b p devices
     (wishes 1 b p (omega arith) stop s ∙ (λ i. read_wish Operand (operand_by (stop i) (z i) p))
-    ∙ ap (read_wish Operand) (cond-true (takes_operand (fetched_instr p).op) (spot_of (operand_place p (fetched_instr p).address)) None t)) answered))
+    ∙ ap (read_wish Operand) (cond-true (takes_operand (fetched_instr p).op) (address_of_place (operand_place p (fetched_instr p).address)) None t)) answered))
 
 -- what a port read answers
 read_there : (op : Op) (b : Bus) (p : PlainState) (devices : List Device) (address : ℕ) → reads_port op address ≡ true

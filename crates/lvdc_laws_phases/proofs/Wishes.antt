@@ -14,7 +14,7 @@ use Rattle.lvdc_isa.specs.declared.op.Op.{Op}
 use Rattle.lvdc_isa.specs.declared.op.Op.TheVariants.{Pio, Sto}
 use Rattle.lvdc_plain.specs.Plain.{PlainState}
 use Rattle.lvdc_plain.specs.Table.{fetched_instr, operand_place}
-use Rattle.lvdc_plain.specs.Accesses.{fetched_by, operand_by, spot_of}
+use Rattle.lvdc_plain.specs.Accesses.{fetched_by, operand_by, address_of_place}
 use Rattle.lvdc_modules.specs.declared.bus.Bus.{Bus}
 use Rattle.lvdc_modules.specs.declared.request.Request.{Request}
 use Rattle.lvdc_modules.specs.declared.request.Request.TheVariants as requests
@@ -87,14 +87,14 @@ wish_made op b p address a saver = search rules
 -- ---- the operand
 
 -- the wish for an operand is a read where it stands in memory
-wish_taken : (place : Place) → operand_wish place ≡ read_wish Operand (spot_of place)
+wish_taken : (place : Place) → operand_wish place ≡ read_wish Operand (address_of_place place)
 wish_taken (places.Memory at) = refl
 wish_taken places.Pq = refl
 wish_taken (places.Saver at) = refl
 
 -- the same, by whether the operation takes an operand
 wish_operand : (takes : Bool) (place : Place)
-    → (if takes then operand_wish place else Nothing) ≡ read_wish Operand (if takes then spot_of place else None)
+    → (if takes then operand_wish place else Nothing) ≡ read_wish Operand (if takes then address_of_place place else None)
 wish_operand true place = wish_taken place
 wish_operand false place = refl
 

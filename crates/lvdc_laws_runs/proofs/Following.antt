@@ -16,7 +16,7 @@ use Rattle.lvdc_model.specs.Runs.{guarded, alone, own_verdict}
 use Rattle.lvdc_model.specs.Trial.{Trial}
 use Rattle.lvdc_model.specs.Voted.{Voted}
 use Rattle.lvdc_laws_voted.specs.Ends.{ShowsTimes, IsBegun, EndsAt, Comes, Good, Bad}
-use Rattle.lvdc_laws_voted.specs.Relation.{Kept, Goes, Halts}
+use Rattle.lvdc_laws_voted.specs.Relation.{IsOnCourse, Goes, Halts}
 use Rattle.lvdc_machine.specs.declared.mode.Mode.{Mode}
 use Rattle.lvdc_machine.specs.declared.mode.Mode.TheVariants.{Guarded}
 use Rattle.lvdc_laws_runs.specs.Guarded.{IsPlain, IsRefused, GuardedBy}
@@ -81,18 +81,18 @@ found-good o step (Bad m less first same ends) going found-it = by_step (step - 
         absurd (cc (bad, none))
 
 -- no end: the whole relation is kept
-kept-on : (o : Trial) (n : ℕ) → Comes Standing o n → (guarded o n).end ≡ None → Kept Standing o n (guarded o n)
+kept-on : (o : Trial) (n : ℕ) → Comes Standing o n → (guarded o n).end ≡ None → IsOnCourse Standing o n (guarded o n)
 kept-on o n (Good good (Goes steps kept)) none = kept
 kept-on o n (Good good (Halts steps halted)) none = let ended = halted.ended in absurd (cc (ended, none))
 kept-on o n (Bad m less first same ends) none = let bad = end-bad o n m same ends in absurd (cc (bad, none))
 
 -- so of a machine that stands
 pub keeps : (o : Trial) (n : ℕ) (m : View) (ds : List device.Device) → Comes Standing o n → alone o n ≡ guarded o n
-    → m.mode ≡ Guarded → m.end ≡ None → Stands o n m ds → Kept Standing o n (state_by m.end m.mode o n)
+    → m.mode ≡ Guarded → m.end ≡ None → Stands o n m ds → IsOnCourse Standing o n (state_by m.end m.mode o n)
 keeps o n m ds comes same mode none h =
     let state : state_by m.end m.mode o n ≡ guarded o n = (λ i. state_by (none i) (mode i) o n) ∙ same in
     let there : (guarded o n).end ≡ None = ap (λ (v : Voted). v.end) (sym state) ∙ sym h.shows.end ∙ none in
-    subst (λ (v : Voted). Kept Standing o n v) (sym state) (kept-on o n comes there)
+    subst (λ (v : Voted). IsOnCourse Standing o n v) (sym state) (kept-on o n comes there)
 
 -- so by every end
 pub follows : (o : Trial) (n : ℕ) (m : View) (ds : List device.Device)

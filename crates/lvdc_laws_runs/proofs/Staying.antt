@@ -31,7 +31,7 @@ use Rattle.lvdc_model.specs.Judging.{is_recoverable, judged, judged_memory, judg
 use Rattle.lvdc_model.specs.Runs.{read_of_wish, judged_by, guarded_by, guarded}
 use Rattle.lvdc_laws_voted.specs.Ends.{Opens, IsBegun}
 use Rattle.lvdc_laws_voted.specs.Laws.{StepLaws}
-use Rattle.lvdc_laws_voted.specs.Relation.{Kept, Halted, Follows, Goes, Halts}
+use Rattle.lvdc_laws_voted.specs.Relation.{IsOnCourse, Halted, Follows, Goes, Halts}
 use Rattle.lvdc_laws_voted.proofs.Copies.{TwoVote}
 use Rattle.lvdc_laws_voted.proofs.Join.{bank-read}
 use Rattle.lvdc_laws_voted.proofs.Places.{DuplexLaw}
@@ -178,7 +178,7 @@ module _ (law : StepLaws Standing) (two : TwoVote) (duplex : DuplexLaw) (o : Tri
       next-words : StoresWords o (suc n)
       next-words = words-next law.ports o n (leaves-none o.script n (idle n later)) far.stores
 
-      goes : v.steps ≡ n → Kept Standing o n v → SoFar (suc n)
+      goes : v.steps ≡ n → IsOnCourse Standing o n v → SoFar (suc n)
       goes steps kept = record {
         stays = record {
           admissible = verdict_is ∙ either (is_begun o n) here;
@@ -188,7 +188,7 @@ module _ (law : StepLaws Standing) (two : TwoVote) (duplex : DuplexLaw) (o : Tri
         stores = next-words;
       }
         where
-          kept_here : Kept Standing o v.steps v
+          kept_here : IsOnCourse Standing o v.steps v
           kept_here = kept-here Standing o n v steps kept
 
           none_here : active_events o.script v.steps ≡ []

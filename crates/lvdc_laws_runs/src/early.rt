@@ -38,7 +38,7 @@ pub fn machines_may_begin_late()
     ensures runs { (mode : Mode) (o : Trial) (first : ℕ) → AllBeginFrom first o.script → (n : ℕ) → n ≤ first
         → run_of mode o n ≡ run_of mode (fault_free o) n }
     ensures stands { (o : Trial) (first : ℕ) → AllBeginFrom first o.script → (n : ℕ) → n ≤ first → (m : View) (devices : List Device)
-        → m.end ≡ None → m.steps ≡ n → StandsFrom o (run_of m.mode (fault_free o) n) 0 m devices → Stands o n m devices }
+        → m.end ≡ None → StandsFrom o (run_of m.mode (fault_free o) n) 0 m devices → Stands o n m devices }
 {
     runs_begin_fault_free();
 }

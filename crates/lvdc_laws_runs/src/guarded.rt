@@ -11,7 +11,7 @@ ghost use Rattle.lvdc_model.specs.Exchanges.{begin_step, wished};
 ghost use Rattle.lvdc_model.specs.Runs.{guarded};
 ghost use Rattle.lvdc_model.specs.Trial.{Trial, plain_in};
 ghost use Rattle.lvdc_laws_phases.specs.Standing.{Standing};
-ghost use Rattle.lvdc_laws_voted.specs.Relation.{Kept};
+ghost use Rattle.lvdc_laws_voted.specs.Relation.{IsOnCourse};
 ghost use Rattle.lvdc_laws_runs.specs.Guarded.{IsExchanged, GuardedBy, UnhurtBy, is_recoverable_by};
 ghost use Rattle.lvdc_machine.specs.Stands.{Stands, state_by, shown_by, shown_of};
 ghost use Rattle.lvdc_machine.specs.Steps.{NamesPort};
@@ -35,7 +35,7 @@ pub fn guarded_follows()
 /// these states stand for the plain run in the phase of the next step.
 pub fn guarded_keeps()
     ensures { (o : Trial) (n : ℕ) (m : View) (ds : List device.Device) → IsOpening o.opening → m.mode ≡ Guarded → m.end ≡ None
-        → Stands o n m ds → Kept Standing o n (state_by m.end m.mode o n) }
+        → Stands o n m ds → IsOnCourse Standing o n (state_by m.end m.mode o n) }
 {
     lvdc_laws_voted::guarded_run();
     lvdc_laws_voted::judges_alone();

@@ -16,7 +16,7 @@ use Rattle.lvdc_port.specs.declared.requests.PortRequest.TheVariants as requests
 use Rattle.lvdc_modules.specs.Rows.{bus_of}
 use Rattle.lvdc_modules.specs.Wish.{wish}
 use Rattle.lvdc_modules.specs.declared.wanted.Wanted.{Wanted}
-use Rattle.lvdc_plain.specs.Accesses.{fetched, fetched_by, operand, operand_by, spot_of}
+use Rattle.lvdc_plain.specs.Accesses.{fetched, fetched_by, operand, operand_by, address_of_place}
 use Rattle.lvdc_plain.specs.Plain.{PlainState, World}
 use Rattle.lvdc_plain.specs.Run.{plugged, run}
 use Rattle.lvdc_plain.specs.Table.{fetched_instr, operand_place, device_time, step}
@@ -34,9 +34,9 @@ use Rattle.lvdc_model.specs.Trial.{Trial, plain_at, plain_in, read_in_phase, rea
 use Rattle.lvdc_model.specs.Voted.{Voted}
 use Rattle.lvdc_model.specs.Exchanges.{begin_step, stop_of, exchanges, wished, voted_step}
 use Rattle.lvdc_laws_voted.specs.Copies.{Agree, wrong_before}
-use Rattle.lvdc_laws_voted.specs.Leaves.{memory_after, devices_after, log_after, Leaves}
+use Rattle.lvdc_laws_voted.specs.Leaves.{memory_after, devices_after, log_after, LeavesByExchange}
 use Rattle.lvdc_laws_voted.specs.Laws.{DeviceWords, BankLaw, StepLaws}
-use Rattle.lvdc_laws_voted.specs.Relation.{devices_by, devices_in, Matches, ShowsPlain, Kept, Halted, Follows, Goes, Halts}
+use Rattle.lvdc_laws_voted.specs.Relation.{devices_by, devices_in, Matches, ShowsPlain, IsOnCourse, Halted, Follows, Goes, Halts}
 use Rattle.lvdc_laws_voted.proofs.PlainTimes.{made-reads_none, made-store, made-words}
 use Rattle.lvdc_laws_voted.proofs.PlainRuns.{times-count, next-world, banks-stay}
 use Rattle.lvdc_laws_voted.proofs.Steps.{Judged, HasBanks, Ready, AfterRead, AfterMade, after-fetch, after-operand, after-made}
@@ -71,7 +71,7 @@ prepared-words law o v h = by_phase (v.steps % 3 == 0)
     by_phase false = h
 
 -- the votes wish for the exchange of the plain run
-pub wished-plain : (Stands : ℕ → List (List ℕ) → PlainState → Type 0) (o : Trial) (v : Voted) → StepLaws Stands → (k : Kept Stands o v.steps v)
+pub wished-plain : (Stands : ℕ → List (List ℕ) → PlainState → Type 0) (o : Trial) (v : Voted) → StepLaws Stands → (k : IsOnCourse Stands o v.steps v)
     → wished o (begin_step o v) ≡ exchange_in (v.steps % 3) (plain_in o v.steps)
 wished-plain Stands o v law k =
     ap (λ (s : List (List ℕ)). wish (bus_of s 0 0) o.opening.banks) (law.votes (wrong_before o.script v.steps) 1 v.copies k.states k.shows.agree)
@@ -82,7 +82,7 @@ wished-plain Stands o v law k =
 
 -- the bank of a place is there, of a fetch and of an operand too
 place-bank : BankLaw → (banks : ℕ) (h : HopConstant) (address : ℕ) → IsHopConstant h → (kind : OperandKind)
-    → HasBanks banks (spot_of (place_at kind (data_spot banks h address)))
+    → HasBanks banks (address_of_place (place_at kind (data_spot banks h address)))
 place-bank law banks h address ok kinds.Memory = law banks h.dmod (data_spot banks h address) ok.dmod refl
 place-bank law banks h address ok kinds.Pq = tt
 place-bank law banks h address ok kinds.Saver = law banks h.dmod (data_spot banks h address) ok.dmod refl
@@ -98,7 +98,7 @@ operand-bank law None zero p ok = by_takes (takes_operand (fetched_instr p).op)
     address : ℕ
     address = (fetched_instr p).address
 
-    by_takes : (b : Bool) → HasBanks p.banks (cond b (spot_of (operand_place p address)) None)
+    by_takes : (b : Bool) → HasBanks p.banks (cond b (address_of_place (operand_place p address)) None)
     by_takes true = place-bank law p.banks p.place address ok (operand_kind address)
     by_takes false = tt
 operand-bank law None (suc hold) p ok = tt
@@ -110,13 +110,13 @@ read-bank law (suc zero) p ok = operand-bank law p.stop p.hold p ok
 read-bank law (suc (suc n)) p ok = tt
 
 -- where the run is, the bank of the address read is there
-pub bank-read : (Stands : ℕ → List (List ℕ) → PlainState → Type 0) (o : Trial) (v : Voted) → StepLaws Stands → Kept Stands o v.steps v
+pub bank-read : (Stands : ℕ → List (List ℕ) → PlainState → Type 0) (o : Trial) (v : Voted) → StepLaws Stands → IsOnCourse Stands o v.steps v
     → HasBanks o.opening.banks (read_at o v.steps)
 bank-read Stands o v law k =
     subst (λ (banks : ℕ). HasBanks banks (read_at o v.steps)) (banks-stay law.ports o.opening (v.steps / 3))
     (read-bank law.banks (v.steps % 3) (plain_in o v.steps) (law.phases.words (v.steps % 3) k.states (plain_in o v.steps) k.stands).place)
 
-is_ready : (Stands : ℕ → List (List ℕ) → PlainState → Type 0) (o : Trial) (v : Voted) → StepLaws Stands → (k : Kept Stands o v.steps v) → Judged o v.steps
+is_ready : (Stands : ℕ → List (List ℕ) → PlainState → Type 0) (o : Trial) (v : Voted) → StepLaws Stands → (k : IsOnCourse Stands o v.steps v) → Judged o v.steps
     → Ready o (begin_step o v) k.states
 is_ready Stands o v law k j =
     record {
@@ -135,7 +135,7 @@ word_fits p None ok = omega arith
 word_fits p (Some at) ok = ok.words at
 
 -- a read step in which the states go on to stand for the same plain state
-kept-read : (Stands : ℕ → List (List ℕ) → PlainState → Type 0) (o : Trial) (v next : Voted) (r : Option Spot) (n : ℕ) → StepLaws Stands → (k : Kept Stands o v.steps v)
+kept-read : (Stands : ℕ → List (List ℕ) → PlainState → Type 0) (o : Trial) (v next : Voted) (r : Option Spot) (n : ℕ) → StepLaws Stands → (k : IsOnCourse Stands o v.steps v)
     → AfterRead o (begin_step o v) k.states r next → suc v.steps / 3 ≡ v.steps / 3 → suc v.steps % 3 ≡ suc n
     → Stands (suc n) (after_phase k.states (word_read (plain_in o v.steps) r) 0) (plain_in o v.steps)
     → Follows Stands o (suc v.steps) next
@@ -163,7 +163,7 @@ stop-ends stops.Shift t h = refl
 stop-ends stops.Exm t h = refl
 stop-ends (stops.Memory at) t h = absurd h
 
-kept-made : (Stands : ℕ → List (List ℕ) → PlainState → Type 0) (o : Trial) (v next : Voted) (stop : Option Stop) → StepLaws Stands → (k : Kept Stands o v.steps v)
+kept-made : (Stands : ℕ → List (List ℕ) → PlainState → Type 0) (o : Trial) (v next : Voted) (stop : Option Stop) → StepLaws Stands → (k : IsOnCourse Stands o v.steps v)
     → AfterMade o (begin_step o v) k.states (made (plain_in o v.steps).stop (plain_in o v.steps).hold (plain_in o v.steps)) next
     → suc v.steps / 3 ≡ suc (v.steps / 3) → suc v.steps % 3 ≡ 0 → Stands 2 k.states (plain_in o v.steps)
     → (step (plain_in o v.steps) (plugged_in o v.steps)).plain.stop ≡ stop
@@ -179,7 +179,7 @@ kept-made Stands o v next stop law k a later first stands = by_stop stop
     w : Wanted
     w = made p.stop p.hold p
 
-    leaves : Leaves w p devices (step p devices)
+    leaves : LeavesByExchange w p devices (step p devices)
     leaves = law.ports p devices k.running
 
     times : p.times ≡ v.steps / 3
@@ -264,7 +264,7 @@ kept-made Stands o v next stop law k a later first stands = by_stop stop
 
 -- ---- one step
 
-step_in : (Stands : ℕ → List (List ℕ) → PlainState → Type 0) (o : Trial) (v : Voted) (n : ℕ) → StepLaws Stands → (k : Kept Stands o v.steps v) → Judged o v.steps
+step_in : (Stands : ℕ → List (List ℕ) → PlainState → Type 0) (o : Trial) (v : Voted) (n : ℕ) → StepLaws Stands → (k : IsOnCourse Stands o v.steps v) → Judged o v.steps
     → v.steps % 3 ≡ n → Follows Stands o (suc v.steps) (exchanges o (begin_step o v) (exchange_in n (plain_in o v.steps)))
 step_in Stands o v zero law k j e =
     let p = plain_in o v.steps in
@@ -287,7 +287,7 @@ step_in Stands o v (suc (suc zero)) law k j e =
     (omega arith) (omega arith) (rw e at k.stands) refl
 step_in Stands o v (suc (suc (suc n))) law k j e = absurd (omega arith)
 
-pub one-step : (Stands : ℕ → List (List ℕ) → PlainState → Type 0) (o : Trial) (v : Voted) → StepLaws Stands → Kept Stands o v.steps v → Judged o v.steps
+pub one-step : (Stands : ℕ → List (List ℕ) → PlainState → Type 0) (o : Trial) (v : Voted) → StepLaws Stands → IsOnCourse Stands o v.steps v → Judged o v.steps
     → Follows Stands o (suc v.steps) (voted_step o (begin_step o v))
 one-step Stands o v law k j =
     subst (λ (w : Wanted). Follows Stands o (suc v.steps) (exchanges o (begin_step o v) w)) (sym (wished-plain Stands o v law k))

@@ -22,7 +22,7 @@ use Rattle.lvdc_plain.specs.declared.records.Stop.{Stop}
 use Rattle.lvdc_laws_phases.specs.Exchanges.{store_wish, exchange_wish, made_by, made}
 use Rattle.lvdc_model.specs.Runs.{read_of_wish}
 use Rattle.lvdc_laws_voted.specs.Laws.{DeviceWords}
-use Rattle.lvdc_laws_voted.specs.Leaves.{memory_after, devices_after, log_after, Leaves}
+use Rattle.lvdc_laws_voted.specs.Leaves.{memory_after, devices_after, log_after, LeavesByExchange}
 
 -- ---- what an instruction leaves
 
@@ -94,7 +94,7 @@ executes-devices _ address p devices = refl
 -- ---- one time
 
 -- so of a whole time, by stop and hold
-step-leaves_by : (stop : Option Stop) (hold : ℕ) (p : PlainState) (devices : List Device) → stop ≡ None → Leaves (made stop hold p) p devices (step_by stop hold p devices)
+step-leaves_by : (stop : Option Stop) (hold : ℕ) (p : PlainState) (devices : List Device) → stop ≡ None → LeavesByExchange (made stop hold p) p devices (step_by stop hold p devices)
 step-leaves_by (Some s) hold p devices e = absurd (cc)
 step-leaves_by None (suc hold) p devices e = record { memory = refl; log = refl; devices = refl; times = refl; banks = refl }
 step-leaves_by None zero p devices e =
@@ -108,7 +108,7 @@ step-leaves_by None zero p devices e =
       banks = effect-banks i.op p i.address m;
     }
 
-pub step-leaves : (p : PlainState) (devices : List Device) → p.stop ≡ None → Leaves (made p.stop p.hold p) p devices (step p devices)
+pub step-leaves : (p : PlainState) (devices : List Device) → p.stop ≡ None → LeavesByExchange (made p.stop p.hold p) p devices (step p devices)
 step-leaves p devices e = step-leaves_by p.stop p.hold p devices e
 
 -- ---- what the exchange of the third phase is

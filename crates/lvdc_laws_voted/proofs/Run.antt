@@ -27,7 +27,7 @@ use Rattle.lvdc_model.specs.Runs.{judged_by, guarded_by, guarded, read_of_wish, 
 use Rattle.lvdc_laws_voted.specs.Copies.{ModuleAgrees, wrong_before}
 use Rattle.lvdc_laws_voted.specs.Cells.{StoresDamaged}
 use Rattle.lvdc_laws_voted.specs.Laws.{HoldersLaw, StepLaws}
-use Rattle.lvdc_laws_voted.specs.Relation.{Kept, Follows, Goes, Halts}
+use Rattle.lvdc_laws_voted.specs.Relation.{IsOnCourse, Follows, Goes, Halts}
 use Rattle.lvdc_laws_voted.specs.Ends.{Opens, IsBegun, EndsAt, Comes, Good, Bad}
 use Rattle.lvdc_laws_voted.proofs.Places.{held-again}
 use Rattle.lvdc_laws_voted.proofs.PlainTimes.{made-reads_none}
@@ -58,7 +58,7 @@ found-memory law o v (Some at) bank h e =
     (λ twin two held. ap (shown_with o v.steps twin at) (h.cells twin two at held)))
 
 -- the verdict that the machine finds is the step's
-pub found-judged : (Stands : ℕ → List (List ℕ) → PlainState → Type 0) (o : Trial) (v : Voted) → StepLaws Stands → Kept Stands o v.steps v
+pub found-judged : (Stands : ℕ → List (List ℕ) → PlainState → Type 0) (o : Trial) (v : Voted) → StepLaws Stands → IsOnCourse Stands o v.steps v
     → own_verdict o (begin_step o v) ≡ judged o v.steps
 found-judged Stands o v law k = by_logic (wrong_module o.script v.steps)
   where
@@ -74,7 +74,7 @@ found-judged Stands o v law k = by_logic (wrong_module o.script v.steps)
 -- ---- a step that is begun
 
 -- a machine that stands before a step begins it as the relation says
-pub begun-at : (Stands : ℕ → List (List ℕ) → PlainState → Type 0) (o : Trial) (n : ℕ) (v : Voted) → StepLaws Stands → v.steps ≡ n → Kept Stands o v.steps v
+pub begun-at : (Stands : ℕ → List (List ℕ) → PlainState → Type 0) (o : Trial) (n : ℕ) (v : Voted) → StepLaws Stands → v.steps ≡ n → IsOnCourse Stands o v.steps v
     → IsBegun o n (begin_step o v)
 begun-at Stands o n v law e k =
     subst (λ (m : ℕ). IsBegun o m (begin_step o v)) e
@@ -104,7 +104,7 @@ three-agree : (s : List ℕ) → ModuleAgrees (λ c. false) (thrice s) s
 three-agree s = record { two = refl; first = λ h. refl; second = λ h. refl; third = λ h. refl; sized = record { one = refl; two = refl; three = refl } }
 
 -- the machine stands at the start
-start-kept : (Stands : ℕ → List (List ℕ) → PlainState → Type 0) (o : Trial) → StepLaws Stands → Opens Stands o → Kept Stands o 0 (voted_start o)
+start-kept : (Stands : ℕ → List (List ℕ) → PlainState → Type 0) (o : Trial) → StepLaws Stands → Opens Stands o → IsOnCourse Stands o 0 (voted_start o)
 start-kept Stands o law h =
     record {
       going = refl;
@@ -151,8 +151,8 @@ guarded-goes None o v e = refl
 guarded-goes (Some r) o v e = absurd (cc)
 
 -- the relation at the number of steps that were made
-pub kept-here : (Stands : ℕ → List (List ℕ) → PlainState → Type 0) (o : Trial) (n : ℕ) (v : Voted) → v.steps ≡ n → Kept Stands o n v → Kept Stands o v.steps v
-kept-here Stands o n v e k = subst (λ (m : ℕ). Kept Stands o m v) (sym e) k
+pub kept-here : (Stands : ℕ → List (List ℕ) → PlainState → Type 0) (o : Trial) (n : ℕ) (v : Voted) → v.steps ≡ n → IsOnCourse Stands o n v → IsOnCourse Stands o v.steps v
+kept-here Stands o n v e k = subst (λ (m : ℕ). IsOnCourse Stands o m v) (sym e) k
 
 -- while no step is bad the guarded machine follows the plain one
 pub follows : (Stands : ℕ → List (List ℕ) → PlainState → Type 0) (o : Trial) → StepLaws Stands → Opens Stands o

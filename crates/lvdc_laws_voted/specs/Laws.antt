@@ -26,7 +26,7 @@ use Rattle.lvdc_model.specs.Exchanges.{damages}
 use Rattle.lvdc_model.specs.Judging.{is_recoverable}
 use Rattle.lvdc_laws_voted.specs.Copies.{Agree}
 use Rattle.lvdc_laws_voted.specs.Cells.{StoresBefore, StoresDamaged, ReadsPlain}
-use Rattle.lvdc_laws_voted.specs.Leaves.{Leaves}
+use Rattle.lvdc_laws_voted.specs.Leaves.{LeavesByExchange}
 
 -- where the copies that are not wrong are these states, the votes are the states
 abbrev pub VotesLaw : Type 0
@@ -71,7 +71,7 @@ IdleLaw =
 
 -- what a plain time leaves, it leaves by its one exchange
 abbrev pub PortLaw : Type 0
-PortLaw = (p : PlainState) (devices : List Device) → p.stop ≡ None → Leaves (made p.stop p.hold p) p devices (step p devices)
+PortLaw = (p : PlainState) (devices : List Device) → p.stop ≡ None → LeavesByExchange (made p.stop p.hold p) p devices (step p devices)
 
 -- devices that hold words answer words, and hold words after an exchange and after one was taken away
 pub record DeviceWords : Type 0 where

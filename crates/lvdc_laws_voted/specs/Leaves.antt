@@ -28,7 +28,7 @@ log_after (PortWrite port word) log devices time = log ++ record { time = time; 
 log_after _ log devices time = log
 
 -- what one plain time leaves, by its one exchange
-pub record Leaves (w : Wanted) (p : PlainState) (left : List Device) (after : World) : Type 0 where
+pub record LeavesByExchange (w : Wanted) (p : PlainState) (left : List Device) (after : World) : Type 0 where
   pub memory : after.plain.memory ≡ memory_after w p.memory
   pub log : after.plain.log ≡ log_after w p.log left p.times
   pub devices : after.devices ≡ devices_after w left

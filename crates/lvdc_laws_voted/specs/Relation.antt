@@ -37,7 +37,7 @@ pub record ShowsPlain (o : Trial) (step : ℕ) (v : Voted) (states : List (List 
   pub registers : ShowsRegisters states (plain_in o step)
 
 -- before a step, as long as no end has come
-pub record Kept (Stands : ℕ → List (List ℕ) → PlainState → Type 0) (o : Trial) (step : ℕ) (v : Voted) : Type 0 where
+pub record IsOnCourse (Stands : ℕ → List (List ℕ) → PlainState → Type 0) (o : Trial) (step : ℕ) (v : Voted) : Type 0 where
   pub going : v.end ≡ None
   pub running : (plain_in o step).stop ≡ None
   pub states : List (List ℕ)
@@ -62,5 +62,5 @@ pub record Halted (o : Trial) (step : ℕ) (v : Voted) : Type 0 where
 
 -- after n steps, none of which was inadmissible
 pub data Follows (Stands : ℕ → List (List ℕ) → PlainState → Type 0) (o : Trial) (n : ℕ) (v : Voted) : Type 0 where
-  Goes : v.steps ≡ n → Kept Stands o n v → Follows Stands o n v
+  Goes : v.steps ≡ n → IsOnCourse Stands o n v → Follows Stands o n v
   Halts : v.steps ≤ n → Halted o v.steps v → Follows Stands o n v

@@ -11,7 +11,7 @@ use Rattle.lvdc_plain.specs.Stands.{FailedAlone}
 use Rattle.lvdc_fault.specs.declared.verdict.Verdict.{Verdict}
 use Rattle.lvdc_model.specs.declared.outcome.Outcome.{Outcome}
 use Rattle.lvdc_model.specs.declared.outcome.Outcome.TheVariants.{Done, Stopped, Inadmissible, Device}
-use Rattle.lvdc_machine.specs.Causes.{Fails, HasCause}
+use Rattle.lvdc_machine.specs.Causes.{Fails, EndHasCause}
 use Rattle.lvdc_machine.specs.Steps.{MadeAs}
 use Rattle.lvdc_machine.specs.View.{answer_of_end}
 
@@ -26,7 +26,7 @@ since-then h g = record {
 -- the end that a step brought says that no count has grown
 pub made-caused : {B : Type 0} {device_of : B → device.Device} {count : B → ℕ} {old new : List B} → Since device_of count old new
     → (end : Option Outcome) (before after : ℕ) → MadeAs end before after
-    → HasCause device_of count (answer_of_end end) old new
+    → EndHasCause device_of count (answer_of_end end) old new
 made-caused h None before after made = h.counts
 made-caused h (Some (Stopped step stop)) before after made = h.counts
 made-caused h (Some Done) before after made = absurd made
@@ -61,7 +61,7 @@ fails-since {device_of = device_of} {count = count} {port = port} {mid = mid} {n
 -- the cause of the last step is that of all of them
 pub caused-since : {B : Type 0} {device_of : B → device.Device} {count : B → ℕ} {old mid : List B} → Since device_of count old mid
     → (new : List B) (end : Outcome) → ((port : ℕ) → has_port device_of port new ≡ true → has_port device_of port mid ≡ true)
-    → HasCause device_of count end mid new → HasCause device_of count end old new
+    → EndHasCause device_of count end mid new → EndHasCause device_of count end old new
 caused-since h new Done left same = λ port has. same port has ∙ h.counts port (left port has)
 caused-since h new (Stopped step stop) left same = λ port has. same port has ∙ h.counts port (left port has)
 caused-since h new (Inadmissible w) left same = λ port has. same port has ∙ h.counts port (left port has)

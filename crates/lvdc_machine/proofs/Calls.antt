@@ -9,8 +9,8 @@ use Rattle.lvdc_fault.specs.declared.verdict.Verdict.{Verdict}
 use Rattle.lvdc_model.specs.declared.outcome.Outcome.{Outcome}
 use Rattle.lvdc_model.specs.declared.outcome.Outcome.TheVariants.{Inadmissible}
 use Rattle.lvdc_machine.specs.declared.mode.Mode.TheVariants.{Through}
-use Rattle.lvdc_machine.specs.Calls.{Leaves, Answers}
-use Rattle.lvdc_machine.specs.Causes.{HasCause}
+use Rattle.lvdc_machine.specs.Calls.{LeavesAfterSteps, Answers}
+use Rattle.lvdc_machine.specs.Causes.{EndHasCause}
 use Rattle.lvdc_machine.specs.Room.{exchanges_to_come}
 use Rattle.lvdc_machine.specs.Steps.{IsMade}
 use Rattle.lvdc_machine.specs.View.{View, answer_of_end}
@@ -38,7 +38,7 @@ answers-still device_of faults m devices end is = record {
 }
 
 pub leaves-kept : {B : Type 0} (device_of : B → device.Device) (spare : B → ℕ) (steps : ℕ) (m : View) (devices : List B)
-    → AreFit device_of spare (exchanges_to_come m) devices → Leaves device_of spare steps m m devices devices
+    → AreFit device_of spare (exchanges_to_come m) devices → LeavesAfterSteps device_of spare steps m m devices devices
 leaves-kept device_of spare steps m devices fit = record {
   keeps = record { banks = refl; script = refl; unplugs = refl; limit = refl; mode = refl; pace = refl };
   most = omega arith;
@@ -53,7 +53,7 @@ unjudged (Some end) free verdict is = free verdict (rw is refl)
 
 -- where none had come, the end that is then kept is answered
 pub answers-made : {B : Type 0} (device_of : B → device.Device) (faults : B → ℕ) (before after : View) (old new : List B) (end : Outcome)
-    → before.end ≡ None → end ≡ answer_of_end after.end → HasCause device_of faults (answer_of_end after.end) old new
+    → before.end ≡ None → end ≡ answer_of_end after.end → EndHasCause device_of faults (answer_of_end after.end) old new
     → (before.mode ≡ Through → (verdict : Verdict) → after.end ≢ Some (Inadmissible verdict))
     → Answers device_of faults end before after old new
 answers-made device_of faults before after old new end going answer cause through = record {

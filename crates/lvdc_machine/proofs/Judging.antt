@@ -14,7 +14,7 @@ use Rattle.lvdc_model.specs.Exchanges.{wished}
 use Rattle.lvdc_model.specs.Runs.{own_verdict, own_logic, own_memory, recovers, read_of_wish}
 use Rattle.lvdc_machine.specs.View.{View}
 use Rattle.lvdc_machine.specs.Shows.{Shows}
-use Rattle.lvdc_forces.specs.Parts.{IsKnown}
+use Rattle.lvdc_forces.specs.Parts.{IsRightAt}
 use Rattle.lvdc_forces.specs.declared.known.Known.{Known}
 use Rattle.lvdc_machine.specs.Sound.{KnowsForce}
 use Rattle.lvdc_machine.specs.Steps.{IsSoundAt, IsFoundSound, IsRecovered}
@@ -25,7 +25,7 @@ use Rattle.lvdc_map.specs.Memory.{word_at}
 use Rattle.lvdc_fault.specs.Recoverable.{is_recovered}
 use Rattle.lvdc_model.specs.Known.{shows_since}
 use Rattle.lvdc_model.specs.Twins.{Twins, read_answer}
-use Rattle.lvdc_memory.specs.Holds.{Holds}
+use Rattle.lvdc_memory.specs.Holds.{IsMemoryOf}
 
 -- the module that is found wrong
 pub found-wrong : {o : Trial} {m : View} {ds : List device.Device} {v : Voted} → Shows o m ds v → (n : ℕ)
@@ -50,19 +50,19 @@ pub found-bad : (o : Trial) (v : Voted) (at : Spot) (step : ℕ) → step ≡ v.
 found-bad o v at step is e = rw (← e) (ap (λ s. Memory s at) is)
 
 -- what is known of the copies is so in that step
-pub known_then : (script : List Event) (last : Option ℕ) (steps : ℕ) (known : Known) → KnowsForce script last known → last ≡ Some steps → IsKnown script steps known
+pub known_then : (script : List Event) (last : Option ℕ) (steps : ℕ) (known : Known) → KnowsForce script last known → last ≡ Some steps → IsRightAt script steps known
 known_then script last steps known knows is = subst (λ (l : Option ℕ). KnowsForce script l known) is knows
 
 -- a sound word of the address that is to be read is one by every state that is shown
 pub found-sound : (m : View) (found : Option ℕ) (at : Option Spot) (spot : Spot) → at ≡ Some spot → m.on_memory.last ≡ Some m.steps
-    → IfSome found (λ word. (o : Trial) (in_force : Option ℕ) (t : Twins) (i : memory.Memory) → Holds o in_force m.memory t i
+    → IfSome found (λ word. (o : Trial) (in_force : Option ℕ) (t : Twins) (i : memory.Memory) → IsMemoryOf o in_force m.memory t i
     → is_recovered o.opening.banks spot (word_at i spot) (λ twin. shows_since in_force o t twin spot) ≡ true)
-    → IfSome found (λ word. (o : Trial) (step : ℕ) (t : Twins) (i : memory.Memory) → Holds o (Some step) m.memory t i
+    → IfSome found (λ word. (o : Trial) (step : ℕ) (t : Twins) (i : memory.Memory) → IsMemoryOf o (Some step) m.memory t i
     → read_answer o step t spot ≡ Ok (record { word = word; repaired = None; switched = false }))
     → IsFoundSound m at found
 found-sound m None at spot is begun recovered answer = tt
 found-sound m (Some word) at spot is begun recovered answer = λ o v ds h.
-    let holds = subst (λ (l : Option ℕ). Holds o l m.memory v.twins v.intended) (begun ∙ ap Some h.steps) h.memory in
+    let holds = subst (λ (l : Option ℕ). IsMemoryOf o l m.memory v.twins v.intended) (begun ∙ ap Some h.steps) h.memory in
     subst (λ (a : Option Spot). IfSome a (IsSoundAt o v word)) (sym is)
     (record { recovered = recovered o (Some v.steps) v.twins v.intended holds; answer = answer o v.steps v.twins v.intended holds })
 

@@ -13,7 +13,7 @@ use Rattle.lvdc_plain.specs.declared.records.Exchange.{Exchange}
 use Rattle.lvdc_model.specs.Exchanges.{stop_of}
 use Rattle.lvdc_model.specs.declared.outcome.Outcome.{Outcome}
 use Rattle.lvdc_model.specs.declared.repair.Repair.{Repair}
-use Rattle.lvdc_snapshot.specs.Notes.{IsLog, IsNoted, AreRepairs}
+use Rattle.lvdc_snapshot.specs.Notes.{IsLog, IsRepairOfStep, AreRepairs}
 use Rattle.lvdc_machine.specs.Steps.{noted, repair_noted}
 
 -- one item more, that all others stand in the relation to
@@ -34,7 +34,7 @@ log-noted steps log (Some line) dated h = record {
 }
 
 -- a repair of this step keeps repairs those of the steps made
-pub repairs-noted : (banks steps : ℕ) (repairs : List Repair) (repair : Option Repair) → IfSome repair (IsNoted banks steps) → AreRepairs banks steps repairs
+pub repairs-noted : (banks steps : ℕ) (repairs : List Repair) (repair : Option Repair) → IfSome repair (IsRepairOfStep banks steps) → AreRepairs banks steps repairs
     → AreRepairs banks (steps + 1) (noted repairs repair)
 repairs-noted banks steps repairs None is h = record {
   below = λ k d less. let before = h.below k d less in omega (arith, before);
@@ -53,7 +53,7 @@ repairs-noted banks steps repairs (Some repair) is h =
 
 -- what a read notes
 pub read-noted : (banks steps : ℕ) (twin : Option ℕ) (at : Spot) (switched : Bool) → IfSome twin (λ t. t < 2) → is_there banks at ≡ true
-    → IfSome (repair_noted twin steps at switched) (IsNoted banks steps)
+    → IfSome (repair_noted twin steps at switched) (IsRepairOfStep banks steps)
 read-noted banks steps None at switched two there = tt
 read-noted banks steps (Some twin) at switched two there = record { dated = refl; twin = two; there = there }
 

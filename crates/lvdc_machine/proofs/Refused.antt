@@ -30,7 +30,7 @@ use Rattle.lvdc_machine.specs.declared.mode.Mode.{Mode}
 use Rattle.lvdc_machine.specs.declared.mode.Mode.TheVariants.{Guarded, Through}
 use Rattle.lvdc_machine.specs.declared.mode.Pace.TheVariants.{ByStep}
 use Rattle.lvdc_machine.specs.Calls.{Answers, MakesSteps}
-use Rattle.lvdc_machine.specs.Causes.{HasCause}
+use Rattle.lvdc_machine.specs.Causes.{EndHasCause}
 use Rattle.lvdc_machine.specs.Onward.{IsRefusal, HasRefused, Turns, MakesRefused, GoesThrough}
 use Rattle.lvdc_machine.specs.Shows.{Shows}
 use Rattle.lvdc_machine.specs.Resumed.{steps_after, steps_since, state_from, EndsFrom, StandsFrom}
@@ -303,10 +303,10 @@ since-same {device_of = device_of} {count = count} old ready same counts = recor
 
 -- the cause of the end, by the end that the step brought
 cause-on : {B : Type 0} (device_of : B → device.Device) (faults : B → ℕ) (mid after : View) (old between new : List B) (answer : Outcome)
-    → HasCause device_of faults (answer_of_end mid.end) old between
+    → EndHasCause device_of faults (answer_of_end mid.end) old between
     → ((port : ℕ) → has_port device_of port between ≡ true → has_port device_of port old ≡ true)
     → ((port : ℕ) → has_port device_of port new ≡ true → has_port device_of port between ≡ true)
-    → Answers device_of faults answer mid after between new → (end : Option Outcome) → mid.end ≡ end → HasCause device_of faults answer old new
+    → Answers device_of faults answer mid after between new → (end : Option Outcome) → mid.end ≡ end → EndHasCause device_of faults answer old new
 cause-on device_of faults mid after old between new answer cause left more h None is =
     caused-since {device_of = device_of} {count = faults} (record { left = left; counts = rw is at cause }) new answer more (h.cause (rw is refl))
 cause-on device_of faults mid after old between new answer cause left more h (Some e) is =

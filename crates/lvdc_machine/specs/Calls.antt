@@ -10,7 +10,7 @@ use Rattle.lvdc_model.specs.Trial.{Trial}
 use Rattle.lvdc_model.specs.Voted.{Voted}
 use Rattle.lvdc_model.specs.declared.outcome.Outcome.{Outcome}
 use Rattle.lvdc_model.specs.declared.outcome.Outcome.TheVariants.{Inadmissible}
-use Rattle.lvdc_machine.specs.Causes.{HasCause}
+use Rattle.lvdc_machine.specs.Causes.{EndHasCause}
 use Rattle.lvdc_machine.specs.Resumed.{StandsFrom}
 use Rattle.lvdc_machine.specs.Room.{pace_of, exchanges_to_come}
 use Rattle.lvdc_machine.specs.Stands.{Stands}
@@ -49,7 +49,7 @@ pub record Begins (o : Trial) (mode : Mode) (limit : ℕ) (m : View) (devices : 
 
 -- what a call of so many steps leaves: no more steps were made, no device is there that wasn't, and those that are there are fit
 -- for the exchanges that may still be made
-pub record Leaves {B : Type 0} (device_of : B → device.Device) (spare : B → ℕ) (steps : ℕ) (before after : View) (old new : List B) : Type 0 where
+pub record LeavesAfterSteps {B : Type 0} (device_of : B → device.Device) (spare : B → ℕ) (steps : ℕ) (before after : View) (old new : List B) : Type 0 where
   pub keeps : Keeps before after
   pub most : after.steps ≤ before.steps + steps
   pub left : (port : ℕ) → has_port device_of port new ≡ true → has_port device_of port old ≡ true
@@ -60,7 +60,7 @@ pub record Leaves {B : Type 0} (device_of : B → device.Device) (spare : B → 
 pub record Answers {B : Type 0} (device_of : B → device.Device) (faults : B → ℕ) (end : Outcome) (before after : View) (old new : List B) : Type 0 where
   pub answer : end ≡ answer_of_end after.end
   pub kept : IsSome before.end → (after ≡ before) × (new ≡ old)
-  pub cause : IsNone before.end → HasCause device_of faults end old new
+  pub cause : IsNone before.end → EndHasCause device_of faults end old new
   pub through : before.mode ≡ Through → IsNone before.end → (verdict : Verdict) → end ≢ Inadmissible verdict
 
 -- a call makes so many steps, or fewer where an end comes: it goes on by them in its mode's run, from each state of each trial from
@@ -70,4 +70,4 @@ pub record MakesSteps {B : Type 0} (device_of : B → device.Device) (spare faul
   pub stands : (o : Trial) (first : Voted) (n : ℕ) → StandsFrom o first n before (map device_of old)
       → StandsFrom o first (n + steps) after (map device_of new)
   pub answers : Answers device_of faults end before after old new
-  pub leaves : Leaves device_of spare steps before after old new
+  pub leaves : LeavesAfterSteps device_of spare steps before after old new

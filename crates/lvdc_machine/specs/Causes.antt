@@ -15,8 +15,8 @@ Caused (Inadmissible verdict) before after left = (port : ℕ) → left port ≡
 Caused (Device step port) before after left = FailedAlone port before after left
 
 -- an end has its cause in the counts of faults of these devices, before and after
-abbrev pub HasCause : {B : Type 0} → (B → device.Device) → (B → ℕ) → Outcome → List B → List B → Type 0
-HasCause device_of count end old new =
+abbrev pub EndHasCause : {B : Type 0} → (B → device.Device) → (B → ℕ) → Outcome → List B → List B → Type 0
+EndHasCause device_of count end old new =
     Caused end (λ port. count_at device_of count port old) (λ port. count_at device_of count port new) (λ port. has_port device_of port new)
 
 -- the device at this port has failed, and it alone, and no device has changed otherwise

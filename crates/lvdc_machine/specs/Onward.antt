@@ -10,7 +10,7 @@ use Rattle.lvdc_model.specs.Trial.{Trial}
 use Rattle.lvdc_model.specs.Voted.{Voted}
 use Rattle.lvdc_model.specs.declared.outcome.Outcome.{Outcome}
 use Rattle.lvdc_model.specs.declared.outcome.Outcome.TheVariants.{Done, Stopped, Inadmissible, Device}
-use Rattle.lvdc_machine.specs.Causes.{HasCause}
+use Rattle.lvdc_machine.specs.Causes.{EndHasCause}
 use Rattle.lvdc_machine.specs.Resumed.{steps_since, StandsFrom}
 use Rattle.lvdc_machine.specs.Room.{exchanges_to_come}
 use Rattle.lvdc_machine.specs.View.{View, answer_of_end}
@@ -54,7 +54,7 @@ pub record MakesRefused {B : Type 0} (device_of : B → device.Device) (spare fa
   pub stands : StandsThrough (before.steps + 1) before after (map device_of old) (map device_of new)
   pub turns : Turns before after
   pub most : after.steps ≤ before.steps + 1
-  pub cause : HasCause device_of faults (answer_of_end after.end) old new
+  pub cause : EndHasCause device_of faults (answer_of_end after.end) old new
   pub unjudged : (verdict : Verdict) → after.end ≢ Some (Inadmissible verdict)
   pub left : (port : ℕ) → has_port device_of port new ≡ true → has_port device_of port old ≡ true
   pub fit : AreFit device_of spare (exchanges_to_come after) new
@@ -65,7 +65,7 @@ pub record GoesThrough {B : Type 0} (device_of : B → device.Device) (spare fau
   pub stands : StandsThrough (3 * before.limit) before after (map device_of old) (map device_of new)
   pub turns : Turns before after
   pub answer : end ≡ answer_of_end after.end
-  pub cause : HasCause device_of faults end old new
+  pub cause : EndHasCause device_of faults end old new
   pub unjudged : (verdict : Verdict) → end ≢ Inadmissible verdict
   pub left : (port : ℕ) → has_port device_of port new ≡ true → has_port device_of port old ≡ true
   pub fit : AreFit device_of spare (exchanges_to_come after) new

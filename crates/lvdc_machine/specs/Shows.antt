@@ -5,7 +5,7 @@ use Rattle.lvdc_port.specs.Device as device
 use Rattle.lvdc_model.specs.Exchanges.{damages}
 use Rattle.lvdc_model.specs.Trial.{Trial}
 use Rattle.lvdc_model.specs.Voted.{Voted}
-use Rattle.lvdc_memory.specs.Holds.{Holds}
+use Rattle.lvdc_memory.specs.Holds.{IsMemoryOf}
 use Rattle.lvdc_machine.specs.View.{View}
 
 -- the machine is that of the trial, and it and the devices show this state: the same copies, memory, devices, log, repairs,
@@ -15,7 +15,7 @@ pub record Shows (o : Trial) (m : View) (devices : List device.Device) (v : Vote
   pub script : m.script ≡ o.script
   pub unplugs : m.unplugs ≡ o.opening.unplugs
   pub copies : m.copies ≡ v.copies
-  pub memory : Holds o m.on_memory.last m.memory v.twins v.intended
+  pub memory : IsMemoryOf o m.on_memory.last m.memory v.twins v.intended
   pub left : devices ≡ v.devices
   pub log : m.log ≡ v.log
   pub repairs : m.repairs ≡ v.repairs

@@ -5,7 +5,7 @@ use Rattle.std.specs.declared.option.Option.TheVariants.{None}
 use Rattle.lvdc_fault.specs.declared.event.Event.{Event}
 use Rattle.lvdc_fault.specs.Events.{IsEvent}
 use Rattle.lvdc_logic.specs.Logic.{DifferedAtMost}
-use Rattle.lvdc_forces.specs.Parts.{AreForces, IsKnown}
+use Rattle.lvdc_forces.specs.Parts.{AreForces, IsRightAt}
 use Rattle.lvdc_forces.specs.declared.known.Known.{Known}
 use Rattle.lvdc_machine.specs.declared.machine.Machine.TheInside.{Inside}
 use Rattle.lvdc_machine.specs.declared.mode.Mode.TheVariants.{Guarded}
@@ -18,13 +18,13 @@ use Rattle.lvdc_machine.specs.View.{bus_of_votes, end_seen}
 -- what is known of the copies is what the script does in the step in force, if one is: what is in force on each, which are wrong, and
 -- which module has two of them
 abbrev pub KnowsForce : List Event → Option ℕ → Known → Type 0
-KnowsForce script last known = IfSome last (λ step. IsKnown script step known)
+KnowsForce script last known = IfSome last (λ step. IsRightAt script step known)
 
 -- the script is in range, and the events on memory are those of it; what is kept of the copies fits the
 -- script, what is known of them is so in the step in force, and there is room for what may still come; the log of a machine with the
 -- room of its mode is of its own steps alone; a machine with room by times judges, and one that judges has phases that go with the
 -- steps; where no end has come the votes are against a stop; and what is noted is of steps that were made
-pub record IsSound (m : Inside) : Type 0 where
+pub record IsSoundMachine (m : Inside) : Type 0 where
   pub events : All IsEvent m.script
   pub on_memory : AreOnMemory m.script m.on_memory.events
   pub forces : AreForces m.script m.forces

@@ -64,8 +64,8 @@ NamesPort (Store at word) port = ⊥
 NamesPort (PortRead named) port = named ≡ port
 NamesPort (PortWrite named word) port = named ≡ port
 
--- a step may be made: it was begun, it is one of those that are left, and of a machine that judges no module has two wrong copies
--- in it
+-- a step may be made: it was begun, it is one of those that are left, and of a machine that judges TIMER, module 1, hasn't two wrong
+-- copies in it
 pub record MayMake (m : View) : Type 0 where
   pub begun : m.on_memory.last ≡ Some m.steps
   pub left : m.steps < 3 * m.limit

@@ -14,7 +14,7 @@ use Rattle.lvdc_model.specs.declared.outcome.Outcome.{Outcome}
 use Rattle.lvdc_model.specs.declared.outcome.Outcome.TheVariants.{Done, Stopped, Inadmissible, Device}
 use Rattle.lvdc_model.specs.declared.repair.Repair.{Repair}
 use Rattle.lvdc_memory.specs.Events.{MemoryEvents}
-use Rattle.lvdc_memory.specs.Holds.{Kept}
+use Rattle.lvdc_memory.specs.Holds.{MemoryState}
 use Rattle.lvdc_machine.specs.declared.kept_end.KeptEnd.{KeptEnd}
 use Rattle.lvdc_machine.specs.declared.kept_end.KeptEnd.TheVariants as kept
 use Rattle.lvdc_machine.specs.declared.mode.Mode.{Mode}
@@ -27,7 +27,7 @@ pub record View : Type 0 where
   pub banks : ℕ
   pub copies : List Copies
   pub counts : List (List ℕ)
-  pub memory : Kept
+  pub memory : MemoryState
   pub script : List Event
   pub on_memory : MemoryEvents
   pub unplugs : List Unplug

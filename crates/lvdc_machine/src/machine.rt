@@ -56,7 +56,7 @@ impl Model for Machine {
 
     ghost Value = { View };
 
-    ghost use Rattle.lvdc_machine.specs.Sound.{IsSound};
+    ghost use Rattle.lvdc_machine.specs.Sound.{IsSoundMachine};
 
     ghost view = { λ m. record {
       banks = m.banks;
@@ -75,7 +75,7 @@ impl Model for Machine {
       end = end_seen m.end;
     } };
 
-    ghost invariant = { IsSound };
+    ghost invariant = { IsSoundMachine };
 }
 
 /// Its parts go in one call, which whoever lets a machine go doesn't look into.

@@ -7,7 +7,7 @@ ghost use Rattle.lvdc_port.specs.Devices.{HasSpare, AreDistinct};
 ghost use Rattle.lvdc_port.specs.declared.requests.PortRequest.TheVariants as requests;
 ghost use Rattle.lvdc_modules.specs.Wish.{wish, IsThereFor};
 ghost use Rattle.lvdc_plain.specs.Lists.{Since, AreFit};
-ghost use Rattle.lvdc_machine.specs.Calls.{Leaves};
+ghost use Rattle.lvdc_machine.specs.Calls.{LeavesAfterSteps};
 ghost use Rattle.lvdc_fault.specs.Script.{two_wrong};
 ghost use Rattle.lvdc_fault.specs.declared.verdict.Verdict.{Verdict};
 ghost use Rattle.lvdc_fault.specs.declared.verdict.Verdict.TheVariants.{Admissible};
@@ -18,9 +18,9 @@ ghost use Rattle.lvdc_model.specs.Twins.{read_answer};
 ghost use Rattle.lvdc_model.specs.Voted.{Voted};
 ghost use Rattle.lvdc_model.specs.declared.outcome.Outcome.TheVariants.{Stopped, Inadmissible, Device};
 ghost use Rattle.lvdc_machine.specs.declared.mode.Mode.TheVariants.{Guarded, Through};
-ghost use Rattle.lvdc_machine.specs.Causes.{Fails, HasCause};
+ghost use Rattle.lvdc_machine.specs.Causes.{Fails, EndHasCause};
 ghost use Rattle.lvdc_machine.specs.Room.{exchanges_to_come, MayExchange, MayRepair, IsDue};
-ghost use Rattle.lvdc_snapshot.specs.Notes.{IsNoted};
+ghost use Rattle.lvdc_snapshot.specs.Notes.{IsRepairOfStep};
 ghost use Rattle.lvdc_machine.specs.Made.{of_port, without_a_word, read_made, exchange_made, made_next, told_by};
 ghost use Rattle.lvdc_modules.specs.declared.wanted.Wanted.TheVariants.{PortWrite};
 ghost use Rattle.lvdc_modules.specs.declared.wanted.Wanted.TheVariants as wishes;
@@ -252,7 +252,7 @@ impl Machine {
         requires line { IsSome brought.line → MayExchange self.old.pace self.old.steps }
         requires repair { IsSome brought.repair → MayRepair self.old.pace self.old.steps }
         requires dated { IfSome brought.line (λ line. line.time ≡ self.old.steps / 3) }
-        requires noted { IfSome brought.repair (IsNoted self.old.banks self.old.steps) }
+        requires noted { IfSome brought.repair (IsRepairOfStep self.old.banks self.old.steps) }
         ensures shows { (o : Trial) (v : Voted) (ds : List device.Device) → Shows o self.old ds v
             → Shows o self.new ds (latches o (noting v brought) brought.memory brought.port) }
         ensures made { IsMade self.old self.new }
@@ -544,8 +544,8 @@ impl Machine {
         ensures told { (o : Trial) (first : Voted) (n : ℕ) → StandsFrom o first n self.old (map device_of devices.old.items)
             → result ≡ told_by self.new.end (made_next self.old.mode o (state_from self.old.end self.old.mode o first n)) }
         ensures through { self.old.mode ≡ Through → (verdict : Verdict) → self.new.end ≢ Some (Inadmissible verdict) }
-        ensures cause { HasCause device_of faults (answer_of_end self.new.end) devices.old.items devices.new.items }
-        ensures leaves { Leaves device_of spare 1 self.old self.new devices.old.items devices.new.items }
+        ensures cause { EndHasCause device_of faults (answer_of_end self.new.end) devices.old.items devices.new.items }
+        ensures leaves { LeavesAfterSteps device_of spare 1 self.old self.new devices.old.items devices.new.items }
     {
         self.unplug_due(devices);
         self.begin();

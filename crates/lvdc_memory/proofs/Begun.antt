@@ -11,7 +11,7 @@ use Rattle.lvdc_model.specs.Trial.{Trial}
 use Rattle.lvdc_model.specs.Twins.{Twins}
 use Rattle.lvdc_memory.specs.Changes.{damages_in, Changes}
 use Rattle.lvdc_memory.specs.Events.{LastUntil}
-use Rattle.lvdc_memory.specs.Holds.{Kept, Holds}
+use Rattle.lvdc_memory.specs.Holds.{MemoryState, IsMemoryOf}
 use Rattle.lvdc_memory.specs.News.{is_new, new_events}
 use Rattle.lvdc_memory.specs.Order.{AreOnMemory}
 use Rattle.lvdc_memory.specs.Parts.{events_of, part_at, AreParts, AreRight, AreRightSince}
@@ -66,10 +66,10 @@ module _ (events : List Event) (parts : List Part) (are : AreParts events parts)
     stays-old = none-new (Some before) step (λ k h. none_new_later (events_of events k) before step (part_at parts k) (right k h) later (below k h))
 
     -- finds in force what is in force
-    pub stays-holds : (o : Trial) (m : Kept) (t : Twins) (i : Memory) → AreOnMemory o.script events → Holds o (Some before) m t i
-        → Holds o (Some step) m (damages step o.script t) i
+    pub stays-holds : (o : Trial) (m : MemoryState) (t : Twins) (i : Memory) → AreOnMemory o.script events → IsMemoryOf o (Some before) m t i
+        → IsMemoryOf o (Some step) m (damages step o.script t) i
     stays-holds o m t i same h =
-        subst (λ (u : Twins). Holds o (Some step) m u i) (ordered-damages o.script events same step t)
+        subst (λ (u : Twins). IsMemoryOf o (Some step) m u i) (ordered-damages o.script events same step t)
         (holds-by-script o events same (Some step) m (damages step events t) i
         (holds-changed (by_events o events) (Some before) step (Some step) m m t i refl
         (subst (λ (es : List Event). Changes events step (Some step) es m.twins m.twins) (sym stays-old) (changes-none events step (Some step) m.twins)) refl refl
@@ -89,7 +89,7 @@ module _ (events : List Event) (parts : List Part) (are : AreParts events parts)
   since-until (Some before) lasting later = lasting
 
   pub since-holds : (last : Option ℕ) → AreRightSince events last parts → IfSome last (λ before. LastUntil until parts) → IsSomeAnd last Lasting
-      → (o : Trial) (m : Kept) (t : Twins) (i : Memory) → AreOnMemory o.script events → Holds o last m t i → Holds o (Some step) m (damages step o.script t) i
+      → (o : Trial) (m : MemoryState) (t : Twins) (i : Memory) → AreOnMemory o.script events → IsMemoryOf o last m t i → IsMemoryOf o (Some step) m (damages step o.script t) i
   since-holds None right lasting later o m t i same h = absurd later
   since-holds (Some before) right lasting later o m t i same h = stays-holds events parts are before step until right lasting later.0 later.1 o m t i same h
 
@@ -99,11 +99,11 @@ ordered-in : (o : Trial) (events : List Event) → AreOnMemory o.script events �
 ordered-in o events same None t = refl
 ordered-in o events same (Some step) t = ordered-damages o.script events same step t
 
-pub changed-holds : (o : Trial) (events : List Event) (last : Option ℕ) (step : ℕ) (damaged : Option ℕ) (old new : Kept) (t : Twins) (i : Memory) → IfSome damaged (λ other. other ≡ step)
+pub changed-holds : (o : Trial) (events : List Event) (last : Option ℕ) (step : ℕ) (damaged : Option ℕ) (old new : MemoryState) (t : Twins) (i : Memory) → IfSome damaged (λ other. other ≡ step)
     → Changes events step damaged (new_events last step events) old.twins new.twins → new.twins.banks ≡ old.twins.banks → new.ledger ≡ old.ledger
-    → AreOnMemory o.script events → Holds o last old t i → Holds o (Some step) new (damages_in damaged o.script t) i
+    → AreOnMemory o.script events → IsMemoryOf o last old t i → IsMemoryOf o (Some step) new (damages_in damaged o.script t) i
 changed-holds o events last step damaged old new t i own changes banks ledger same h =
-    subst (λ (u : Twins). Holds o (Some step) new u i) (ordered-in o events same damaged t)
+    subst (λ (u : Twins). IsMemoryOf o (Some step) new u i) (ordered-in o events same damaged t)
     (holds-by-script o events same (Some step) new (damages_in damaged events t) i
     (holds-changed (by_events o events) last step damaged old new t i own changes banks ledger (holds-ordered o events same last old t i h)))
 

@@ -19,7 +19,7 @@ use Rattle.lvdc_model.specs.Trial.{Trial}
 use Rattle.lvdc_model.specs.Twins as model
 use Rattle.lvdc_model.specs.Twins.{Twins, shows, answer_by, after_read, after_store}
 use Rattle.lvdc_model.proofs.Stuck.{nothing-stuck}
-use Rattle.lvdc_memory.specs.Holds.{Kept, Carries, Holds}
+use Rattle.lvdc_memory.specs.Holds.{MemoryState, Carries, IsMemoryOf}
 
 -- ---- one cell
 
@@ -153,9 +153,9 @@ recovered-same banks at w f g small same = recovered_by (is_simplex banks (at.pa
 -- ---- the whole memory
 
 -- what a read leaves
-pub read-holds : ChangesAreLocal → (answer : Result ReadOut BothBad) (s u : Store) (m v : Kept) (at : Spot) → IsStore s → IsPlace (home at) → IfOk answer (λ r. IfSome r.repaired (λ twin. twin < 2))
+pub read-holds : ChangesAreLocal → (answer : Result ReadOut BothBad) (s u : Store) (m v : MemoryState) (at : Spot) → IsStore s → IsPlace (home at) → IfOk answer (λ r. IfSome r.repaired (λ twin. twin < 2))
     → u ≡ calls.after_answer answer s (home at) → u.banks ≡ s.banks → m.twins ≡ s → v.twins ≡ u → v.ledger ≡ m.ledger
-    → IfOk answer (λ r. (o : Trial) (step : ℕ) (t : Twins) (i : Memory) → Holds o (Some step) m t i → Holds o (Some step) v (after_read o step t at r) i)
+    → IfOk answer (λ r. (o : Trial) (step : ℕ) (t : Twins) (i : Memory) → IsMemoryOf o (Some step) m t i → IsMemoryOf o (Some step) v (after_read o step t at r) i)
 read-holds law (Ok r) s u m v at whole here small after banks ms vu ledger = λ o step t i h.
     let before : Carries (Some step) o.script s t = subst (λ (x : Store). Carries (Some step) o.script x t) ms h.twins in
     record {
@@ -166,7 +166,7 @@ read-holds law (Ok r) s u m v at whole here small after banks ms vu ledger = λ 
 read-holds law (Err bad) s u m v at whole here small after banks ms vu ledger = tt
 
 -- what can be recovered
-pub recovered-holds : (o : Trial) (in_force : Option ℕ) (m : Kept) (t : Twins) (i : Memory) (at : Spot) (zeroth first : ℕ) → Holds o in_force m t i → at.pair < 8 → IsPlace (home at)
+pub recovered-holds : (o : Trial) (in_force : Option ℕ) (m : MemoryState) (t : Twins) (i : Memory) (at : Spot) (zeroth first : ℕ) → IsMemoryOf o in_force m t i → at.pair < 8 → IsPlace (home at)
     → zeroth ≡ shown_in m.twins 0 (home at) → first ≡ shown_in m.twins 1 (home at)
     → is_recovered m.twins.banks at (word_at i at) (shown_by zeroth first) ≡ is_recovered o.opening.banks at (word_at i at) (λ twin. shows_since in_force o t twin at)
 recovered-holds o in_force m t i at zeroth first h small here is_zeroth is_first =

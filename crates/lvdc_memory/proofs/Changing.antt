@@ -21,7 +21,7 @@ use Rattle.lvdc_model.specs.Trial.{Trial}
 use Rattle.lvdc_model.specs.Twins.{Twins, with_place}
 use Rattle.lvdc_memory.specs.Changes.{damages_in, StoreThese, Changes}
 use Rattle.lvdc_memory.specs.Faults.{sticks_at, kills_in, stuck_since, is_dead_since}
-use Rattle.lvdc_memory.specs.Holds.{Kept, Carries, Holds}
+use Rattle.lvdc_memory.specs.Holds.{MemoryState, Carries, IsMemoryOf}
 use Rattle.lvdc_memory.specs.News.{is_new, new_events}
 use Rattle.lvdc_memory.proofs.PartLaws.{take_next}
 
@@ -273,9 +273,9 @@ carries-changed last step damaged events s u t own h old =
     }
 
 -- the memory holds what the step puts in force
-pub holds-changed : (o : Trial) (last : Option ℕ) (step : ℕ) (damaged : Option ℕ) (old new : Kept) (t : Twins) (i : Memory) → IfSome damaged (λ other. other ≡ step)
+pub holds-changed : (o : Trial) (last : Option ℕ) (step : ℕ) (damaged : Option ℕ) (old new : MemoryState) (t : Twins) (i : Memory) → IfSome damaged (λ other. other ≡ step)
     → Changes o.script step damaged (new_events last step o.script) old.twins new.twins → new.twins.banks ≡ old.twins.banks → new.ledger ≡ old.ledger
-    → Holds o last old t i → Holds o (Some step) new (damages_in damaged o.script t) i
+    → IsMemoryOf o last old t i → IsMemoryOf o (Some step) new (damages_in damaged o.script t) i
 holds-changed o last step damaged old new t i own changes banks ledger h =
     record {
       banks = banks ∙ h.banks;

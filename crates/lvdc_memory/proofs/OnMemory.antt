@@ -15,7 +15,7 @@ use Rattle.lvdc_model.specs.Exchanges.{damages_by, damages}
 use Rattle.lvdc_model.specs.Trial.{Trial}
 use Rattle.lvdc_model.specs.Twins.{Twins}
 use Rattle.lvdc_memory.specs.Faults.{stuck_since, is_dead_since}
-use Rattle.lvdc_memory.specs.Holds.{Kept, Holds}
+use Rattle.lvdc_memory.specs.Holds.{MemoryState, IsMemoryOf}
 use Rattle.lvdc_memory.specs.OnMemory.{is_on_memory, on_memory}
 
 -- ---- what the events on memory do is what all do
@@ -64,7 +64,7 @@ dead_same (Some step) script twin pair = dead_only step twin pair script
 abbrev pub only : Trial → Trial
 only o = record o { script = on_memory o.script }
 
-pub holds-only : (o : Trial) (last : Option ℕ) (m : Kept) (t : Twins) (i : Memory) → Holds o last m t i → Holds (only o) last m t i
+pub holds-only : (o : Trial) (last : Option ℕ) (m : MemoryState) (t : Twins) (i : Memory) → IsMemoryOf o last m t i → IsMemoryOf (only o) last m t i
 holds-only o last m t i h =
     record {
       banks = h.banks;
@@ -78,7 +78,7 @@ holds-only o last m t i h =
       words = h.words;
     }
 
-pub holds-whole : (o : Trial) (last : Option ℕ) (m : Kept) (t : Twins) (i : Memory) → Holds (only o) last m t i → Holds o last m t i
+pub holds-whole : (o : Trial) (last : Option ℕ) (m : MemoryState) (t : Twins) (i : Memory) → IsMemoryOf (only o) last m t i → IsMemoryOf o last m t i
 holds-whole o last m t i h =
     record {
       banks = h.banks;

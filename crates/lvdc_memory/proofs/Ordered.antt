@@ -17,7 +17,7 @@ use Rattle.lvdc_model.specs.Exchanges.{damages_by, damages}
 use Rattle.lvdc_model.specs.Trial.{Trial}
 use Rattle.lvdc_model.specs.Twins.{Twins}
 use Rattle.lvdc_memory.specs.Faults.{stuck_since, is_dead_since}
-use Rattle.lvdc_memory.specs.Holds.{Kept, Holds}
+use Rattle.lvdc_memory.specs.Holds.{MemoryState, IsMemoryOf}
 use Rattle.lvdc_memory.specs.OnMemory.{on_memory}
 use Rattle.lvdc_memory.specs.Order.{number_of_pair, number_of_place, has_number, AreOnMemory}
 use Rattle.lvdc_memory.proofs.OnMemory.{stuck_only, dead_only, damages_only}
@@ -110,9 +110,9 @@ module _ (script events : List Event) (on : AreOnMemory script events) where
 abbrev pub by_events : Trial → List Event → Trial
 by_events o events = record o { script = events }
 
-module _ (o : Trial) (events : List Event) (on : AreOnMemory o.script events) (last : Option ℕ) (m : Kept) (t : Twins) (i : Memory) where
+module _ (o : Trial) (events : List Event) (on : AreOnMemory o.script events) (last : Option ℕ) (m : MemoryState) (t : Twins) (i : Memory) where
   -- what holds by the script holds by them
-  pub holds-ordered : Holds o last m t i → Holds (by_events o events) last m t i
+  pub holds-ordered : IsMemoryOf o last m t i → IsMemoryOf (by_events o events) last m t i
   holds-ordered h =
       record {
         banks = h.banks;
@@ -127,7 +127,7 @@ module _ (o : Trial) (events : List Event) (on : AreOnMemory o.script events) (l
       }
 
   -- and what holds by them holds by the script
-  pub holds-by-script : Holds (by_events o events) last m t i → Holds o last m t i
+  pub holds-by-script : IsMemoryOf (by_events o events) last m t i → IsMemoryOf o last m t i
   holds-by-script h =
       record {
         banks = h.banks;

@@ -12,7 +12,7 @@ use Rattle.lvdc_fault.specs.Recoverable.{recovers_by, is_recovered, shown_by}
 use Rattle.lvdc_model.specs.Known.{shows_since}
 use Rattle.lvdc_model.specs.Trial.{Trial}
 use Rattle.lvdc_model.specs.Twins.{Twins}
-use Rattle.lvdc_memory.specs.Holds.{Kept, Holds}
+use Rattle.lvdc_memory.specs.Holds.{MemoryState, IsMemoryOf}
 use Rattle.lvdc_memory.proofs.Carrying.{recovered-holds}
 
 -- each twin shows the cell, whether it holds the address or not
@@ -45,7 +45,7 @@ recovered_by false bank cell shown small h =
     both_survive cell (shown 0) (shown 1) (eqb-true (shown 0) cell parts.0) (eqb-true (shown 1) cell parts.1)
 
 -- so it can be recovered from what the twins show
-pub recovered-sound : (o : Trial) (in_force : Option ℕ) (m : Kept) (t : Twins) (i : Memory) (at : Spot) (cell : ℕ) → Holds o in_force m t i → at.pair < 8 → IsPlace (home at)
+pub recovered-sound : (o : Trial) (in_force : Option ℕ) (m : MemoryState) (t : Twins) (i : Memory) (at : Spot) (cell : ℕ) → IsMemoryOf o in_force m t i → at.pair < 8 → IsPlace (home at)
     → cell ≡ code_of (word_at i at) → all_show m.twins at cell ≡ true
     → is_recovered o.opening.banks at (word_at i at) (λ twin. shows_since in_force o t twin at) ≡ true
 recovered-sound o in_force m t i at cell h small here is shown =

@@ -1,4 +1,4 @@
--- What a script puts in force in a step, and which of its events name memory that is there.
+-- What is stuck at a place of a twin, and which twin is dead, under what a script puts in force in a step; and which of its events do so.
 use Rattle.std.specs.Prelude.{ℕ, ◌&&◌, ◌==◌, Bool, false, List}
 use Rattle.std.specs.declared.option.Option.{Option}
 use Rattle.std.specs.declared.option.Option.TheVariants.{None, Some}

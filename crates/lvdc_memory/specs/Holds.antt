@@ -17,7 +17,7 @@ use Rattle.lvdc_model.specs.Twins.{Twins}
 use Rattle.lvdc_memory.specs.Faults.{stuck_since, is_dead_since}
 
 -- the two twins, with what is stuck and dead in them now, and the intended words
-pub record Kept : Type 0 where
+pub record MemoryState : Type 0 where
   pub twins : Store
   pub ledger : Intended
 
@@ -29,7 +29,7 @@ pub record Carries (in_force : Option ℕ) (script : List Event) (s : Store) (t 
   pub dead : (twin : ℕ) → twin < 2 → (pair : ℕ) → pair < 4 → is_dead s twin pair ≡ is_dead_since in_force script twin pair
 
 -- the memory is that of a trial's voted machine with these twins and intended words, while what a step puts in force is so
-pub record Holds (o : Trial) (in_force : Option ℕ) (m : Kept) (t : Twins) (intended : Memory) : Type 0 where
+pub record IsMemoryOf (o : Trial) (in_force : Option ℕ) (m : MemoryState) (t : Twins) (intended : Memory) : Type 0 where
   pub banks : m.twins.banks ≡ o.opening.banks
   pub twins : Carries in_force o.script m.twins t
   pub words : IsMemory m.ledger.words intended

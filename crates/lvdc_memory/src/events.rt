@@ -9,7 +9,7 @@ ghost use Rattle.lvdc_model.specs.Known.{last_made};
 ghost use Rattle.lvdc_model.specs.Trial.{Trial};
 ghost use Rattle.lvdc_model.specs.Twins as model;
 ghost use Rattle.lvdc_memory.specs.Changes.{damages_in};
-ghost use Rattle.lvdc_memory.specs.Holds.{Holds};
+ghost use Rattle.lvdc_memory.specs.Holds.{IsMemoryOf};
 ghost use Rattle.lvdc_memory.specs.Order.{AreOnMemory};
 
 use crate::VotedMemory;
@@ -76,7 +76,7 @@ impl MemoryEvents {
         ensures last { self.new.last ≡ Some step }
         ensures banks { memory.new.twins.banks ≡ memory.old.twins.banks }
         ensures begun { (o : Trial) (t : model.Twins) (i : Memory) → AreOnMemory o.script self.old.events
-            → Holds o self.old.last memory.old t i → Holds o (Some step) memory.new (damages step o.script t) i }
+            → IsMemoryOf o self.old.last memory.old t i → IsMemoryOf o (Some step) memory.new (damages step o.script t) i }
     {
         if lasts(self.last, self.until, step) {
             self.last = Some(step);
@@ -92,7 +92,7 @@ impl MemoryEvents {
         ensures last { self.new.last ≡ last_made steps }
         ensures banks { memory.new.twins.banks ≡ memory.old.twins.banks }
         ensures forced { (o : Trial) (t : model.Twins) (i : Memory) → AreOnMemory o.script self.old.events
-            → Holds o None memory.old t i → Holds o (last_made steps) memory.new t i }
+            → IsMemoryOf o None memory.old t i → IsMemoryOf o (last_made steps) memory.new t i }
     {
         if steps > 0 {
             self.change(steps - 1, None, memory);
@@ -107,7 +107,7 @@ impl MemoryEvents {
         ensures last { self.new.last ≡ Some step }
         ensures banks { memory.new.twins.banks ≡ memory.old.twins.banks }
         ensures begun { (o : Trial) (t : model.Twins) (i : Memory) → AreOnMemory o.script self.old.events
-            → Holds o self.old.last memory.old t i → Holds o (Some step) memory.new (damages_in damaged o.script t) i }
+            → IsMemoryOf o self.old.last memory.old t i → IsMemoryOf o (Some step) memory.new (damages_in damaged o.script t) i }
     {
         self.until = renew_all(&self.events, &mut self.parts, self.last, step);
         memory.change(&Beginning {

@@ -9,7 +9,7 @@ ghost use Rattle.lvdc_model.specs.Known.{shows_since};
 ghost use Rattle.lvdc_model.specs.Trial.{Trial};
 ghost use Rattle.lvdc_model.specs.Twins as model;
 ghost use Rattle.lvdc_model.specs.Twins.{read_answer, after_read, after_store, twins_at_start};
-ghost use Rattle.lvdc_memory.specs.Holds.{Holds, IsZeroAt};
+ghost use Rattle.lvdc_memory.specs.Holds.{IsMemoryOf, IsZeroAt};
 
 use lvdc_fault::Ledger;
 use lvdc_map::{Address, Banks, Placed};
@@ -27,9 +27,9 @@ pub struct VotedMemory {
 
 impl Model for VotedMemory {
     ghost use Rattle.std.specs.Prelude.{◌≡◌};
-    ghost use Rattle.lvdc_memory.specs.Holds.{Kept};
+    ghost use Rattle.lvdc_memory.specs.Holds.{MemoryState};
 
-    ghost Value = { Kept };
+    ghost Value = { MemoryState };
 
     ghost view = { λ m. record { twins = m.twins; ledger = m.ledger } };
 
@@ -52,7 +52,7 @@ impl VotedMemory {
         requires { AllThere banks image.now }
         ensures holds { IfOk result (λ m. (o : Trial) → o.opening.image ≡ image.now
             → o.opening.banks ≡ banks
-            → Holds o None m (twins_at_start o) (memory_of o.opening.image)) }
+            → IsMemoryOf o None m (twins_at_start o) (memory_of o.opening.image)) }
         ensures banks { IfOk result (λ m. m.twins.banks ≡ banks) }
         // What an image places are words, by their type.
         ensures placed { IfOk result (λ m. All (λ placed. placed.word < 2 ^ 26) image.now) }
@@ -67,7 +67,7 @@ impl VotedMemory {
     pub fn recoverable(&self, at: Address) -> bool
         requires { is_there self.now.twins.banks at ≡ true }
         ensures { (o : Trial) (in_force : Option ℕ) (t : model.Twins) (i : Memory)
-            → Holds o in_force self.now t i
+            → IsMemoryOf o in_force self.now t i
             → result ≡ is_recovered o.opening.banks at (word_at i at)
             (λ twin. shows_since in_force o t twin at) }
     {
@@ -81,7 +81,7 @@ impl VotedMemory {
     pub fn is_blank(&self, sector: usize) -> bool
         requires { sector < 128 }
         ensures { result ≡ true → (o : Trial) (in_force : Option ℕ) (t : model.Twins) (i : Memory)
-            → Holds o in_force self.now t i → (at : Spot) → IsAddress at → number_of at / 256 ≡ sector → IsZeroAt o in_force t i at }
+            → IsMemoryOf o in_force self.now t i → (at : Spot) → IsAddress at → number_of at / 256 ≡ sector → IsZeroAt o in_force t i at }
     {
         self.ledger.is_blank(sector) && self.twins.is_blank(sector % 64)
     }
@@ -91,10 +91,10 @@ impl VotedMemory {
     pub fn read(&mut self, at: Address) -> Result<ReadOut, BothBad>
         requires { is_there self.old.twins.banks at ≡ true }
         ensures answer { (o : Trial) (step : ℕ) (t : model.Twins) (i : Memory)
-            → Holds o (Some step) self.old t i → result ≡ read_answer o step t at }
+            → IsMemoryOf o (Some step) self.old t i → result ≡ read_answer o step t at }
         ensures after { IfOk result (λ r. (o : Trial) (step : ℕ) (t : model.Twins) (i : Memory)
-            → Holds o (Some step) self.old t i
-            → Holds o (Some step) self.new (after_read o step t at r) i) }
+            → IsMemoryOf o (Some step) self.old t i
+            → IsMemoryOf o (Some step) self.new (after_read o step t at r) i) }
         ensures repaired { IfOk result (λ r. IfSome r.repaired (λ twin. twin < 2)) }
         ensures unchanged { OnErr result (self.new ≡ self.old) }
         ensures banks { self.new.twins.banks ≡ self.old.twins.banks }
@@ -107,8 +107,8 @@ impl VotedMemory {
     pub fn store(&mut self, at: Address, word: Word)
         requires { is_there self.old.twins.banks at ≡ true }
         ensures after { (o : Trial) (step : ℕ) (t : model.Twins) (i : Memory)
-            → Holds o (Some step) self.old t i
-            → Holds o (Some step) self.new (after_store o step at word t) (stored i at word) }
+            → IsMemoryOf o (Some step) self.old t i
+            → IsMemoryOf o (Some step) self.new (after_store o step at word t) (stored i at word) }
         ensures banks { self.new.twins.banks ≡ self.old.twins.banks }
     {
         changes_are_local();
@@ -120,7 +120,7 @@ impl VotedMemory {
     pub fn intended(&self, at: Address) -> Word
         requires { is_there self.now.twins.banks at ≡ true }
         ensures { (o : Trial) (in_force : Option ℕ) (t : model.Twins) (i : Memory)
-            → Holds o in_force self.now t i → result ≡ word_at i at }
+            → IsMemoryOf o in_force self.now t i → result ≡ word_at i at }
     {
         self.ledger.intended(at)
     }

@@ -6,7 +6,7 @@ ghost use Rattle.lvdc_twin.specs.Cells.{NamesPlace, AreHeld};
 ghost use Rattle.lvdc_fault.specs.Ledger.{ArePlaced};
 ghost use Rattle.lvdc_model.specs.Trial.{Trial};
 ghost use Rattle.lvdc_model.specs.Twins as model;
-ghost use Rattle.lvdc_memory.specs.Holds.{Holds, StoreCells, AreIntended};
+ghost use Rattle.lvdc_memory.specs.Holds.{IsMemoryOf, StoreCells, AreIntended};
 
 use crate::VotedMemory;
 use lvdc_fault::Ledger;
@@ -31,7 +31,7 @@ impl VotedMemory {
         requires there { AllThere banks words.now }
         ensures holds { IfOk result (λ m. (o : Trial) (t : model.Twins) (i : Memory)
             → o.opening.banks ≡ banks → StoreCells held.now t
-            → t.selected ≡ selected.now → AreIntended words.now i → Holds o None m t i) }
+            → t.selected ≡ selected.now → AreIntended words.now i → IsMemoryOf o None m t i) }
         ensures banks { IfOk result (λ m. m.twins.banks ≡ banks) }
     {
         Ok(VotedMemory {
@@ -44,7 +44,7 @@ impl VotedMemory {
     pub fn held(&self, alloc: Global) -> Result<Vec<Held>, NoMemory>
         ensures held { IfOk result (λ held. AreHeld self.now.twins held.items) }
         ensures cells { IfOk result (λ held. (o : Trial) (in_force : Option ℕ)
-            (t : model.Twins) (i : Memory) → Holds o in_force self.now t i
+            (t : model.Twins) (i : Memory) → IsMemoryOf o in_force self.now t i
             → StoreCells held.items t) }
     {
         self.twins.held(alloc)
@@ -66,7 +66,7 @@ impl VotedMemory {
         ensures placed { IfOk result (λ placed. ArePlaced self.now.ledger placed.items) }
         ensures there { IfOk result (λ placed. AllThere self.now.twins.banks placed.items) }
         ensures words { IfOk result (λ placed. (o : Trial) (in_force : Option ℕ)
-            (t : model.Twins) (i : Memory) → Holds o in_force self.now t i
+            (t : model.Twins) (i : Memory) → IsMemoryOf o in_force self.now t i
             → AreIntended placed.items i) }
     {
         let placed = self.ledger.placed(alloc)?;
@@ -80,12 +80,12 @@ impl VotedMemory {
         ensures selected { IfOk result (λ lists. lists.0 ≡ self.now.twins.selected) }
         ensures held { IfOk result (λ lists. AreHeld self.now.twins lists.1) }
         ensures cells { IfOk result (λ lists. (o : Trial) (in_force : Option ℕ)
-            (t : model.Twins) (i : Memory) → Holds o in_force self.now t i
+            (t : model.Twins) (i : Memory) → IsMemoryOf o in_force self.now t i
             → StoreCells lists.1 t) }
         ensures placed { IfOk result (λ lists. ArePlaced self.now.ledger lists.2) }
         ensures there { IfOk result (λ lists. AllThere self.now.twins.banks lists.2) }
         ensures words { IfOk result (λ lists. (o : Trial) (in_force : Option ℕ)
-            (t : model.Twins) (i : Memory) → Holds o in_force self.now t i
+            (t : model.Twins) (i : Memory) → IsMemoryOf o in_force self.now t i
             → AreIntended lists.2 i) }
     {
         let selected = self.selected(alloc)?;

@@ -8,7 +8,7 @@ ghost use Rattle.lvdc_model.specs.Known.{shows_since};
 ghost use Rattle.lvdc_model.specs.Trial.{Trial};
 ghost use Rattle.lvdc_model.specs.Twins as model;
 ghost use Rattle.lvdc_model.specs.Twins.{read_answer};
-ghost use Rattle.lvdc_memory.specs.Holds.{Holds};
+ghost use Rattle.lvdc_memory.specs.Holds.{IsMemoryOf};
 
 use crate::VotedMemory;
 use lvdc_map::Address;
@@ -21,10 +21,10 @@ impl VotedMemory {
     pub fn sound_word(&self, at: Address) -> Option<Word>
         requires { is_there self.now.twins.banks at ≡ true }
         ensures recovered { IfSome result (λ word. (o : Trial) (in_force : Option ℕ) (t : model.Twins) (i : Memory)
-            → Holds o in_force self.now t i
+            → IsMemoryOf o in_force self.now t i
             → is_recovered o.opening.banks at (word_at i at) (λ twin. shows_since in_force o t twin at) ≡ true) }
         ensures answer { IfSome result (λ word. (o : Trial) (step : ℕ) (t : model.Twins) (i : Memory)
-            → Holds o (Some step) self.now t i
+            → IsMemoryOf o (Some step) self.now t i
             → read_answer o step t at ≡ Ok (record { word = word; repaired = None; switched = false })) }
     {
         shown_word_is_read();

@@ -113,12 +113,12 @@ placement items = with_spots items (places_of (blocks_of items))
 -- ---- what a layout keeps
 
 -- where each line stands, and for each slot, in their order, whether it is taken
-pub record Kept : Type 0 where
+pub record LayoutView : Type 0 where
   pub spots : List (Option Spot)
   pub bits : List Bool
 
 -- the placement that it tells
-abbrev pub placement_in : Kept → Placement
+abbrev pub placement_in : LayoutView → Placement
 placement_in kept = record { spots = kept.spots; taken = set_of kept.bits }
 
 -- a line that takes a place stands in one of pairs 0 to 3, an instruction in syllable 0 or 1

@@ -24,9 +24,9 @@ impl Drop for Layout {
 }
 
 impl Model for Layout {
-    ghost use Rattle.lvdc_place.specs.Placement.{Kept, AreInPairs};
+    ghost use Rattle.lvdc_place.specs.Placement.{LayoutView, AreInPairs};
 
-    ghost Value = { Kept };
+    ghost Value = { LayoutView };
 
     ghost view = { λ l. record { spots = l.spots.items; bits = l.taken } };
 

@@ -2,7 +2,7 @@
 use Rattle.std.proofs.Common.{◌≡◌, ℕ, List, refl, ◌∙◌, arith}
 use Rattle.std.specs.declared.option.Option.TheVariants.{None, Some}
 use Rattle.lvdc_port.specs.Device as device
-use Rattle.lvdc_plain.specs.Calls.{times_left, Keeps, Leaves, HasCause, Answers}
+use Rattle.lvdc_plain.specs.Calls.{times_left, Keeps, Leaves, PlainEndHasCause, Answers}
 use Rattle.lvdc_plain.specs.Lists.{AreFit}
 use Rattle.lvdc_plain.specs.View.{View, answer_of_end, IsPlainEnd}
 use Rattle.lvdc_plain.specs.declared.records.PlainEnd.{PlainEnd}
@@ -29,7 +29,7 @@ leaves-kept device_of spare times m devices fit = record {
 
 -- where none had come, the end that is then kept is answered
 pub answers-made : {B : Type 0} (device_of : B → device.Device) (faults : B → ℕ) (before after : View) (old new : List B) (end : PlainEnd) →
-    before.end ≡ None → end ≡ answer_of_end after.end → IsPlainEnd end → HasCause device_of faults (answer_of_end after.end) old new →
+    before.end ≡ None → end ≡ answer_of_end after.end → IsPlainEnd end → PlainEndHasCause device_of faults (answer_of_end after.end) old new →
     Answers device_of faults end before after old new
 answers-made device_of faults before after old new end going answer plain cause = record {
   answer = answer;

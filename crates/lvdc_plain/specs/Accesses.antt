@@ -25,14 +25,14 @@ abbrev pub fetched : PlainState → Option Spot
 fetched p = fetched_by p.stop p.hold p
 
 -- the address in memory of a place
-abbrev pub spot_of : Place → Option Spot
-spot_of (Memory at) = Some at
-spot_of Pq = None
-spot_of (Saver at) = Some at
+abbrev pub address_of_place : Place → Option Spot
+address_of_place (Memory at) = Some at
+address_of_place Pq = None
+address_of_place (Saver at) = Some at
 
 -- the address of an instruction's operand in memory, where it takes one there
 abbrev pub operand_of : PlainState → Instr → Option Spot
-operand_of p i = if takes_operand i.op then spot_of (operand_place p i.address) else None
+operand_of p i = if takes_operand i.op then address_of_place (operand_place p i.address) else None
 
 -- the address of the operand in memory, where the instruction fetched takes one there
 abbrev pub operand_by : Option Stop → ℕ → PlainState → Option Spot

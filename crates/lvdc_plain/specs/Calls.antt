@@ -38,8 +38,8 @@ pub record Leaves {B : Type 0} (device_of : B → device.Device) (spare : B → 
 
 -- an end has its cause in these devices' counts of faults, before and after: a failure in the device that it names, and in it
 -- alone; with every other end no count has grown of a device that is left
-abbrev pub HasCause : {B : Type 0} → (B → device.Device) → (B → ℕ) → PlainEnd → List B → List B → Type 0
-HasCause device_of faults end old new =
+abbrev pub PlainEndHasCause : {B : Type 0} → (B → device.Device) → (B → ℕ) → PlainEnd → List B → List B → Type 0
+PlainEndHasCause device_of faults end old new =
     Caused end (λ port. count_at device_of faults port old) (λ port. count_at device_of faults port new) (λ port. has_port device_of port new)
 
 -- a call answers the end that the machine then keeps, one to which the plain machine can come; an end that had come before is
@@ -48,4 +48,4 @@ pub record Answers {B : Type 0} (device_of : B → device.Device) (faults : B �
   pub answer : end ≡ answer_of_end after.end
   pub plain : IsPlainEnd end
   pub kept : IsSome before.end → (after ≡ before) × (new ≡ old)
-  pub cause : IsNone before.end → HasCause device_of faults end old new
+  pub cause : IsNone before.end → PlainEndHasCause device_of faults end old new

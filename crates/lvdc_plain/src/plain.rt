@@ -7,7 +7,7 @@ ghost use Rattle.lvdc_map.specs.Memory.{Memory, word_at, IsMemory, are_rising, A
 ghost use Rattle.lvdc_port.specs.Causes.{Rose};
 ghost use Rattle.lvdc_port.specs.Device.{word_of_time};
 ghost use Rattle.lvdc_port.specs.Devices.{count_at, HasSpare, HoldWords, AreDistinct};
-ghost use Rattle.lvdc_plain.specs.Calls.{times_left, Begins, Keeps, Leaves, HasCause, Answers};
+ghost use Rattle.lvdc_plain.specs.Calls.{times_left, Begins, Keeps, Leaves, PlainEndHasCause, Answers};
 ghost use Rattle.lvdc_plain.specs.Lists.{AreFit};
 ghost use Rattle.lvdc_plain.specs.Plain.{PlainState};
 ghost use Rattle.lvdc_plain.specs.Processor.{end_of};
@@ -243,7 +243,7 @@ impl Plain {
         ensures stands { (o : Opening) (t : ℕ)
             → Stands o t self.old (map device_of devices.old.items)
             → Stands o (t + 1) self.new (map device_of devices.new.items) }
-        ensures cause { HasCause device_of faults (answer_of_end self.new.end) devices.old.items devices.new.items }
+        ensures cause { PlainEndHasCause device_of faults (answer_of_end self.new.end) devices.old.items devices.new.items }
         ensures leaves { Leaves device_of spare 1 self.old self.new devices.old.items devices.new.items }
     {
         unplug_all(&self.unplugs, self.times, devices);

@@ -30,7 +30,7 @@ AreBelow steps repairs = All (λ (r : Repair). r.step < steps) repairs
 
 -- since a first state log and repairs have together grown by no more lines than steps were made, and each repair was noted in a
 -- step before the next one
-pub record IsNoted (first v : Voted) : Type 0 where
+pub record HasFewNotes (first v : Voted) : Type 0 where
   pub few : first.steps + (length v.log + length v.repairs) ≤ length first.log + length first.repairs + v.steps
   pub dated : AreBelow v.steps v.repairs
 
@@ -52,10 +52,10 @@ repair_by_dated (Some twin) step at switched =
 -- the step that is latched is counted
 latches_noted : (f : Voted) (o : Trial) (v : Voted) (memory port : ℕ)
     → f.steps + (length v.log + length v.repairs) ≤ length f.log + length f.repairs + suc v.steps → AreBelow (suc v.steps) v.repairs
-    → IsNoted f (latches o v memory port)
+    → HasFewNotes f (latches o v memory port)
 latches_noted f o v memory port few dated = record { few = few; dated = dated }
 
-reading_noted : (f : Voted) (answer : Result ReadOut BothBad) (o : Trial) (v : Voted) (at : Spot) → IsNoted f v → IsNoted f (reading answer o v at)
+reading_noted : (f : Voted) (answer : Result ReadOut BothBad) (o : Trial) (v : Voted) (at : Spot) → HasFewNotes f v → HasFewNotes f (reading answer o v at)
 reading_noted f (Err bad) o v at n = record { few = n.few; dated = n.dated }
 reading_noted f (Ok r) o v at n = record {
   few = omega (arith, n.few, length-append v.repairs (repair_by r.repaired v.steps at r.switched), repair_by_few r.repaired v.steps at r.switched);
@@ -63,7 +63,7 @@ reading_noted f (Ok r) o v at n = record {
       (below_more v.steps (suc v.steps) v.repairs (omega arith) n.dated) (repair_by_dated r.repaired v.steps at r.switched);
 }
 
-exchanges_noted : (f : Voted) (o : Trial) (v : Voted) (wanted : Wanted) → IsNoted f v → IsNoted f (exchanges o v wanted)
+exchanges_noted : (f : Voted) (o : Trial) (v : Voted) (wanted : Wanted) → HasFewNotes f v → HasFewNotes f (exchanges o v wanted)
 exchanges_noted f o v Nothing n = record { few = omega (arith, n.few); dated = below_more v.steps (suc v.steps) v.repairs (omega arith) n.dated }
 exchanges_noted f o v (Fetch at) n = reading_noted f (read_answer o v.steps v.twins at) o v at n
 exchanges_noted f o v (Operand at) n = reading_noted f (read_answer o v.steps v.twins at) o v at n
@@ -77,45 +77,45 @@ exchanges_noted f o v (PortWrite port word) n = record {
   dated = below_more v.steps (suc v.steps) v.repairs (omega arith) n.dated;
 }
 
-prepared_noted : (f : Voted) (o : Trial) (v : Voted) → IsNoted f v → IsNoted f (begin_step o v)
+prepared_noted : (f : Voted) (o : Trial) (v : Voted) → HasFewNotes f v → HasFewNotes f (begin_step o v)
 prepared_noted f o v n = record { few = n.few; dated = n.dated }
 
-ended_noted : (f : Voted) (v : Voted) (e : Outcome) → IsNoted f v → IsNoted f (with_end v e)
+ended_noted : (f : Voted) (v : Voted) (e : Outcome) → HasFewNotes f v → HasFewNotes f (with_end v e)
 ended_noted f v e n = record { few = n.few; dated = n.dated }
 
-through_by_noted : (f : Voted) (end : Option Outcome) (o : Trial) (v : Voted) → IsNoted f v → IsNoted f (through_by end o v)
+through_by_noted : (f : Voted) (end : Option Outcome) (o : Trial) (v : Voted) → HasFewNotes f v → HasFewNotes f (through_by end o v)
 through_by_noted f (Some e) o v n = n
 through_by_noted f None o v n = exchanges_noted f o (begin_step o v) (wished o (begin_step o v)) (prepared_noted f o v n)
 
 -- the run of either kind from a state
-through_noted : (f : Voted) → AreBelow f.steps f.repairs → (o : Trial) (t : ℕ) → IsNoted f (after_steps (through_step o) f t)
+through_noted : (f : Voted) → AreBelow f.steps f.repairs → (o : Trial) (t : ℕ) → HasFewNotes f (after_steps (through_step o) f t)
 through_noted f below o zero = record { few = omega arith; dated = below }
 through_noted f below o (suc t) =
     let v = after_steps (through_step o) f t in
     through_by_noted f v.end o v (through_noted f below o t)
 
-judged_by_noted : (f : Voted) (verdict : Verdict) (o : Trial) (v : Voted) → IsNoted f v → IsNoted f (judged_by verdict o v)
+judged_by_noted : (f : Voted) (verdict : Verdict) (o : Trial) (v : Voted) → HasFewNotes f v → HasFewNotes f (judged_by verdict o v)
 judged_by_noted f verdicts.Admissible o v n = exchanges_noted f o v (wished o v) n
 judged_by_noted f (verdicts.Logic step m) o v n = ended_noted f v (outcomes.Inadmissible (verdicts.Logic step m)) n
 judged_by_noted f (verdicts.Memory step at) o v n = ended_noted f v (outcomes.Inadmissible (verdicts.Memory step at)) n
 
-alone_by_noted : (f : Voted) (end : Option Outcome) (o : Trial) (v : Voted) → IsNoted f v → IsNoted f (alone_by end o v)
+alone_by_noted : (f : Voted) (end : Option Outcome) (o : Trial) (v : Voted) → HasFewNotes f v → HasFewNotes f (alone_by end o v)
 alone_by_noted f (Some e) o v n = n
 alone_by_noted f None o v n = judged_by_noted f (own_verdict o (begin_step o v)) o (begin_step o v) (prepared_noted f o v n)
 
-alone_noted : (f : Voted) → AreBelow f.steps f.repairs → (o : Trial) (t : ℕ) → IsNoted f (after_steps (alone_step o) f t)
+alone_noted : (f : Voted) → AreBelow f.steps f.repairs → (o : Trial) (t : ℕ) → HasFewNotes f (after_steps (alone_step o) f t)
 alone_noted f below o zero = record { few = omega arith; dated = below }
 alone_noted f below o (suc t) =
     let v = after_steps (alone_step o) f t in
     alone_by_noted f v.end o v (alone_noted f below o t)
 
-run_from_noted : (f : Voted) → AreBelow f.steps f.repairs → (mode : Mode) (o : Trial) (t : ℕ) → IsNoted f (run_from mode o f t)
+run_from_noted : (f : Voted) → AreBelow f.steps f.repairs → (mode : Mode) (o : Trial) (t : ℕ) → HasFewNotes f (run_from mode o f t)
 run_from_noted f below Guarded o t = alone_noted f below o t
 run_from_noted f below Through o t = through_noted f below o t
 
 -- whatever end a machine has come to
 pub state_from_noted : (f : Voted) → AreBelow f.steps f.repairs → (end : Option Outcome) (mode : Mode) (o : Trial) (n : ℕ)
-    → IsNoted f (state_from end mode o f n)
+    → HasFewNotes f (state_from end mode o f n)
 state_from_noted f below None mode o n = run_from_noted f below mode o n
 state_from_noted f below (Some outcomes.Done) mode o n = run_from_noted f below mode o n
 state_from_noted f below (Some (outcomes.Stopped step stop)) mode o n = run_from_noted f below mode o n

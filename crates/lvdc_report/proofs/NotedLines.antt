@@ -6,7 +6,7 @@ use Rattle.lvdc_model.specs.Voted.{Voted}
 use Rattle.lvdc_model.specs.declared.repair.Repair.{Repair}
 use Rattle.lvdc_lines.specs.Noted.{exchange_line, log_text, repair_line, repairs_text, noted_size}
 use Rattle.lvdc_report.proofs.Behind.{IsBehind}
-use Rattle.lvdc_report.proofs.Noted.{IsNoted}
+use Rattle.lvdc_report.proofs.Noted.{HasFewNotes}
 use Rattle.lvdc_lines.proofs.LineSizes.{length-both, length-lines}
 
 -- a line of the log, and that of a repair in a step of seven digits at most
@@ -27,7 +27,7 @@ short-repairs : (steps : ℕ) (repairs : List Repair) → steps < 10 ^ 7 → All
 short-repairs steps repairs few below short = λ k d within. let early = below k d within in short k d within (omega (arith, few, early))
 
 -- behind the lines of a first state stand no more than 39 bytes for each step
-pub noted-short : (first v : Voted) → IsBehind first.log first.repairs v → IsNoted first v → v.steps < 10 ^ 7
+pub noted-short : (first v : Voted) → IsBehind first.log first.repairs v → HasFewNotes first v → v.steps < 10 ^ 7
     → All IsShortExchange v.log → All IsShortRepair v.repairs
     → length (log_text v.log) + length (repairs_text v.repairs) ≤ noted_size first.log first.repairs + 39 * v.steps
 noted-short first v behind noted few exchanges repairs =

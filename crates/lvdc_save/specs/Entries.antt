@@ -38,13 +38,13 @@ abbrev pub cell_in : List ℕ → Option ℕ
 cell_in token = octal_in (2 ^ 28) 10 token
 
 -- the address of these numbers
-abbrev pub spot_of : Option ℕ → Option ℕ → Option ℕ → Option Spot
-spot_of (Some pair) (Some sector) (Some loc) = Some (record { pair = pair; sector = sector; loc = loc })
-spot_of _ _ _ = None
+abbrev pub spot_by : Option ℕ → Option ℕ → Option ℕ → Option Spot
+spot_by (Some pair) (Some sector) (Some loc) = Some (record { pair = pair; sector = sector; loc = loc })
+spot_by _ _ _ = None
 
 -- a bank, a sector and a location
 abbrev pub spot_in : List ℕ → List ℕ → List ℕ → Option Spot
-spot_in pair sector loc = spot_of (octal_in 8 1 pair) (octal_in 16 2 sector) (octal_in 256 3 loc)
+spot_in pair sector loc = spot_by (octal_in 8 1 pair) (octal_in 16 2 sector) (octal_in 256 3 loc)
 
 -- a word before others, where all were found
 abbrev pub words_with : Option ℕ → Option (List ℕ) → Option (List ℕ)

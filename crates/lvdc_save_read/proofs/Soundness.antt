@@ -31,7 +31,7 @@ use Rattle.lvdc_save.specs.declared.section.Section.TheVariants as section
 use Rattle.lvdc_save.specs.Saved.{module_at, copy_at, latches_before}
 use Rattle.lvdc_save.specs.Reading.{Progress, nothing_said, rank, section_of, earliest, latest, follows, place_of, least_in, is_at_rest, agrees, fits, lacking, adds, moved_on, by_lack, after_entry, saved_in, Makes}
 use Rattle.lvdc_save.proofs.Below.{both}
-use Rattle.lvdc_save_read.specs.Sound.{IsEntry, AreCounted, AreCopies, AreSelected, AreCells, ArePlaced, AreLogged, AreMended, AreEvents, IsSound}
+use Rattle.lvdc_save_read.specs.Sound.{IsEntry, AreCounted, AreCopies, AreSelected, AreCells, ArePlaced, AreLogged, AreMended, AreEvents, IsSoundProgress}
 
 -- ---- tests
 
@@ -286,7 +286,7 @@ stands r e is =
       agreed = parts.1;
     }
 
-pub sound_after : (devices : List Device) (number : ℕ) (r : Progress) (e : Entry) → IsSound r → IsEntry e → Stands r e → IsSound (moved_on devices (adds number r e) e)
+pub sound_after : (devices : List Device) (number : ℕ) (r : Progress) (e : Entry) → IsSoundProgress r → IsEntry e → Stands r e → IsSoundProgress (moved_on devices (adds number r e) e)
 sound_after devices number r says.Title h is s =
     record {
       counted = counted_kept (rank r.section) 1 r.steps r.count h.counted (λ l. omega (arith, s.from, l));
@@ -474,24 +474,24 @@ sound_after devices number r says.End h is s =
     }
 
 -- a line that fits keeps all sound
-pub sound_more : (devices : List Device) (number : ℕ) (r : Progress) (e : Entry) → IsSound r → IsEntry e → fits r e ≡ true → IsSound (moved_on devices (adds number r e) e)
+pub sound_more : (devices : List Device) (number : ℕ) (r : Progress) (e : Entry) → IsSoundProgress r → IsEntry e → fits r e ≡ true → IsSoundProgress (moved_on devices (adds number r e) e)
 sound_more devices number r e h is fit = sound_after devices number r e h is (stands r e fit)
 
 made_by : (devices : List Device) (number : ℕ) (r t : Progress) (e : Entry) (fit : Bool) (lack : Option ℕ) → fits r e ≡ fit
-    → (if fit then by_lack devices number r e lack else Err (BadSave number)) ≡ Ok t → IsEntry e → IsSound r → IsSound t
+    → (if fit then by_lack devices number r e lack else Err (BadSave number)) ≡ Ok t → IsEntry e → IsSoundProgress r → IsSoundProgress t
 made_by devices number r t e true None fit made is h =
-    let one : moved_on devices (adds number r e) e ≡ t = cc in subst IsSound one (sound_more devices number r e h is fit)
+    let one : moved_on devices (adds number r e) e ≡ t = cc in subst IsSoundProgress one (sound_more devices number r e h is fit)
 made_by devices number r t e true (Some line) fit made is h = absurd cc
 made_by devices number r t e false lack fit made is h = absurd cc
 
 -- what a call has made of an entry is sound
 pub sound_made : {T : Type 0} (devices : List Device) (number : ℕ) (r t : Progress) (e : Entry) (result : Result T SaveFault)
-    → Makes result t (after_entry devices number r e) → IsEntry e → IsSound r → OnOk result (IsSound t)
+    → Makes result t (after_entry devices number r e) → IsEntry e → IsSoundProgress r → OnOk result (IsSoundProgress t)
 sound_made devices number r t e (Ok done) made is h = made_by devices number r t e (fits r e) (lacking devices number r e) refl made is h
 sound_made devices number r t e (Err fault) made is h = tt
 
 -- before the first line
-pub sound_first : IsSound nothing_said
+pub sound_first : IsSoundProgress nothing_said
 unfolding majority
 sound_first = record {
   counted = record { whole = refl; within = λ l. absurd (omega (arith, l)); most = omega arith };
@@ -505,7 +505,7 @@ sound_first = record {
 }
 
 -- after END the snapshot is whole
-pub whole_last : (r : Progress) → IsSound r → rank r.section ≡ 15 → IsWhole (saved_in r).snapshot
+pub whole_last : (r : Progress) → IsSoundProgress r → rank r.section ≡ 15 → IsWhole (saved_in r).snapshot
 whole_last r h last =
     let counts = h.copies.all (omega (arith, last)) in
     let rest = both (_) (_) h.copies.rest in

@@ -82,7 +82,7 @@ pub record AreEvents (script : List Event) : Type 0 where
   pub events : All IsEvent script
 
 -- all of these, at the section of the last line
-pub record IsSound (r : Progress) : Type 0 where
+pub record IsSoundProgress (r : Progress) : Type 0 where
   pub counted : AreCounted (rank r.section) r.steps r.count
   pub copies : AreCopies (rank r.section) r.steps r.latches r.differed
   pub selected : AreSelected (rank r.section) r.selected

@@ -6,7 +6,7 @@ ghost use Rattle.lvdc_vote.specs.Bits.{majority};
 ghost use Rattle.lvdc_fault.specs.Events.{TIMES, EVENTS, IsEvent};
 ghost use Rattle.lvdc_snapshot.specs.Snapshot.{IsWhole};
 ghost use Rattle.lvdc_orders.specs.Orders.{ORDERS};
-ghost use Rattle.lvdc_save_read.specs.Sound.{IsSound};
+ghost use Rattle.lvdc_save_read.specs.Sound.{IsSoundProgress};
 ghost use Rattle.lvdc_save.specs.declared.entry.Entry.TheVariants as says;
 ghost use Rattle.lvdc_save.specs.Entries.{entry_of};
 ghost use Rattle.lvdc_save.specs.Reading.{nothing_said, section_of, place_of, holds_one, HasNext, least_after, least_in, is_at_rest, is_next_copy, agrees, fits, is_unplugged, line_in, without_words, without_device, lacking, latch_at, adds, after_entry, by_entry, whole_of, Makes};
@@ -474,7 +474,7 @@ impl Reading {
     ) -> Result<(), SaveFault>
         requires { length text.now < 2 ^ 32 - 1 }
         ensures made { Makes result self.new (by_entry (map device_of devices.now.items) number self.old (entry_of text.now)) }
-        ensures sound { IsSound self.old → OnOk result (IsSound self.new) }
+        ensures sound { IsSoundProgress self.old → OnOk result (IsSoundProgress self.new) }
     {
         match entry_of(alloc, text)? {
             Some(entry) => self.take_entry(devices, number, entry),
@@ -484,7 +484,7 @@ impl Reading {
 
     /// What all lines have said, where END was the last; where it is missing, that is named at `next`.
     pub(crate) fn into_saved(self, next: u32) -> Result<Saved, SaveFault>
-        requires { IsSound self }
+        requires { IsSoundProgress self }
         ensures saved { result ≡ whole_of next self }
         ensures whole { IfOk result (λ saved. IsWhole saved.snapshot) }
         ensures steps { IfOk result (λ saved. saved.snapshot.steps ≤ 3 * saved.count) }

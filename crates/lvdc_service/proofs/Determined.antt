@@ -9,7 +9,7 @@ use Rattle.lvdc_service.specs.Frames.{Request}
 use Rattle.lvdc_console.specs.declared.words.Inquiry.{Inquiry}
 use Rattle.lvdc_console.specs.Words.{inquiry_of, most_bytes}
 use Rattle.lvdc_console.specs.Replies.{inquiry_answer}
-use Rattle.lvdc_service.specs.Served.{Reply, too_long_reply, reply_of, other_reply, reply_by, reply_to, IsReplyTo, usage, too_long, replied, inquiry_too_long, inquired, wants_memory, AreReplies, IsUnhindered, AreUnhindered}
+use Rattle.lvdc_service.specs.Served.{Reply, too_long_reply, reply_of, other_reply, reply_by, reply_to, IsReplyTo, usage, too_long, replied, inquiry_too_long, inquired, wants_memory, inquiry_wants_memory, AreReplies, IsUnhindered, AreUnhindered}
 
 -- what a command's request is answered, by whether its input is too long
 by_length : (request : Request) (command : Command) (long : _) → command_of request.words ≡ Some command → nat_lt (limit_of command) (length (input_of command request.input)) ≡ long
@@ -43,7 +43,8 @@ one_due request reply free (too_long command asked l) =
 one_due request reply free (replied command status text asked few r) =
     let short : nat_lt (limit_of command) (length (input_of command request.input)) ≡ false = grind (arith, nat_tests) in
     ap reply_of r.is_reply ∙ sym (by_length request command false asked short)
-one_due request reply free wants_memory = absurd (free refl)
+one_due request reply free (wants_memory command asked few) = absurd (free refl)
+one_due request reply free (inquiry_wants_memory inquiry none asked few) = absurd (free refl)
 
 both : (reply due : Reply) (replies all : List Reply) → reply ≡ due → replies ≡ all → reply ∷ replies ≡ due ∷ all
 both reply due replies all e f = rw (e, f) refl

@@ -12,7 +12,7 @@ use Rattle.lvdc_service.specs.declared.frame.Next.{Next}
 use Rattle.lvdc_service.specs.declared.frame.Next.TheVariants.{Request as Asked, Ended, BadFrame, ReadFault}
 use Rattle.lvdc_console.specs.Rack.{rack}
 use Rattle.lvdc_console.specs.Over.{IsReplied}
-use Rattle.lvdc_service.specs.Served.{reply_with, too_long_reply, IsReplyTo, too_long, replied}
+use Rattle.lvdc_service.specs.Served.{reply_with, too_long_reply, memory_reply, IsReplyTo, too_long, replied, wants_memory}
 use Rattle.lvdc_service.specs.Turns.{Stream, stream, Used, rest_of, IsNextInput, IsNoFrame, IsNext}
 
 -- what a command reads is all that is given
@@ -24,6 +24,11 @@ pub carried : (words : List (List ℕ)) (given bytes : List ℕ) (command : Comm
     → length bytes ≤ limit_of command → IsReplied rack command bytes status text → IsReplyTo (record { words = words; input = given }) (reply_with status text)
 carried words given bytes command status text asked is few r =
     replied command status text asked (subst (λ (b : List ℕ). length b ≤ limit_of command) (sym is) few) (subst (λ (b : List ℕ). IsReplied rack command b status text) (sym is) r)
+
+-- there was no memory for a command over what it reads of what is given
+pub unremembered : (words : List (List ℕ)) (given bytes : List ℕ) (command : Command) → command_of words ≡ Some command → input_of command given ≡ bytes
+    → length bytes ≤ limit_of command → IsReplyTo (record { words = words; input = given }) memory_reply
+unremembered words given bytes command asked is few = wants_memory command asked (subst (λ (b : List ℕ). length b ≤ limit_of command) (sym is) few)
 
 -- too many bytes are given
 pub overlong : (words : List (List ℕ)) (given : List ℕ) (command : Command) → command_of words ≡ Some command → reads_for command ≡ true → limit_of command < length given

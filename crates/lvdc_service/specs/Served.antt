@@ -110,8 +110,12 @@ pub data IsReplyTo (request : Request) : Reply → Type 0 where
   inquired : (inquiry : Inquiry) (status : ℕ) (text : List ℕ) → command_of request.words ≡ None → inquiry_of request.words ≡ Some inquiry
       → length request.input ≤ most_bytes inquiry → IsInquired rack inquiry request.input status text
       → IsReplyTo request (reply_with status text)
-  -- there was no memory for it
-  wants_memory : IsReplyTo request memory_reply
+  -- there was no memory for its command, whose input has no byte too many
+  wants_memory : (command : Command) → command_of request.words ≡ Some command → length (input_of command request.input) ≤ limit_of command
+      → IsReplyTo request memory_reply
+  -- nor for its inquiry
+  inquiry_wants_memory : (inquiry : Inquiry) → command_of request.words ≡ None → inquiry_of request.words ≡ Some inquiry
+      → length request.input ≤ most_bytes inquiry → IsReplyTo request memory_reply
 
 -- one reply to each request, in their order
 abbrev pub AreReplies : List Request → List Reply → Type 0

@@ -1,6 +1,5 @@
 ghost use Rattle.std.specs.Prelude.{◌≡◌, ◌≤◌, ℕ, List, length, map, true, false, None, Some, All};
 ghost use Rattle.std.specs.List.{list_all};
-ghost use Rattle.lvdc_text.specs.Words.{texts};
 ghost use Rattle.lvdc_console.specs.Commands.{command_of, reads_for, limit_of, input_of};
 ghost use Rattle.lvdc_console.specs.Words.{inquiry_of, most_bytes, IsInquiry};
 ghost use Rattle.lvdc_service.specs.Frames.{is_word};
@@ -9,10 +8,9 @@ ghost use Rattle.lvdc_service.specs.Served.{IsReplyTo};
 ghost use Rattle.lvdc_service.specs.Turns.{due_reply, stream, IsNextInput, IsNext};
 
 use crate::due::Due;
-use crate::{Header, InputEnd, Line, Reader, header_of, words_of};
-use lvdc_console::{
-    Command, Inquiry, inquire_over_rack, read_command, read_inquiry, reply_over_rack,
-};
+use crate::words::{command_of, inquiry_of};
+use crate::{Header, InputEnd, Line, Reader, header_of};
+use lvdc_console::{Command, Inquiry, inquire_over_rack, reply_over_rack};
 use lvdc_text::Source;
 use std::alloc::Global;
 
@@ -135,44 +133,24 @@ fn read_and_inquire<S: Source>(
     }
 }
 
-/// What a request is answered whose words are no command line of `lvdc`.
+/// What the request of a frame is answered whose words are no command line of `lvdc`.
 fn answer_others<S: Source>(
     alloc: Global,
-    words: &[String],
-    count: usize,
+    line: &[u8],
+    header: &Header,
     reader: &mut Reader,
     source: &mut S,
 ) -> Next
-    requires { command_of (texts words.now) ≡ None }
-    ensures { IsNextInput (texts words.now) count (stream reader.old (S.state source.old))
+    requires within { All (LiesIn line.now) header.now.words.items }
+    requires words { list_all is_word (map (part_of line.now) header.now.words.items) ≡ true }
+    requires others { command_of (map (part_of line.now) header.now.words.items) ≡ None }
+    ensures { IsNextInput (map (part_of line.now) header.now.words.items) header.now.count
+        (stream reader.old (S.state source.old))
         (stream reader.new (S.state source.new)) result }
 {
-    match read_inquiry(words) {
-        Some(inquiry) => read_and_inquire(alloc, inquiry, count, reader, source),
-        None => pass(count, reader, source, Due::Usage),
-    }
-}
-
-/// What a request with these words is answered, and so many bytes of input.
-fn answer<S: Source>(
-    alloc: Global,
-    words: &[String],
-    count: usize,
-    reader: &mut Reader,
-    source: &mut S,
-) -> Next
-    ensures { IsNextInput (texts words.now) count (stream reader.old (S.state source.old))
-        (stream reader.new (S.state source.new)) result }
-{
-    match read_command(words) {
-        Some(command) => {
-            if command.reads() {
-                read_and_answer(alloc, command, count, reader, source)
-            } else {
-                pass_and_answer(alloc, command, count, reader, source)
-            }
-        }
-        None => answer_others(alloc, words, count, reader, source),
+    match inquiry_of(line, header.words.as_slice()) {
+        Some(inquiry) => read_and_inquire(alloc, inquiry, header.count, reader, source),
+        None => pass(header.count, reader, source, Due::Usage),
     }
 }
 
@@ -190,9 +168,15 @@ fn answer_frame<S: Source>(
         (stream reader.old (S.state source.old))
         (stream reader.new (S.state source.new)) result }
 {
-    match words_of(alloc, line, header) {
-        Ok(words) => answer(alloc, words.as_slice(), header.count, reader, source),
-        Err(_) => pass(header.count, reader, source, Due::NoMemory),
+    match command_of(line, header.words.as_slice()) {
+        Some(command) => {
+            if command.reads() {
+                read_and_answer(alloc, command, header.count, reader, source)
+            } else {
+                pass_and_answer(alloc, command, header.count, reader, source)
+            }
+        }
+        None => answer_others(alloc, line, header, reader, source),
     }
 }
 

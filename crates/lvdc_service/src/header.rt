@@ -1,4 +1,4 @@
-ghost use Rattle.std.specs.Prelude.{◌≡◌, ◌≤◌, ◌∷◌, length, map, true, None, Some, IfSome, IfNone, IfOk, All, codes, string_bytes};
+ghost use Rattle.std.specs.Prelude.{◌≡◌, ◌≤◌, ◌∷◌, length, map, true, None, Some, IfSome, IfNone, All, codes};
 ghost use Rattle.std.specs.List.{list_all};
 ghost use Rattle.std.specs.Str.{bytes_eq};
 ghost use Rattle.lvdc_service.specs.Frames.{is_graphic, is_word, are_words, input_count, frame_line_of_parts, frame_line_of};
@@ -7,8 +7,6 @@ ghost use Rattle.lvdc_service.specs.Parts.{part_of, LiesIn};
 use crate::parts::{Part, bytes_of, parts};
 use arrayvec::ArrayVec;
 use lvdc_text::plain_decimal;
-use lvdc_word::NoMemory;
-use std::alloc::Global;
 
 /// The most bytes of an input.
 const LONGEST_INPUT: u64 = 134_217_728;
@@ -128,28 +126,4 @@ pub fn header_of(line: &[u8]) -> Option<Header>
         },
         None => None,
     }
-}
-
-/// A word as a text of its own.
-fn text_of(alloc: Global, word: &[u8]) -> Result<String, NoMemory>
-    requires { is_word word.now ≡ true }
-    ensures { IfOk result (λ text. string_bytes text ≡ word.now) }
-{
-    match String::from_utf8(Vec::from_slice(alloc, word)?) {
-        Ok(text) => Ok(text),
-        Err(_) => unreachable!(),
-    }
-}
-
-/// The words, each as a text of its own.
-pub fn words_of(alloc: Global, line: &[u8], header: &Header) -> Result<Vec<String>, NoMemory>
-    requires within { All (LiesIn line.now) header.now.words.items }
-    requires words { list_all is_word (map (part_of line.now) header.now.words.items) ≡ true }
-    ensures { IfOk result (λ v. map string_bytes v.items ≡ map (part_of line.now) header.now.words.items) }
-{
-    let mut words = Vec::new(alloc);
-    for word in header.words.as_slice() {
-        words.push(text_of(alloc, bytes_of(line, word))?)?;
-    }
-    Ok(words)
 }

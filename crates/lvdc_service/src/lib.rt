@@ -10,10 +10,11 @@ mod laws;
 mod parts;
 mod reader;
 mod service;
+mod words;
 mod write;
 
 pub use framing::frames_are_apart;
-pub use header::{Header, header_of, words_of};
+pub use header::{Header, header_of};
 pub use laws::{all_is_served, replies_are_due};
 pub use parts::{Part, bytes_of};
 pub use reader::{InputEnd, Line, Reader};

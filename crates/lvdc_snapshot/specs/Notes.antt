@@ -10,7 +10,7 @@ pub record IsLog (times : ℕ) (log : List Exchange) : Type 0 where
   pub order : AllPairs (λ before after. before.time ≤ after.time) log
 
 -- a repair of this step, of one of two twins, at an address that is there
-pub record IsNoted (banks step : ℕ) (repair : Repair) : Type 0 where
+pub record IsRepairOfStep (banks step : ℕ) (repair : Repair) : Type 0 where
   pub dated : repair.step ≡ step
   pub twin : repair.twin < 2
   pub there : is_there banks repair.at ≡ true

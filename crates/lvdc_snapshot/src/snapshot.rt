@@ -1,6 +1,6 @@
 ghost use Rattle.std.specs.Prelude.{◌≡◌, ◌+◌, ◌≤◌, ◌<◌, List, All, length, IfOk, vec_len, vec_capacity};
 ghost use Rattle.lvdc_fault.specs.Events.{IsEvent};
-ghost use Rattle.lvdc_memory.specs.Holds.{Holds};
+ghost use Rattle.lvdc_memory.specs.Holds.{IsMemoryOf};
 ghost use Rattle.lvdc_memory.specs.Order.{AreOnMemory};
 ghost use Rattle.lvdc_model.specs.Known.{last_made};
 ghost use Rattle.lvdc_model.specs.Trial.{Trial};
@@ -120,7 +120,7 @@ impl Snapshot {
         ensures events { IfOk result (λ made. AreOnMemory script.now made.0.events) }
         ensures last { IfOk result (λ made. made.0.last ≡ last_made self.now.steps) }
         ensures holds { IfOk result (λ made. (o : Trial) (v : Voted) → o.script ≡ script.now → o.opening.banks ≡ self.now.banks
-            → Means self.now v → Holds o made.0.last made.1 v.twins v.intended) }
+            → Means self.now v → IsMemoryOf o made.0.last made.1 v.twins v.intended) }
         ensures banks { IfOk result (λ made. made.1.twins.banks ≡ self.now.banks) }
     {
         let mut on_memory = MemoryEvents::for_script(alloc, script)?;

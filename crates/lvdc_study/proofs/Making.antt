@@ -24,7 +24,7 @@ use Rattle.lvdc_model.specs.declared.outcome.Outcome.{Outcome}
 use Rattle.lvdc_model.specs.declared.outcome.Outcome.TheVariants.{Done, Stopped, Inadmissible, Device}
 use Rattle.lvdc_model.specs.Trial.{Trial}
 use Rattle.lvdc_machine.specs.Calls.{IsFresh}
-use Rattle.lvdc_machine.specs.Causes.{HasCause}
+use Rattle.lvdc_machine.specs.Causes.{EndHasCause}
 use Rattle.lvdc_machine.specs.Room.{pace_of}
 use Rattle.lvdc_machine.specs.Stands.{Stands, EndsAs}
 use Rattle.lvdc_machine.specs.View.{View, answer_of_end}
@@ -183,7 +183,7 @@ module _ (p : Program) (devices ready : List device.Device) (unplugs : List Unpl
 
 -- where none has failed each that is left has the count that it had
 none-rose : {B : Type 0} (device_of : B → device.Device) (faults : B → ℕ) (ready new : List B) (end : Option Outcome) → NoneFailed end
-    → HasCause device_of faults (answer_of_end end) ready new → (port : ℕ) → has_port device_of port new ≡ true
+    → EndHasCause device_of faults (answer_of_end end) ready new → (port : ℕ) → has_port device_of port new ≡ true
     → count_at device_of faults port new ≡ count_at device_of faults port ready
 none-rose device_of faults ready new None u c = c
 none-rose device_of faults ready new (Some Done) u c = c
@@ -193,7 +193,7 @@ none-rose device_of faults ready new (Some (Device step port)) u c = absurd u
 
 -- the same of the plain machine
 none-plainly-rose : {B : Type 0} (device_of : B → device.Device) (faults : B → ℕ) (ready new : List B) (end : Option PlainEnd) → NonePlainlyFailed end
-    → plain_calls.HasCause device_of faults (plain_view.answer_of_end end) ready new → (port : ℕ) → has_port device_of port new ≡ true
+    → plain_calls.PlainEndHasCause device_of faults (plain_view.answer_of_end end) ready new → (port : ℕ) → has_port device_of port new ≡ true
     → count_at device_of faults port new ≡ count_at device_of faults port ready
 none-plainly-rose device_of faults ready new None u c = c
 none-plainly-rose device_of faults ready new (Some plain_ends.Done) u c = c
@@ -224,7 +224,7 @@ module _ {B : Type 0} (device_of : B → device.Device) (faults : B → ℕ) (ol
       subst (λ (k : ℕ). Rose k (count_at device_of faults port new)) (count-same device_of faults port ready old ports counts)
       (subst (λ (q : ℕ). Rose (count_at device_of faults q ready) (count_at device_of faults q new)) is rose)
 
-  pub has-failed : (end : Option Outcome) (port : ℕ) → EndsIn end port → HasCause device_of faults (answer_of_end end) ready new
+  pub has-failed : (end : Option Outcome) (port : ℕ) → EndsIn end port → EndHasCause device_of faults (answer_of_end end) ready new
       → Rose (count_at device_of faults port old) (count_at device_of faults port new)
   has-failed None port is c = absurd is
   has-failed (Some Done) port is c = absurd is
@@ -232,7 +232,7 @@ module _ {B : Type 0} (device_of : B → device.Device) (faults : B → ℕ) (ol
   has-failed (Some (Inadmissible verdict)) port is c = absurd is
   has-failed (Some (Device step failed)) port is c = rose-since failed port is c.rose
 
-  pub has-plainly-failed : (end : Option PlainEnd) (port : ℕ) → EndsPlainlyIn end port → plain_calls.HasCause device_of faults (plain_view.answer_of_end end) ready new
+  pub has-plainly-failed : (end : Option PlainEnd) (port : ℕ) → EndsPlainlyIn end port → plain_calls.PlainEndHasCause device_of faults (plain_view.answer_of_end end) ready new
       → Rose (count_at device_of faults port old) (count_at device_of faults port new)
   has-plainly-failed None port is c = absurd is
   has-plainly-failed (Some plain_ends.Done) port is c = absurd is
@@ -247,14 +247,14 @@ module _ {B : Type 0} (device_of : B → device.Device) (faults : B → ℕ) (ol
   }
 
   -- nothing has failed of what is left
-  pub since-run : (end : Option Outcome) → NoneFailed end → HasCause device_of faults (answer_of_end end) ready new
+  pub since-run : (end : Option Outcome) → NoneFailed end → EndHasCause device_of faults (answer_of_end end) ready new
       → ((port : ℕ) → has_port device_of port new ≡ true → has_port device_of port ready ≡ true) → Since device_of faults old new
   since-run end unfailed cause left = record {
     left = λ port has. sym (has-ports device_of ready old ports port) ∙ left port has;
     counts = λ port has. none-rose device_of faults ready new end unfailed cause port has ∙ count-same device_of faults port ready old ports counts;
   }
 
-  pub since-plain : (end : Option PlainEnd) → NonePlainlyFailed end → plain_calls.HasCause device_of faults (plain_view.answer_of_end end) ready new
+  pub since-plain : (end : Option PlainEnd) → NonePlainlyFailed end → plain_calls.PlainEndHasCause device_of faults (plain_view.answer_of_end end) ready new
       → ((port : ℕ) → has_port device_of port new ≡ true → has_port device_of port ready ≡ true) → Since device_of faults old new
   since-plain end unfailed cause left = record {
     left = λ port has. sym (has-ports device_of ready old ports port) ∙ left port has;

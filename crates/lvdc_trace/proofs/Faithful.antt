@@ -38,7 +38,7 @@ use Rattle.lvdc_model.specs.Trial.{Trial, plain_at, plain_in}
 use Rattle.lvdc_model.specs.Twins.{Twins, shows, answer_by, read_answer}
 use Rattle.lvdc_model.specs.Voted.{Voted, votes}
 use Rattle.lvdc_laws_voted.specs.Ends.{ShowsTimes, IsBegun, Comes, Good, Bad, EndsAt}
-use Rattle.lvdc_laws_voted.specs.Relation.{Kept, Goes, Halts}
+use Rattle.lvdc_laws_voted.specs.Relation.{IsOnCourse, Goes, Halts}
 use Rattle.lvdc_machine.specs.Made.{read_made, exchange_made, made_if, made_unless, made_next}
 use Rattle.lvdc_machine.specs.Steps.{run_of, step_of}
 use Rattle.lvdc_machine.specs.declared.made.Made.{Made}
@@ -69,7 +69,7 @@ end-bad o n m same h = ap (λ (v : Voted). v.end) same ∙ ap (λ (v : Voted). v
 -- no end has come: no step was inadmissible, and the run keeps to the plain run
 record KeepsOn (o : Trial) (n : ℕ) : Type 0 where
   good : first_bad_below o n ≡ Admissible
-  kept : Kept Standing o n (guarded o n)
+  kept : IsOnCourse Standing o n (guarded o n)
 
 keeps-on : (o : Trial) (n : ℕ) → Comes Standing o n → (guarded o n).end ≡ None → KeepsOn o n
 keeps-on o n (Good good (Goes steps kept)) none = record { good = good; kept = kept }

@@ -5,7 +5,7 @@ use Rattle.lvdc_plain.specs.Lists.{AreFit}
 use Rattle.lvdc_model.specs.Trial.{Trial}
 use Rattle.lvdc_model.specs.Voted.{Voted}
 use Rattle.lvdc_model.specs.declared.outcome.Outcome.{Outcome}
-use Rattle.lvdc_machine.specs.Calls.{Leaves, Answers}
+use Rattle.lvdc_machine.specs.Calls.{LeavesAfterSteps, Answers}
 use Rattle.lvdc_machine.specs.Resumed.{StandsFrom}
 use Rattle.lvdc_machine.specs.Room.{exchanges_to_come}
 use Rattle.lvdc_machine.specs.Steps.{Keeps}
@@ -42,7 +42,7 @@ module _ {B : Type 0} (device_of : B → device.Device) (spare faults : B → �
   -- a call that makes steps
   pub goes_call : (steps : ℕ) (end : Outcome) (before after : View) (old new : List B)
       → ((o : Trial) (first : Voted) (n : ℕ) → StandsFrom o first n before (map device_of old) → StandsFrom o first (n + steps) after (map device_of new))
-      → Answers device_of faults end before after old new → Leaves device_of spare steps before after old new
+      → Answers device_of faults end before after old new → LeavesAfterSteps device_of spare steps before after old new
       → GoesOn device_of spare faults steps before after old new
   goes_call steps end before after old new stands answers leaves = record {
     stands = stands;

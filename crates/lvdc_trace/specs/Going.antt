@@ -7,7 +7,7 @@ use Rattle.lvdc_model.specs.Trial.{Trial}
 use Rattle.lvdc_model.specs.Voted.{Voted}
 use Rattle.lvdc_model.specs.declared.outcome.Outcome.{Outcome}
 use Rattle.lvdc_model.specs.declared.outcome.Outcome.TheVariants.{Device}
-use Rattle.lvdc_machine.specs.Calls.{Leaves}
+use Rattle.lvdc_machine.specs.Calls.{LeavesAfterSteps}
 use Rattle.lvdc_machine.specs.Resumed.{steps_since, StandsFrom}
 use Rattle.lvdc_machine.specs.View.{View}
 use Rattle.lvdc_machine.specs.declared.mode.Mode.{Mode}
@@ -26,7 +26,7 @@ pub record IsAt (o : Trial) (begin : Voted) (mode : Mode) (left : ℕ) (m : View
 -- cause in the devices' counts of faults
 pub record GoesOn {B : Type 0} (device_of : B → device.Device) (spare faults : B → ℕ) (steps : ℕ) (before after : View) (old new : List B) : Type 0 where
   pub stands : (o : Trial) (first : Voted) (n : ℕ) → StandsFrom o first n before (map device_of old) → StandsFrom o first (n + steps) after (map device_of new)
-  pub leaves : Leaves device_of spare steps before after old new
+  pub leaves : LeavesAfterSteps device_of spare steps before after old new
   pub kept : IsSome before.end → (after ≡ before) × (new ≡ old)
   pub cause : (first : ℕ → ℕ) → CausedSince device_of faults first before.end old → CausedSince device_of faults first after.end new
 

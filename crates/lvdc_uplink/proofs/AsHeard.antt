@@ -9,17 +9,17 @@ use Rattle.lvdc_uplink.specs.Patching.{placed_in, placed_by, with_words, patched
 use Rattle.lvdc_uplink.specs.Messages.{message_of}
 use Rattle.lvdc_uplink.specs.Link.{Link, Step, link_to, after_message, by_message, after_text, is_acknowledged, again, is_applying}
 use Rattle.lvdc_uplink.specs.History.{AreAbove, answers_from, link_after}
-use Rattle.lvdc_uplink.specs.Heard.{Heard, nothing_heard, hears_by, hears, heard_from, changed, IsWhole, last_id, last_check, IsSound, IsAsHeard, IsHeldIf, AreHeld}
+use Rattle.lvdc_uplink.specs.Heard.{Heard, nothing_heard, hears_by, hears, heard_from, changed, IsWhole, last_id, last_check, IsSoundLoad, IsAsHeard, IsHeldIf, AreHeld}
 use Rattle.lvdc_uplink.specs.declared.answer.Answer.{Answer}
 use Rattle.lvdc_uplink.specs.declared.message.Message.{Message}
 use Rattle.lvdc_uplink.proofs.Placing.{with_words-append}
 use Rattle.lvdc_uplink.proofs.Ranged.{IsRanged, message_of-ranged}
-use Rattle.lvdc_uplink.proofs.Outcomes.{Applied, Kept, Outcome, outcome}
+use Rattle.lvdc_uplink.proofs.Outcomes.{Applied, AppliesNone, Outcome, outcome}
 use Rattle.lvdc_uplink.proofs.Histories.{placed_by-append}
 use Rattle.lvdc_uplink.proofs.Sound.{line_sound}
 use Rattle.lvdc_uplink.proofs.Repeating.{line-repeats}
 use Rattle.lvdc_uplink.proofs.Hearing.{message_hears}
-use Rattle.lvdc_uplink.proofs.Holding.{Holds, line-holds}
+use Rattle.lvdc_uplink.proofs.Holding.{AnswerHolds, line-holds}
 
 pub from-nothing : (image : Contents) → IsAsHeard image nothing_heard (link_to image)
 from-nothing image = record { image = refl; whole = All-nil IsWhole; once = tt; load = refl; sound = tt; last = refl; check = refl }
@@ -68,17 +68,17 @@ module _ (opening : Contents) (heard : Heard) (link : Link) (message : Message) 
       ap (hears_by (Some message) (is_acknowledged step.answer)) heard_is
       ∙ message_hears link.image link.last link.check heard.done link.load message is.sound
 
-  still_sound : IsSound step.link.last step.link.load
+  still_sound : IsSoundLoad step.link.last step.link.load
   still_sound = line_sound link (Some message) ranged is.sound
 
   one : (load : Load) → Applied link step load → committed ≡ load ∷ []
   one load applied = rw (applied.applying, applied.held) refl
 
-  nothing : Kept link step → committed ≡ []
+  nothing : AppliesNone link step → committed ≡ []
   nothing kept = rw kept.applying refl
 
-  held_sound : (held : Option Load) (load : Load) → held ≡ Some load → IsSound link.last held → link.last < load.id
-  held_sound held load same sound = (subst (IsSound link.last) same sound).0
+  held_sound : (held : Option Load) (load : Load) → held ≡ Some load → IsSoundLoad link.last held → link.last < load.id
+  held_sound held load same sound = (subst (IsSoundLoad link.last) same sound).0
 
   with_one : (load : Load) → Applied link step load → IsAsHeard opening (heard_with (load ∷ [])) step.link
   with_one load applied = record {
@@ -91,7 +91,7 @@ module _ (opening : Contents) (heard : Heard) (link : Link) (message : Message) 
     check = applied.check ∙ sym (last_check-more 0 heard.done load);
   }
 
-  with_none : Kept link step → IsAsHeard opening (record { load = step.link.load; done = heard.done }) step.link
+  with_none : AppliesNone link step → IsAsHeard opening (record { load = step.link.load; done = heard.done }) step.link
   with_none kept = record {
     image = kept.image ∙ is.image;
     whole = is.whole;
@@ -122,7 +122,7 @@ pub text-heard : (opening : Contents) (heard : Heard) (link : Link) (text : List
     → IsAsHeard opening (hears text (after_text link text).answer heard) (after_text link text).link
 text-heard opening heard link text is = line-heard opening heard link (message_of text) (message_of-ranged text) is
 
-pub text-holds : (link : Link) (text : List ℕ) → Holds (message_of text) (after_text link text)
+pub text-holds : (link : Link) (text : List ℕ) → AnswerHolds (message_of text) (after_text link text)
 text-holds link text = line-holds link (message_of text) (message_of-ranged text)
 
 -- ---- many lines
@@ -176,7 +176,7 @@ module _ (link now : Link) (text : List ℕ) (answer : Answer) (is : after_text 
       subst (λ (step : Step). IsAsHeard opening (hears text step.answer heard) step.link) is (text-heard opening heard link text before)
 
   pub held-then : IsHeldIf (message_of text) (is_acknowledged answer) now.load now.last now.check
-  held-then = subst (Holds (message_of text)) is (text-holds link text)
+  held-then = subst (AnswerHolds (message_of text)) is (text-holds link text)
 
   pub again-then : Stays → is_acknowledged answer ≡ true → after_text now text ≡ record { answer = again answer; link = now }
   again-then stays =

@@ -10,7 +10,7 @@ use Rattle.lvdc_map.proofs.Addresses.{same-spot}
 use Rattle.lvdc_image.specs.Image.{Contents}
 use Rattle.lvdc_uplink.specs.Frames.{Frame, Load, bare_load, is_same_frame, stays, staged, with_frame, missing_in, frame_check, load_check}
 use Rattle.lvdc_uplink.specs.Link.{Link, Step, Filing, says, named, stages, frames, refusal_by, applies, commits, abandons, after_message, is_acknowledged, is_applying}
-use Rattle.lvdc_uplink.specs.Heard.{Heard, hears_by, IsSound}
+use Rattle.lvdc_uplink.specs.Heard.{Heard, hears_by, IsSoundLoad}
 use Rattle.lvdc_uplink.specs.declared.answer.Answer.TheVariants.{Opened, Framed, Committed, Busy, Old, Range, Check, Differs}
 use Rattle.lvdc_uplink.specs.declared.message.Message.{Message}
 use Rattle.lvdc_uplink.specs.declared.message.Message.TheVariants as messages
@@ -126,11 +126,11 @@ module _ (image : Contents) (last check : ℕ) (done : List Load) where
   above-other id other is above true same = absurd (omega (arith, is, above, eqb-true other id same))
   above-other id other is above false same = refl
 
-  commit_again : (id c : ℕ) (load : Option Load) → IsSound last load → last ≡ id → Hears (messages.Commit id c) load (says (Committed id) (at load))
+  commit_again : (id c : ℕ) (load : Option Load) → IsSoundLoad last load → last ≡ id → Hears (messages.Commit id c) load (says (Committed id) (at load))
   commit_again id c None sound is = none None
   commit_again id c (Some load) sound is = rw (above-other id load.id is sound.0 (load.id == id) refl) (none (Some load))
 
-  commit_by : (id c : ℕ) (load : Option Load) → IsSound last load → (known : Bool) → (last == id && check == c) ≡ known
+  commit_by : (id c : ℕ) (load : Option Load) → IsSoundLoad last load → (known : Bool) → (last == id && check == c) ≡ known
       → Hears (messages.Commit id c) load (if known then says (Committed id) (at load) else commits c (at load) (named id load))
   commit_by id c load sound true is = commit_again id c load sound (eqb-true last id (and_parts (last == id) (check == c) is).0)
   commit_by id c load sound false is = commit_first id c load
@@ -146,7 +146,7 @@ module _ (image : Contents) (last check : ℕ) (done : List Load) where
   abandon_hears id None = none None
   abandon_hears id (Some load) = abandon_named id load (load.id == id)
 
-  pub message_hears : (load : Option Load) (message : Message) → IsSound last load → Hears message load (after_message (at load) message)
+  pub message_hears : (load : Option Load) (message : Message) → IsSoundLoad last load → Hears message load (after_message (at load) message)
   message_hears load (messages.Open id count) sound = open_hears id count load
   message_hears load (messages.Frame id number frame c) sound = frame_hears id number frame c load
   message_hears load (messages.Commit id c) sound = commit_by id c load sound (last == id && check == c) refl

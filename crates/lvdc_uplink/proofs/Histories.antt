@@ -8,7 +8,7 @@ use Rattle.lvdc_uplink.specs.Messages.{message_of}
 use Rattle.lvdc_uplink.specs.Link.{Link, after_text}
 use Rattle.lvdc_uplink.specs.History.{link_after, committed_by, committed_from}
 use Rattle.lvdc_uplink.proofs.Placing.{with_words-append}
-use Rattle.lvdc_uplink.proofs.Outcomes.{Applied, Kept, outcome}
+use Rattle.lvdc_uplink.proofs.Outcomes.{Applied, AppliesNone, outcome}
 
 pub placed_by-append : (one more : List Load) → placed_by (one ++ more) ≡ placed_by one ++ placed_by more
 placed_by-append [] more = refl
@@ -18,7 +18,7 @@ placed_by-append (load ∷ one) more =
 pub committed_by-applied : (link : Link) (text : List ℕ) (load : Load) → Applied link (after_text link text) load → committed_by link text ≡ load ∷ []
 committed_by-applied link text load applied = rw (applied.applying, applied.held) refl
 
-pub committed_by-kept : (link : Link) (text : List ℕ) → Kept link (after_text link text) → committed_by link text ≡ []
+pub committed_by-kept : (link : Link) (text : List ℕ) → AppliesNone link (after_text link text) → committed_by link text ≡ []
 committed_by-kept link text kept = rw kept.applying refl
 
 -- the image with these words too

@@ -21,14 +21,14 @@ pub record Applied (link : Link) (step : Step) (load : Load) : Type 0 where
   pub closed : step.link.load ≡ None
 
 -- the step applies no load
-pub record Kept (link : Link) (step : Step) : Type 0 where
+pub record AppliesNone (link : Link) (step : Step) : Type 0 where
   pub applying : is_applying link step ≡ false
   pub image : step.link.image ≡ link.image
   pub last : step.link.last ≡ link.last
   pub check : step.link.check ≡ link.check
 
 abbrev pub Outcome : Link → Step → Type 0
-Outcome link step = ((load : Load) × Applied link step load) ⊎ Kept link step
+Outcome link step = ((load : Load) × Applied link step load) ⊎ AppliesNone link step
 
 -- an answer other than that of a commit, with the image and what was committed last as they were
 kept : (link : Link) (step : Step) → is_committed step.answer ≡ false → step.link.image ≡ link.image → step.link.last ≡ link.last → step.link.check ≡ link.check

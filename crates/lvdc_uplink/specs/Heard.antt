@@ -72,9 +72,9 @@ last_check check [] = check
 last_check check (load ∷ loads) = last_check (load_check load) loads
 
 -- the load that may be open has an id above that of the last one, and each frame that is staged in it fits an image
-abbrev pub IsSound : ℕ → Option Load → Type 0
-IsSound last None = Unit {0}
-IsSound last (Some load) = (last < load.id) × All FitsIfStaged load.frames
+abbrev pub IsSoundLoad : ℕ → Option Load → Type 0
+IsSoundLoad last None = Unit {0}
+IsSoundLoad last (Some load) = (last < load.id) × All FitsIfStaged load.frames
 
 -- The link is what was heard, with this opening image. The image is that one changed by the loads that were committed, in their
 -- order, all of them whole; their ids rise strictly, so none is there twice. The open load is the one that was heard of.
@@ -83,7 +83,7 @@ pub record IsAsHeard (opening : Contents) (heard : Heard) (link : Link) : Type 0
   pub whole : All IsWhole heard.done
   pub once : AreAbove 0 heard.done
   pub load : link.load ≡ heard.load
-  pub sound : IsSound link.last link.load
+  pub sound : IsSoundLoad link.last link.load
   pub last : link.last ≡ last_id 0 heard.done
   pub check : link.check ≡ last_check 0 heard.done
 

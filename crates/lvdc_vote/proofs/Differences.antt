@@ -7,7 +7,7 @@ use Rattle.lvdc_vote.specs.Latches.{same_words, majority_of}
 use Rattle.lvdc_vote.proofs.Votes.{same_words-Decides, same_tests, majority_of-first, majority_of-ends, majority_of-last}
 use Rattle.std.specs.Option.{option_map}
 use Rattle.lvdc_vote.specs.Copies.{differs_of, after_latch, settled}
-use Rattle.lvdc_vote.specs.Differences.{Kept, kept_of, shadow_by, copies_by, OnlyDifferent, IsSound, IsKept}
+use Rattle.lvdc_vote.specs.Differences.{TripleView, kept_of, shadow_by, copies_by, OnlyDifferent, IsSound, IsKept}
 
 -- what is kept, by any test that decides whether the lists are equal
 pub kept_by : (test : Bool) (words base : List ℕ) → Decides test (words ≡ base) → kept_of words base ≡ (if test then None else Some words)
@@ -24,13 +24,13 @@ differs_kept (Some words) base h = ap not (at (same_words words base) (same_word
   at false d = refl
 
 -- which copies differ from the vote
-pub differs_one : (k : Kept) → IsSound k → is_some k.one ≡ differs_of (copies_by k) 0
+pub differs_one : (k : TripleView) → IsSound k → is_some k.one ≡ differs_of (copies_by k) 0
 differs_one k sound = rw (← sound.vote) (sym (differs_kept k.one k.voted sound.different_one))
 
-pub differs_two : (k : Kept) → IsSound k → is_some k.two ≡ differs_of (copies_by k) 1
+pub differs_two : (k : TripleView) → IsSound k → is_some k.two ≡ differs_of (copies_by k) 1
 differs_two k sound = rw (← sound.vote) (sym (differs_kept k.two k.voted sound.different_two))
 
-pub differs_three : (k : Kept) → IsSound k → is_some k.three ≡ differs_of (copies_by k) 2
+pub differs_three : (k : TripleView) → IsSound k → is_some k.three ≡ differs_of (copies_by k) 2
 differs_three k sound = rw (← sound.vote) (sym (differs_kept k.three k.voted sound.different_three))
 
 -- a value is there where its list is
@@ -69,28 +69,28 @@ different_stays mark own (Some base) words h d e = d e
 different_stays mark own None words h d e = absurd (false≢true (h e))
 
 -- what is kept after a copy latched
-abbrev pub noted_one : Kept → List ℕ → Kept
+abbrev pub noted_one : TripleView → List ℕ → TripleView
 noted_one k words = record k { first = Some (unwrap_or k.first words); shadow_one = kept_of words (unwrap_or k.first words); latched_one = true }
 
-abbrev pub noted_two : Kept → List ℕ → Kept
+abbrev pub noted_two : TripleView → List ℕ → TripleView
 noted_two k words = record k { first = Some (unwrap_or k.first words); shadow_two = kept_of words (unwrap_or k.first words); latched_two = true }
 
-abbrev pub noted_three : Kept → List ℕ → Kept
+abbrev pub noted_three : TripleView → List ℕ → TripleView
 noted_three k words = record k { first = Some (unwrap_or k.first words); shadow_three = kept_of words (unwrap_or k.first words); latched_three = true }
 
-pub view_one : (k : Kept) (words : List ℕ) → IsSound k → copies_by (noted_one k words) ≡ after_latch (copies_by k) 0 words
+pub view_one : (k : TripleView) (words : List ℕ) → IsSound k → copies_by (noted_one k words) ≡ after_latch (copies_by k) 0 words
 view_one k words s =
     rw (meant_kept words (unwrap_or k.first words), shadow_stays k.latched_two k.shadow_two k.first words s.marked_two, shadow_stays k.latched_three k.shadow_three k.first words s.marked_three) refl
 
-pub view_two : (k : Kept) (words : List ℕ) → IsSound k → copies_by (noted_two k words) ≡ after_latch (copies_by k) 1 words
+pub view_two : (k : TripleView) (words : List ℕ) → IsSound k → copies_by (noted_two k words) ≡ after_latch (copies_by k) 1 words
 view_two k words s =
     rw (meant_kept words (unwrap_or k.first words), shadow_stays k.latched_one k.shadow_one k.first words s.marked_one, shadow_stays k.latched_three k.shadow_three k.first words s.marked_three) refl
 
-pub view_three : (k : Kept) (words : List ℕ) → IsSound k → copies_by (noted_three k words) ≡ after_latch (copies_by k) 2 words
+pub view_three : (k : TripleView) (words : List ℕ) → IsSound k → copies_by (noted_three k words) ≡ after_latch (copies_by k) 2 words
 view_three k words s =
     rw (meant_kept words (unwrap_or k.first words), shadow_stays k.latched_one k.shadow_one k.first words s.marked_one, shadow_stays k.latched_two k.shadow_two k.first words s.marked_two) refl
 
-pub sound_one : (k : Kept) (words : List ℕ) → IsSound k → IsSound (noted_one k words)
+pub sound_one : (k : TripleView) (words : List ℕ) → IsSound k → IsSound (noted_one k words)
 sound_one k words s =
     record {
       vote = s.vote;
@@ -105,7 +105,7 @@ sound_one k words s =
       shadow_three = different_stays k.latched_three k.shadow_three k.first words s.marked_three s.shadow_three;
     }
 
-pub sound_two : (k : Kept) (words : List ℕ) → IsSound k → IsSound (noted_two k words)
+pub sound_two : (k : TripleView) (words : List ℕ) → IsSound k → IsSound (noted_two k words)
 sound_two k words s =
     record {
       vote = s.vote;
@@ -120,7 +120,7 @@ sound_two k words s =
       shadow_three = different_stays k.latched_three k.shadow_three k.first words s.marked_three s.shadow_three;
     }
 
-pub sound_three : (k : Kept) (words : List ℕ) → IsSound k → IsSound (noted_three k words)
+pub sound_three : (k : TripleView) (words : List ℕ) → IsSound k → IsSound (noted_three k words)
 sound_three k words s =
     record {
       vote = s.vote;
@@ -136,7 +136,7 @@ sound_three k words s =
     }
 
 -- what is kept of three lists and their vote, of which none has latched
-abbrev pub nothing_latched : List ℕ → List ℕ → List ℕ → Kept
+abbrev pub nothing_latched : List ℕ → List ℕ → List ℕ → TripleView
 nothing_latched xs ys zs =
     let vote = majority_of xs ys zs in
     record { voted = vote; one = kept_of xs vote; two = kept_of ys vote; three = kept_of zs vote; first = None; shadow_one = None; shadow_two = None; shadow_three = None; latched_one = false; latched_two = false; latched_three = false }
@@ -180,7 +180,7 @@ sound_equal xs =
     }
 
 -- what is kept where all three copies become the same, and no shadow changes
-pub sound_renewed : (k : Kept) (words : List ℕ) → IsSound k → IsSound (record k { voted = words; one = None; two = None; three = None })
+pub sound_renewed : (k : TripleView) (words : List ℕ) → IsSound k → IsSound (record k { voted = words; one = None; two = None; three = None })
 sound_renewed k words sound =
     record {
       vote = sym (majority_of-first words words refl);
@@ -253,7 +253,7 @@ pub kept_none : (words : List ℕ) → IsKept words None None None
 kept_none words = record { vote = sym (majority_of-first words words refl); different_one = λ ws e. cc; different_two = λ ws e. cc; different_three = λ ws e. cc }
 
 -- what is kept so is sound where the shadows stay
-pub sound_beside : (k : Kept) (words : List ℕ) (one two three : Option (List ℕ)) → IsKept words one two three → IsSound k
+pub sound_beside : (k : TripleView) (words : List ℕ) (one two three : Option (List ℕ)) → IsKept words one two three → IsSound k
     → IsSound (record k { voted = words; one = one; two = two; three = three })
 sound_beside k words one two three kept sound =
     record {

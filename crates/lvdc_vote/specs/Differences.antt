@@ -4,7 +4,7 @@ use Rattle.lvdc_vote.specs.Latches.{majority_of, same_words}
 use Rattle.lvdc_vote.specs.Copies.{Copies}
 
 -- what is kept: the vote and of each copy what differs from it; the shadow that was latched first and of each shadow what differs from that; and a mark for each copy that has latched
-pub record Kept : Type 0 where
+pub record TripleView : Type 0 where
   pub voted : List ℕ
   pub one : Option (List ℕ)
   pub two : Option (List ℕ)
@@ -26,7 +26,7 @@ abbrev pub shadow_by : Bool → Option (List ℕ) → Option (List ℕ) → Opti
 shadow_by mark own base = if mark then Some (unwrap_or own (unwrap_or base [])) else None
 
 -- the three whole copies that are meant
-abbrev pub copies_by : Kept → Copies
+abbrev pub copies_by : TripleView → Copies
 copies_by k =
     record {
       one = unwrap_or k.one k.voted;
@@ -42,7 +42,7 @@ abbrev pub OnlyDifferent : Option (List ℕ) → List ℕ → Type 0
 OnlyDifferent own base = (words : List ℕ) → own ≡ Some words → words ≢ base
 
 -- the vote is the vote of what is meant, only what differs is kept, and where a copy is marked some shadow was the first
-pub record IsSound (k : Kept) : Type 0 where
+pub record IsSound (k : TripleView) : Type 0 where
   pub vote : k.voted ≡ majority_of (unwrap_or k.one k.voted) (unwrap_or k.two k.voted) (unwrap_or k.three k.voted)
   pub different_one : OnlyDifferent k.one k.voted
   pub different_two : OnlyDifferent k.two k.voted

@@ -108,7 +108,7 @@ spaced = refl
 
 -- the reader reads the word within each 6 steps, and hits that are 6 apart are withstood for ever
 scrubs : Scrubs (reader (hit 0 1 ∷ hit 1 7 ∷ [])) 3 6
-scrubs = record { some = omega arith; visits = λ at h first le. visits at first le (named at h); spaced = refl; limited = refl }
+scrubs = record { visits = λ at h first le. visits at first le (named at h); spaced = refl; limited = refl }
   where
     o : Trial
     o = reader (hit 0 1 ∷ hit 1 7 ∷ [])

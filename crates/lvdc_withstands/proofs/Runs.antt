@@ -16,7 +16,7 @@ use Rattle.lvdc_port.specs.Devices.{without, HoldWords}
 use Rattle.lvdc_port.specs.declared.requests.PortRequest.TheVariants.{Read}
 use Rattle.lvdc_modules.specs.declared.wanted.Wanted.{Wanted}
 use Rattle.lvdc_modules.specs.declared.wanted.Wanted.TheVariants as wanted
-use Rattle.lvdc_plain.specs.Accesses.{Store, store, store_by, fetched_by, operand_by, spot_of}
+use Rattle.lvdc_plain.specs.Accesses.{Store, store, store_by, fetched_by, operand_by, address_of_place}
 use Rattle.lvdc_plain.specs.Plain.{PlainState, World}
 use Rattle.lvdc_plain.specs.Run.{Opening, plugged, time_by, run}
 use Rattle.lvdc_plain.specs.Table.{fetched_instr, operand_place, device_time, step}
@@ -73,7 +73,7 @@ HasBanks banks None = Unit {0}
 HasBanks banks (Some at) = HasBank banks at
 
 place-bank : BankLaw → (banks : ℕ) (h : HopConstant) (address : ℕ) → IsHopConstant h → (kind : OperandKind)
-    → HasBanks banks (spot_of (place_at kind (data_spot banks h address)))
+    → HasBanks banks (address_of_place (place_at kind (data_spot banks h address)))
 place-bank law banks h address ok kinds.Memory = law banks h.dmod (data_spot banks h address) ok.dmod refl
 place-bank law banks h address ok kinds.Pq = tt
 place-bank law banks h address ok kinds.Saver = law banks h.dmod (data_spot banks h address) ok.dmod refl
@@ -89,7 +89,7 @@ operand-bank law None zero p ok = by_takes (takes_operand (fetched_instr p).op)
     address : ℕ
     address = (fetched_instr p).address
 
-    by_takes : (b : Bool) → HasBanks p.banks (cond b (spot_of (operand_place p address)) None)
+    by_takes : (b : Bool) → HasBanks p.banks (cond b (address_of_place (operand_place p address)) None)
     by_takes true = place-bank law p.banks p.place address ok (operand_kind address)
     by_takes false = tt
 operand-bank law None (suc hold) p ok = tt

@@ -21,7 +21,6 @@ are_steps_apart every at one other = nat_le (one + every) other || nat_le (other
 -- the word of each place that is damaged is read or stored in some step of each so many in a row; any two damages of a place, in
 -- whichever twins, are at least so many steps apart; and a place where bits stick is named by no other line, and the faults are limited
 pub record Scrubs (o : Trial) (count every : ℕ) : Type 0 where
-  pub some : 1 ≤ every
   pub visits : (at : Spot) → list_any (damages_it at) (lines_in count o.script) ≡ true → (first : ℕ) → first + every ≤ 3 * count → touches_from o at first (first + every) ≡ true
   pub spaced : each_two (are_apart (are_steps_apart every)) (lines_in count o.script) ≡ true
   pub limited : is_limited o.script o.opening.banks count ≡ true

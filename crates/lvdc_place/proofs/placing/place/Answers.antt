@@ -6,7 +6,7 @@ use Rattle.lvdc_place.specs.Slot.{Slot}
 use Rattle.lvdc_place.specs.Slots.{Slots, set_of}
 use Rattle.lvdc_place.specs.Blocks.{blocks_of}
 use Rattle.lvdc_place.specs.Fitting.{AllFit, capped_block}
-use Rattle.lvdc_place.specs.Placement.{Kept, placement_in, places_of}
+use Rattle.lvdc_place.specs.Placement.{LayoutView, placement_in, places_of}
 use Rattle.lvdc_place.specs.declared.block.Block.{Block}
 use Rattle.lvdc_place.proofs.Caps.{places_of-capped_block, all_fit-capped_block}
 use Rattle.lvdc_place.proofs.LinesApart.{lines_apart}
@@ -42,7 +42,7 @@ returns-clause-layout c =
     (c.deref.ensures.value ∙ c.in_ok-blocks.ensures)
     (c.in-Ok.ensures.places ∙ ap (λ (ps : List Slot). Ok (record { places = ps; taken = set_of c.in-Ok.standing.taken })) (sym c.deref-2.ensures.value))
     c.in_ok-spots.ensures.spots
-    ∙ ap (λ (kept : Kept). Ok (placement_in kept)) (sym c.new.ensures)
+    ∙ ap (λ (kept : LayoutView). Ok (placement_in kept)) (sym c.new.ensures)
 
 pub returns-clause-items : goal.returns-clause-items
 returns-clause-items c =

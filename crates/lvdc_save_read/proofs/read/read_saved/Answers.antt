@@ -1,7 +1,7 @@
 use Rattle.std.proofs.Common.{map, sym, ap, ◌∙◌, refl, subst}
 use Rattle.lvdc_text.specs.Lines.{numbered}
 use Rattle.lvdc_save.specs.Reading.{Progress, told_from}
-use Rattle.lvdc_save_read.specs.Sound.{IsSound}
+use Rattle.lvdc_save_read.specs.Sound.{IsSoundProgress}
 use Rattle.lvdc_save_read.proofs.Soundness.{sound_first}
 use Rattle.lvdc_save_read.proofs.Tokens.{no_line}
 use Rattle.lvdc_save_read.proofs.ReadingLines.{told-more, told-bad, told-done, saved-done, saved-bad, ok_of, err_of}
@@ -11,7 +11,7 @@ use Rattle.lvdc_save_read.proofs.read.read_saved.Goals as goal
 pub loop-line-init : goal.loop-line-init
 loop-line-init g c = record {
   told = ap (λ (r : Progress). told_from (map (λ b. (goal.PortDevice-dyn g (b.vtable, b.value)).device_of b.value) c.args.devices.now.items) r (numbered c.args.bytes.now c.as_slice-all.result.now)) c.new-reading.ensures;
-  sound = subst IsSound (sym c.new-reading.ensures) sound_first;
+  sound = subst IsSoundProgress (sym c.new-reading.ensures) sound_first;
 }
 
 pub loop-line-preserved : goal.loop-line-preserved

@@ -1,11 +1,11 @@
 use Rattle.std.proofs.Common.{◌≡◌, ℕ, ◌<◌, ◌≤◌, List, length, sym, subst, arith}
-use Rattle.lvdc_forces.specs.Parts.{total_of, IsKnown}
+use Rattle.lvdc_forces.specs.Parts.{total_of, IsRightAt}
 use Rattle.lvdc_forces.specs.Shares.{share_of}
 use Rattle.lvdc_forces.specs.declared.part.Part.{Part}
 use Rattle.lvdc_forces.proofs.PartLaws.{totals_right}
 use Rattle.lvdc_forces.proofs.forces.Forces.renew.Goals as goal
 
-known-from : (c : goal.After-self-3-1) → (t : ℕ) → c.args.step ≤ t → t < c.renew_all-self.result → IsKnown c.args.script.now t c.of_parts-self.result
+known-from : (c : goal.After-self-3-1) → (t : ℕ) → c.args.step ≤ t → t < c.renew_all-self.result → IsRightAt c.args.script.now t c.of_parts-self.result
 known-from c t low high =
     let script = c.args.script.now in
     let parts : List Part = c.renew_all-self.new.parts.items in

@@ -3,14 +3,14 @@ use Rattle.std.proofs.Common.{◌≡◌, sym, ap, subst, ◌∙◌, arith}
 use Rattle.lvdc_word.specs.Cell.{code_of}
 use Rattle.lvdc_map.specs.Banks.{home, IsPlace}
 use Rattle.lvdc_map.specs.Memory.{word_at}
-use Rattle.lvdc_memory.specs.Holds.{Kept, Holds}
+use Rattle.lvdc_memory.specs.Holds.{MemoryState, IsMemoryOf}
 use Rattle.lvdc_memory.proofs.Soundness.{recovered-sound, all-show-both}
 use Rattle.lvdc_memory.proofs.memory.VotedMemory.is_blank.Goals as goal
 
 pub returns-then-is_blank : goal.returns-then-is_blank
 returns-then-is_blank c blank o in_force t i h at ok sector =
-    let inside = subst (λ (m : Kept). Holds o in_force m t i) (sym c.self.view_is) h in
-    let kept : Kept = record { twins = c.self.inside.twins; ledger = c.self.inside.ledger } in
+    let inside = subst (λ (m : MemoryState). IsMemoryOf o in_force m t i) (sym c.self.view_is) h in
+    let kept : MemoryState = record { twins = c.self.inside.twins; ledger = c.self.inside.ledger } in
     let here : IsPlace (home at) = record { pair = omega arith; sector = ok.sector; loc = ok.loc } in
     let word : word_at i at ≡ 0 = sym (inside.words.same at ok) ∙ c.is_blank.ensures c.if-is_blank.true at ok sector in
     record {

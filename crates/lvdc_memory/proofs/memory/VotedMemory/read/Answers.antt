@@ -1,16 +1,16 @@
 -- A read answers and leaves what it does of the voted machine's twins.
 use Rattle.std.proofs.Common.{Some, refl, sym, ap, ◌∙◌, subst}
-use Rattle.lvdc_memory.specs.Holds.{Kept, Holds}
+use Rattle.lvdc_memory.specs.Holds.{MemoryState, IsMemoryOf}
 use Rattle.lvdc_memory.proofs.Carrying.{read-answers, read-holds}
 use Rattle.lvdc_memory.proofs.memory.VotedMemory.read.Goals as goal
 
 pub returns-clause-answer : goal.returns-clause-answer
 returns-clause-answer c o step t i h =
-    let inside = subst (λ (m : Kept). Holds o (Some step) m t i) (sym c.self.view_is) h in
+    let inside = subst (λ (m : MemoryState). IsMemoryOf o (Some step) m t i) (sym c.self.view_is) h in
     c.read.ensures.answer ∙ read-answers o step c.self.inside.twins t c.args.at c.read.ensures.whole c.read.ensures.place c.read.ensures.bank inside.banks inside.twins
 
 pub returns-clause-after : goal.returns-clause-after
 returns-clause-after c =
     read-holds c.changes_are_local.ensures c.read.result c.self.inside.twins c.read.new.self c.args.self.now (record { twins = c.read.new.self; ledger = c.self.inside.ledger }) c.args.at c.read.ensures.whole
-    c.read.ensures.place c.read.ensures.repaired c.read.ensures.after c.read.ensures.banks (ap (λ (m : Kept). m.twins) (sym c.self.view_is)) refl
-    (ap (λ (m : Kept). m.ledger) c.self.view_is)
+    c.read.ensures.place c.read.ensures.repaired c.read.ensures.after c.read.ensures.banks (ap (λ (m : MemoryState). m.twins) (sym c.self.view_is)) refl
+    (ap (λ (m : MemoryState). m.ledger) c.self.view_is)

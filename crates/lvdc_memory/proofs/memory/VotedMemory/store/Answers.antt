@@ -2,13 +2,13 @@
 use Rattle.std.proofs.Common.{Some, sym, ◌∙◌, subst}
 use Rattle.lvdc_twin.specs.Store.{Store}
 use Rattle.lvdc_model.specs.Twins.{after_store}
-use Rattle.lvdc_memory.specs.Holds.{Kept, Carries, Holds}
+use Rattle.lvdc_memory.specs.Holds.{MemoryState, Carries, IsMemoryOf}
 use Rattle.lvdc_memory.proofs.Carrying.{store-carries}
 use Rattle.lvdc_memory.proofs.memory.VotedMemory.store.Goals as goal
 
 pub returns-clause-after : goal.returns-clause-after
 returns-clause-after c o step t i h =
-    let inside = subst (λ (m : Kept). Holds o (Some step) m t i) (sym c.self.view_is) h in
+    let inside = subst (λ (m : MemoryState). IsMemoryOf o (Some step) m t i) (sym c.self.view_is) h in
     record {
       banks = c.write.ensures.banks ∙ inside.banks;
       twins = subst (λ (u : Store). Carries (Some step) o.script u (after_store o step c.args.at c.args.word t)) (sym c.write.ensures.after)

@@ -1,13 +1,12 @@
 use Rattle.std.proofs.Common.{◌≡◌, ℕ, ◌<◌, ◌≤◌, true, List, length, get_or, sym, subst, ⊎_elim, arith}
-use Rattle.std.proofs.lemmas.Bool.{cases_lt, false≢true}
+use Rattle.std.proofs.lemmas.Bool.{cases_lt}
 use Rattle.std.proofs.lemmas.List.{get_or_past}
-use Rattle.std.specs.Result.{IsOk}
 use Rattle.std.specs.Str.{IsUtf8}
 use Rattle.std.proofs.lemmas.Str.{IsUtf8-from_ascii}
 use Rattle.std.proofs.lemmas.List.Sums.{AllPass-from_list_all}
 use Rattle.std.proofs.lemmas.Bool.Decides.{nat_tests}
 use Rattle.lvdc_service.specs.Frames.{is_graphic, is_word}
-use Rattle.lvdc_service.proofs.header.text_of.Goals as goal
+use Rattle.lvdc_service.proofs.words.word_of.Goals as goal
 
 ascii : (b : ℕ) → is_graphic b ≡ true → b < 128
 ascii b h = grind (arith, nat_tests)
@@ -22,5 +21,4 @@ word_utf8 word h = IsUtf8-from_ascii word (λ i. ⊎_elim
     (cases_lt i (length word)))
 
 pub unreachable-requires : goal.unreachable-requires
-unreachable-requires c =
-    false≢true (subst IsOk c.in-Err.is (c.from_utf8.ensures.succeeds (subst IsUtf8 (sym c.in_ok-from_slice.ensures.items) (word_utf8 c.args.word.now c.requires))))
+unreachable-requires c = c.in-Err.ensures.cases.0 (subst IsUtf8 (sym c.bytes_of.ensures) (word_utf8 _ c.requires.word))
