@@ -408,13 +408,13 @@ static int address_before(const void *a, const void *b)
 // Draws the words of an image: how many. No two have one address.
 static int draw_words(const int simplex[4], placed *words)
 {
-    int code[2 * CODE], count = 0, size = is_orderly ? CODE : 12, kept = 0;
+    int code[2 * CODE], count = 0, size = is_orderly ? CODE : 12, kept = 0, residual = chance(35) ? 40 : 0, other = chance(25) ? 1 : 4;
     draw_code(code);
     for (int i = 0; i < size; i++)
         words[count++] = (placed){0, home_sector << 8 | ((home_location + i) & 0377), (uint32_t)(syllable() << 13 | code[i])};
     for (int i = 0; i < 8; i++) words[count++] = (placed){0, 1 << 8 | i, chance(67) ? word() : hop()};
-    for (int i = 0; i < 7; i++) if (chance(40)) words[count++] = (placed){0, RESIDUAL << 8 | (i < 3 ? i : 249 + i), word()};
-    for (int bank = 1; bank < 8; bank++)
+    for (int i = 0; i < 7; i++) if (chance(residual)) words[count++] = (placed){0, RESIDUAL << 8 | (i < 3 ? i : 249 + i), word()};
+    for (int bank = other; bank < 8; bank++)
         for (int i = 0; i < 3 && (bank == 1 || (bank > 3 && simplex[bank - 4])); i++) words[count++] = (placed){bank, below(2) << 8 | i, word()};
     qsort(words, (size_t)count, sizeof *words, address_before);
     for (int i = 0; i < count; i++)

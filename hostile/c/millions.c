@@ -1,7 +1,9 @@
 // Asks one worker and the machine in C (bench/peer.c) the same requests, and compares each reply byte for byte: millions WORKER COUNT NUMBER FOLDER
 //
 // hostile/millions builds and calls it. The requests are those that drawing.c draws from so many numbers from NUMBER times 2^32 on. What differs is
-// kept in FOLDER. What is written at the end are tables: the requests by kind and by what is answered, and the refusals.
+// kept in FOLDER, and so are tables of what was asked so far: the requests by kind and by what is answered, and the refusals. They are written
+// anew after each hundred thousand.
+#define _GNU_SOURCE  // for F_SETPIPE_SZ
 #include "drawing.h"
 #include "../../conformance/c/adapter.h"
 #include <errno.h>
@@ -17,7 +19,7 @@
 #include <time.h>
 #include <unistd.h>
 
-enum { QUEUE = 64, PIECE = 1 << 16, MOST_WORDS = 8, NOT_COVERED = 64, MOST_KEPT = 100, TOLD = 1000000 };
+enum { QUEUE = 4096, PIECE = 1 << 16, ROOM = 1 << 20, MOST_WORDS = 8, NOT_COVERED = 64, MOST_KEPT = 100, TOLD = 100000 };
 enum { DONE, MORE, SHIFT, EXM, NO_CELL, LOGIC, MEMORY, SAVED, FORM_YES, FORM_NO, ROWS, USAGE, REFUSED, ENDS };
 enum { CAUSES = 13 };
 
@@ -95,6 +97,9 @@ static void start(char *program)
     close(out_of[1]);
     to = into[1];
     from = out_of[0];
+    // so that neither waits for the other often; where there is no such room it is slower
+    fcntl(to, F_SETPIPE_SZ, ROOM);
+    fcntl(from, F_SETPIPE_SZ, ROOM);
     fcntl(to, F_SETFL, O_NONBLOCK);
     fcntl(from, F_SETFL, O_NONBLOCK);
 }
@@ -269,32 +274,49 @@ static double seconds_of(int who)
     return (double)(used.ru_utime.tv_sec + used.ru_stime.tv_sec) + 1e-6 * (double)(used.ru_utime.tv_usec + used.ru_stime.tv_usec);
 }
 
-static void put_table(const char *title, size_t columns, const char *const *names, uint64_t of[][columns])
+static void put_table(FILE *file, const char *title, size_t columns, const char *const *names, uint64_t of[][columns])
 {
     uint64_t total[ENDS + CAUSES] = {0};
     for (int kind = 0; kind < REQUESTS; kind++) for (size_t i = 0; i < columns; i++) total[i] += of[kind][i];
-    printf("| %s |", title);
-    for (size_t i = 0; i < columns; i++) if (total[i]) printf(" %s |", names[i]);
-    printf("\n|---|");
-    for (size_t i = 0; i < columns; i++) if (total[i]) printf("---|");
+    fprintf(file, "| %s |", title);
+    for (size_t i = 0; i < columns; i++) if (total[i]) fprintf(file, " %s |", names[i]);
+    fprintf(file, "\n|---|");
+    for (size_t i = 0; i < columns; i++) if (total[i]) fprintf(file, "---|");
     for (int kind = 0; kind <= REQUESTS; kind++) {
-        printf("\n| %s |", kind < REQUESTS ? request_names[kind] : "all");
-        for (size_t i = 0; i < columns; i++) if (total[i]) printf(" %llu |", (unsigned long long)(kind < REQUESTS ? of[kind][i] : total[i]));
+        fprintf(file, "\n| %s |", kind < REQUESTS ? request_names[kind] : "all");
+        for (size_t i = 0; i < columns; i++) if (total[i]) fprintf(file, " %llu |", (unsigned long long)(kind < REQUESTS ? of[kind][i] : total[i]));
     }
-    printf("\n\n");
+    fprintf(file, "\n\n");
 }
 
-static void put_tables(uint64_t count, uint64_t number, time_t began)
+static void put_tables(FILE *file)
 {
-    put_table("request", ENDS, end_names, counts);
-    put_table("refused", CAUSES, causes, refusals);
-    printf("| the input has | requests |\n|---|---|\n");
-    for (int i = 0; i < MARKS; i++) printf("| %s | %llu |\n", mark_names[i], (unsigned long long)marks[i]);
-    printf("\nmillions: %llu requests by number %llu, %llu of them different, %llu scripts of campaigns and studies (%llu admissible, %llu the same);",
-           (unsigned long long)count, (unsigned long long)number, (unsigned long long)distinct, (unsigned long long)scripts[0],
-           (unsigned long long)scripts[1], (unsigned long long)scripts[2]);
-    printf(" %llu differ; %.0f seconds of a processor here and %.0f of the worker, %ld by the clock\n", (unsigned long long)differ,
-           seconds_of(RUSAGE_SELF), seconds_of(RUSAGE_CHILDREN), (long)(time(NULL) - began));
+    put_table(file, "request", ENDS, end_names, counts);
+    put_table(file, "refused", CAUSES, causes, refusals);
+    fprintf(file, "| the input has | requests |\n|---|---|\n");
+    for (int i = 0; i < MARKS; i++) fprintf(file, "| %s | %llu |\n", mark_names[i], (unsigned long long)marks[i]);
+}
+
+static void put_sentence(FILE *file, uint64_t count, uint64_t number, long seconds)
+{
+    fprintf(file, "%llu requests were drawn by the number %llu and asked of one worker, %llu of them different; %llu scripts of campaigns and studies"
+            " were among them, %llu of which are admissible and %llu come to the same. %llu replies differ. C and the drawing took %.0f seconds of a"
+            " processor, %ld by the clock.\n\n", (unsigned long long)count, (unsigned long long)number, (unsigned long long)distinct,
+            (unsigned long long)scripts[0], (unsigned long long)scripts[1], (unsigned long long)scripts[2], (unsigned long long)differ,
+            seconds_of(RUSAGE_SELF), seconds);
+}
+
+// Writes what was asked so far into the file `table`, whole or not at all.
+static void keep_tables(uint64_t count, uint64_t number, long seconds)
+{
+    char path[PIECE], beside[PIECE];
+    snprintf(path, sizeof path, "%s/table", folder);
+    snprintf(beside, sizeof beside, "%s/table.new", folder);
+    FILE *file = fopen(beside, "w");
+    if (!file) astray("the tables can't be kept");
+    put_sentence(file, count, number, seconds);
+    put_tables(file);
+    if (fclose(file) || rename(beside, path)) astray("the tables can't be kept");
 }
 
 static void make_room(uint64_t count)
@@ -320,12 +342,14 @@ int main(int words, char **word)
     for (uint64_t i = 0; i < count; i++) {
         ask(number << 32 | i);
         do compare_some(asked_count == QUEUE); while (asked_count == QUEUE);
-        if ((i + 1) % TOLD == 0) fprintf(stderr, "millions: %llu, %llu differ, after %ld seconds\n", (unsigned long long)i + 1, (unsigned long long)differ,
-                                         (long)(time(NULL) - began));
+        if ((i + 1) % TOLD == 0) keep_tables(i + 1 - (uint64_t)asked_count, number, (long)(time(NULL) - began));
     }
     while (asked_count > 0) compare_some(1);
     close(to);
     if (waitpid(worker, &status, 0) < 0 || status != 0) astray("the worker ends with another status than 0");
-    put_tables(count, number, began);
+    keep_tables(count, number, (long)(time(NULL) - began));
+    put_sentence(stdout, count, number, (long)(time(NULL) - began));
+    put_tables(stdout);
+    printf("the worker took %.0f seconds of a processor\n", seconds_of(RUSAGE_CHILDREN));
     return differ > 0;
 }
