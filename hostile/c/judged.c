@@ -166,6 +166,19 @@ static int may_be(int status, const char *text, size_t size)
     }
 }
 
+// Does a study ask for so many times that C, which runs all of them, would take seconds for its scripts?
+static int is_long_study(const struct frame *f)
+{
+    enum { MOST_TIMES = 20000 };
+    const char *end = f->input + f->size, *line = f->input, *next;
+    for (; strcmp(f->word[0], "study") == 0 && line < end; line = next ? next + 1 : end) {
+        next = memchr(line, '\n', (size_t)(end - line));
+        while (line < end && (*line == ' ' || *line == '\t')) line++;
+        if (end - line > 4 && memcmp(line, "RUN", 3) == 0 && strtoul(line + 3, NULL, 10) > MOST_TIMES) return 1;
+    }
+    return 0;
+}
+
 // Compares a reply with what C answers; false where C doesn't cover the request.
 static int is_judged_by_c(const struct frame *f, int status, const char *text, size_t size)
 {
@@ -185,7 +198,7 @@ static void judge(const struct frame *f, int status, const char *text, size_t si
         if (status != USAGE || size != strlen(usage) || memcmp(text, usage, size) != 0) wrong("%s isn't answered by the usage text", f->word[0]);
         return;
     }
-    if (!is_judged_by_c(f, status, text, size) && !may_be(status, text, size)) wrong("%s: status %d and\n%s", f->word[0], status, text);
+    if ((is_long_study(f) || !is_judged_by_c(f, status, text, size)) && !may_be(status, text, size)) wrong("%s: status %d and\n%s", f->word[0], status, text);
 }
 
 // Takes the next reply: its status. Its text is ended by a zero byte, in place of the byte that is held for it.
