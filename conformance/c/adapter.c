@@ -622,6 +622,14 @@ static int read_saved(void)
     return 0;
 }
 
+// Goes to the last place of a sector that begins here, where nothing is in it. `at` counts over all banks from this one.
+static int skips_sector(int (*is_unused)(int bank, int sector), int bank, int *at)
+{
+    if (*at & 0377 || !is_unused || !is_unused(bank + (*at >> 12), *at >> 8 & 15)) return 0;
+    *at |= 0377;
+    return 1;
+}
+
 // ---- The voted machine at its start
 
 static void set_start(void)
@@ -633,6 +641,7 @@ static void set_start(void)
     for (int bank = 0; bank < LVDC_BANKS; bank++)
         for (int at = 0; at < LVDC_WORDS; at++) {
             int pair = bank & 3, own = lvdc.simplex[pair] ? bank : pair;
+            if (skips_sector(voted->is_unused, own, &at)) continue;
             uint32_t word = voted->word(own, at);
             if (word) voted->set_cell(bank >> 2, pair << 12 | at, lvdc_code(word));
         }
@@ -680,6 +689,7 @@ static void put_memory(int is_plain)
 {
     for (int bank = 0; bank < LVDC_BANKS; bank++)
         for (int at = 0; at < LVDC_WORDS && is_bank(bank); at++) {
+            if (skips_sector(is_plain ? plain->is_unused : voted->is_unused, bank, &at)) continue;
             uint32_t word = is_plain ? plain->word(bank, at) : voted->word(bank, at);
             int known = is_plain || voted->is_known(bank, at);
             if (known && !word) continue;
@@ -884,12 +894,14 @@ static int put_saved(void)
     put("SELECT %d %d %d %d\n", voted->selected(0), voted->selected(1), voted->selected(2), voted->selected(3));
     for (int at = 0; at < 2 * LVDC_PAIRS * LVDC_WORDS; at++) {
         int twin = at >> 14, place = at & 037777;
+        if (skips_sector(voted->is_unused, 0, &at)) continue;
         if (voted->cell(twin, place) == lvdc_code(0)) continue;
         put("CELL %d ", twin);
         put_place(place >> 12, place & 07777);
         put(" %0\n", voted->cell(twin, place));
     }
     for (int at = 0; at < LVDC_BANKS * LVDC_WORDS; at++) {
+        if (skips_sector(voted->is_unused, 0, &at)) continue;
         if (!is_bank(at >> 12) || !voted->word(at >> 12, at & 07777)) continue;
         put("WORD ");
         put_place(at >> 12, at & 07777);
@@ -1043,7 +1055,8 @@ typedef struct { int end, step, log_size; port_line *log; uint32_t registers[4],
 static script *scripts;
 static struct lvdc_event *script_events;
 static int script_count, script_event_count;
-static uint64_t names[NAMES];
+static uint64_t names[NAMES], name_places[MOST_SCRIPTS_OF_A_STUDY + 1];
+static int name_count;
 
 // Goes behind the line CAMPAIGN; where that line begins, or where the input ends.
 static size_t find_campaign(void)
@@ -1069,6 +1082,7 @@ static int keep_name(span name)
     }
     for (at = key * 0x9e3779b97f4a7c15 >> 47; names[at]; at = (at + 1) % NAMES) if (names[at] == key) return 0;
     names[at] = key;
+    name_places[name_count++] = at;
     return 1;
 }
 
@@ -1076,7 +1090,7 @@ static int read_scripts(int most)
 {
     struct lvdc_event e;
     script_count = script_event_count = 0;
-    memset(names, 0, sizeof names);
+    while (name_count > 0) names[name_places[--name_count]] = 0;
     while (next_line()) {
         cut_tokens();
         if (line.length > LONGEST_LINE) return refuse(2, "BadLine", line_number);
@@ -1290,6 +1304,22 @@ static char *read_all(FILE *from, size_t *size)
     return text;
 }
 
+void lvdc_use(const struct lvdc_core *core, const struct lvdc_voted *machine)
+{
+    plain = core;
+    voted = machine;
+}
+
+int lvdc_answer(int words, char **word, const char *given, size_t size, char **text, size_t *length)
+{
+    read_from(given, size);
+    out = open_memstream(text, length);
+    if (!out) exit(9);
+    int status = answer(words, word);
+    fclose(out);
+    return status;
+}
+
 // Answers frames, one after another.
 static int serve(void)
 {
@@ -1303,11 +1333,7 @@ static int serve(void)
         while (words < 9 && (token = strtok(NULL, " \n"))) word[words++] = token;
         if (*rest || words == 0 || words == 9 || !(given = malloc(length + 1))) return 2;
         if (fread(given, 1, length, stdin) != length) return 2;
-        read_from(given, length);
-        out = open_memstream(&text, &size);
-        if (!out) return 9;
-        int status = answer(words, word);
-        fclose(out);
+        int status = lvdc_answer(words, word, given, length, &text, &size);
         printf("REPLY %d %zu\n", status, size);
         fwrite(text, 1, size, stdout);
         fflush(stdout);
@@ -1320,8 +1346,7 @@ static int serve(void)
 int lvdc_main(int words, char **word, const struct lvdc_core *core, const struct lvdc_voted *machine)
 {
     static char buffer[1 << 16];
-    plain = core;
-    voted = machine;
+    lvdc_use(core, machine);
     setvbuf(stdout, buffer, _IOFBF, sizeof buffer);
     if (words == 1) return serve();
     size_t size;

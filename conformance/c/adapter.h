@@ -6,6 +6,7 @@
 #ifndef LVDC_ADAPTER_H
 #define LVDC_ADAPTER_H
 
+#include <stddef.h>
 #include <stdint.h>
 
 enum { LVDC_PAIRS = 4, LVDC_BANKS = 8, LVDC_WORDS = 4096, LVDC_PORTS = 256, LVDC_LATCHES = 15, LVDC_COPIES = 21, LVDC_WORD = (1 << 26) - 1 };
@@ -47,6 +48,7 @@ struct lvdc_core {
     uint32_t (*get)(int which);
     int (*run_time)(void);  // one instruction time; LVDC_GOES_ON, LVDC_SHIFT or LVDC_EXM
     int (*run)(int times);  // so many, or fewer where one of them ends it; it may be 0
+    int (*is_unused)(int bank, int sector);  // every word of the sector is 0; it may be 0, and then each is looked at
 };
 
 struct lvdc_voted {
@@ -65,6 +67,7 @@ struct lvdc_voted {
     int (*is_known)(int bank, int at);
     int (*step)(int way, struct lvdc_exchange *exchanged);  // one step; an end, or LVDC_GOES_ON
     int (*run)(int way, int steps);  // so many, or fewer where one of them ends it; it may be 0
+    int (*is_unused)(int bank, int sector);  // every word of the sector is 0 and known, every cell that of 0; it may be 0
 };
 
 // What the adapter offers to a core: the bank that a module number means; the code of a word; a port that is read or written, and its log; and
@@ -76,5 +79,9 @@ void lvdc_repair(int bank, int at, int twin, int switched);
 
 // The program: words of a command line, or frames where there are none. Either core may be 0. What it doesn't cover has the status 64.
 int lvdc_main(int count, char **words, const struct lvdc_core *core, const struct lvdc_voted *voted);
+
+// The same without a program around it: the cores that answer, and one answer. It is a status; the text is the caller's to free.
+void lvdc_use(const struct lvdc_core *core, const struct lvdc_voted *voted);
+int lvdc_answer(int count, char **words, const char *given, size_t size, char **text, size_t *length);
 
 #endif

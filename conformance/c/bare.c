@@ -105,6 +105,6 @@ static int run_time(void)
 
 int main(int count, char **words)
 {
-    static const struct lvdc_core core = {clear, load, word, set, get, run_time, 0};
+    static const struct lvdc_core core = {clear, load, word, set, get, run_time, 0, 0};
     return lvdc_main(count, words, &core, 0);
 }

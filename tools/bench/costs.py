@@ -1,6 +1,8 @@
 """What a program takes for an input: processor time, and resident memory."""
+import math
 import os
 import pathlib
+import re
 import subprocess
 import tempfile
 from typing import NamedTuple
@@ -34,6 +36,17 @@ class Programs(NamedTuple):
             stream.write(recipes.given(name, numbers))
             stream.seek(0)
             return cost_of(self.words(name, numbers), stream.fileno())
+
+    def millions(self, name: str, numbers: recipes.Recipe) -> float:
+        """How many millions of instructions it executes to answer the small form of a recipe, as callgrind counts them."""
+        few = recipes.small(numbers)
+        with tempfile.TemporaryFile() as stream:
+            stream.write(recipes.given(name, few))
+            stream.seek(0)
+            words = ["valgrind", "--tool=callgrind", "--callgrind-out-file=/dev/null", *self.words(name, few)]
+            said = subprocess.run(words, stdin=stream, stdout=subprocess.DEVNULL, stderr=subprocess.PIPE, check=False).stderr
+        found = re.search(rb"Collected : ([0-9]+)", said)
+        return int(found[1]) / 1e6 if found else math.inf
 
 
 def named_programs() -> Programs:

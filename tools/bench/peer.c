@@ -31,6 +31,12 @@ static uint32_t vote[LATCHES], copies[3][LATCHES], cells[2][PAIRS][WORDS], stuck
 static int chosen[PAIRS], dead[2][PAIRS], apart;
 static unsigned differed[COPIES];
 
+// Where anything was loaded, stored, damaged or stuck since all was cleared: in which sectors of which pairs. At first all is to be cleared.
+static uint64_t used = UINT64_MAX;
+static uint64_t sector_of(int bank, int at) { return (uint64_t)1 << ((bank & 3) << 4 | at >> 8); }
+static void use(int bank, int at) { used |= sector_of(bank, at); }
+static void use_place(int place) { use(place / WORDS, place % WORDS); }
+
 // What is in force: counts for each copy, the copies under any event, and what flips and forces come to in each latch of a copy.
 static int lags[COPIES], deafs[COPIES], forces[COPIES], acting[COPIES], head[COPIES], touched;
 static int wrong[7], stick_head[2][PAIRS * WORDS];
@@ -218,6 +224,7 @@ static void store(int bank, int at, uint32_t word)
 {
     int pair = bank & 3;
     words[bank][at] = word;
+    use(bank, at);
     for (int twin = 0; twin < 2; twin++)
         if (!dead[twin][pair] && (!lvdc.simplex[pair] || twin == bank >> 2)) cells[twin][pair][at] = code_of(word);
 }
@@ -299,6 +306,7 @@ static void change_stick(event *e, int number, int by)
     uint32_t *mask = &stuck_mask[e->twin][e->place / WORDS][e->place % WORDS];
     uint32_t *value = &stuck_value[e->twin][e->place / WORDS][e->place % WORDS];
     if (by > 0) link_event(list, number); else unlink_event(list, number);
+    use_place(e->place);
     *mask = *value = 0;
     for (int i = *list; i != NONE; i = links[i].after) {
         *mask |= lvdc.events[i].mask;
@@ -312,7 +320,10 @@ static void change(int number, int by)
     if (e->kind <= LVDC_DEAF) change_copy(e, number, by);
     else if (e->kind == LVDC_STICK) change_stick(e, number, by);
     else if (e->kind == LVDC_DEAD) dead[e->twin][e->place / WORDS] += by;
-    else if (by > 0) cells[e->twin][e->place / WORDS][e->place % WORDS] ^= e->mask;
+    else if (by > 0) {
+        use_place(e->place);
+        cells[e->twin][e->place / WORDS][e->place % WORDS] ^= e->mask;
+    }
 }
 
 static void begin_and_end_events(int steps)
@@ -423,13 +434,19 @@ static void land(void)
     if (into_a) vote[A] = pending;
 }
 
+static void load(int bank, int at, uint32_t word)
+{
+    words[bank][at] = word;
+    use(bank, at);
+}
+
 // The store or the exchange of STO and PIO; the word that was read.
 static uint32_t exchange_of(int op, uint32_t address, uint32_t data)
 {
     uint32_t request = requested(op, address, data);
     int bank = bank_of((request >> 15 & 3) << 1 | (request >> 17 & 1)), port = request >> 3 & 0377;
     if ((request & 7) > 2) return lvdc_port(port, (request & 7) == 4, vote[A]);
-    if (request & 7) words[bank][request >> 3 & 07777] = vote[(request & 7) == 1 ? A : SAVER];
+    if (request & 7) load(bank, request >> 3 & 07777, vote[(request & 7) == 1 ? A : SAVER]);
     return 0;
 }
 
@@ -463,14 +480,32 @@ static int run_times(int count)
 
 // ---- What the adapter asks
 
+static void clear_sector(int pair, int sector)
+{
+    enum { SECTOR = 256 };
+    int at = sector * SECTOR;
+    for (int twin = 0; twin < 2; twin++) {
+        memset(&words[pair + 4 * twin][at], 0, SECTOR * sizeof **words);
+        memset(&stuck_mask[twin][pair][at], 0, SECTOR * sizeof ***stuck_mask);
+        memset(&stuck_value[twin][pair][at], 0, SECTOR * sizeof ***stuck_value);
+        memset(&stick_head[twin][pair * WORDS + at], NONE, SECTOR * sizeof **stick_head);
+        for (int i = at; i < at + SECTOR; i++) cells[twin][pair][i] = code_of(0);
+    }
+}
+
 static void clear(void)
 {
-    memset(words, 0, sizeof words);
+    for (int i = 0; used; i++, used >>= 1) if (used & 1) clear_sector(i >> 4, i & 15);
     memset(vote, 0, sizeof vote);
     times_left = hold = into_a = 0;
 }
 
-static void load(int bank, int at, uint32_t word) { words[bank][at] = word; }
+// Is all as it was cleared in a sector, so that each of its words is 0?
+static int is_unused(int bank, int sector) { return !(used & sector_of(bank, sector << 8)); }
+
+// The same, and no word is lost there: one of its cells is as all of them.
+static int is_whole(int bank, int sector) { return is_unused(bank, sector) && is_recoverable(bank, sector << 8); }
+
 static uint32_t word_at(int bank, int at) { return words[bank][at]; }
 
 static void set_register(int which, uint32_t value)
@@ -507,14 +542,16 @@ static void clear_copies(void)
     memset(copies, 0, sizeof copies);
     memset(chosen, 0, sizeof chosen);
     memset(differed, 0, sizeof differed);
-    for (int twin = 0; twin < 2; twin++)
-        for (int pair = 0; pair < PAIRS; pair++)
-            for (int at = 0; at < WORDS; at++) cells[twin][pair][at] = code_of(0);
+    memset(dead, 0, sizeof dead);
 }
 
 static void set_latch(int copy, int latch, uint32_t value) { copies[copy][latch] = value; }
 static uint32_t latch_of(int copy, int latch) { return apart ? copies[copy][latch] : vote[latch]; }
-static void set_cell(int twin, int place, uint32_t cell) { cells[twin][place / WORDS][place % WORDS] = cell; }
+static void set_cell(int twin, int place, uint32_t cell)
+{
+    cells[twin][place / WORDS][place % WORDS] = cell;
+    use_place(place);
+}
 static uint32_t cell_at(int twin, int place) { return cells[twin][place / WORDS][place % WORDS]; }
 static void choose(int pair, int twin) { chosen[pair] = twin; }
 static int choice(int pair) { return chosen[pair]; }
@@ -556,13 +593,9 @@ static void begin(void)
     memset(forces, 0, sizeof forces);
     memset(acting, 0, sizeof acting);
     memset(wrong, 0, sizeof wrong);
-    memset(dead, 0, sizeof dead);
-    memset(stuck_mask, 0, sizeof stuck_mask);
-    memset(stuck_value, 0, sizeof stuck_value);
     memset(flips, 0, sizeof flips);
     memset(keeps, 0377, sizeof keeps);
     memset(head, NONE, sizeof head);
-    memset(stick_head, NONE, sizeof stick_head);
     by_first = room_for(by_first, sizeof *by_first);
     by_last = room_for(by_last, sizeof *by_last);
     links = room_for(links, sizeof *links);
@@ -574,11 +607,11 @@ static void begin(void)
     if (lvdc.steps) begin_and_end_events(before);
 }
 
-int main(int count, char **given)
-{
-    static const struct lvdc_core plain = {clear, load, word_at, set_register, get_register, plain_time, run_times};
-    static const struct lvdc_voted machine = {
-        clear_copies, load, word_at, set_latch, latch_of, set_cell, cell_at, choose, choice, set_count, count_of, begin, is_recoverable, step, run_steps,
-    };
-    return lvdc_main(count, given, &plain, &machine);
-}
+const struct lvdc_core lvdc_plain_machine = {clear, load, word_at, set_register, get_register, plain_time, run_times, is_unused};
+const struct lvdc_voted lvdc_voted_machine = {
+    clear_copies, load, word_at, set_latch, latch_of, set_cell, cell_at, choose, choice, set_count, count_of, begin, is_recoverable, step, run_steps, is_whole,
+};
+
+#ifndef LVDC_WITHOUT_MAIN
+int main(int count, char **given) { return lvdc_main(count, given, &lvdc_plain_machine, &lvdc_voted_machine); }
+#endif

@@ -17,6 +17,9 @@ BLOCKS = 3
 WORD = 1 << 26
 ORDERS = ("ABCDEFGHIJKLMNOPQRSTU", "UTSRQPONMLKJIHGFEDCBA")
 PATHS = ("", " --through", " --plain")
+# the most of a small recipe, and the numbers that say where something is
+FEW, FEW_SCRIPTS = 3_000, 4
+WHERE = ("at", "first", "gap", "length", "number", "room")
 
 Recipe = dict[str, int]
 Ranges = dict[str, tuple[int, int]]
@@ -358,6 +361,12 @@ def whole(name: str, numbers: Recipe) -> Recipe:
     return {number: numbers.get(number, low) for number, (low, _) in ASKED[name][0].items()}
 
 
+def small(numbers: Recipe) -> Recipe:
+    """A recipe of the same kind that asks for little, so that its instructions can be counted: places and steps stay as they are."""
+    most = {name: FEW_SCRIPTS if name == "scripts" else FEW for name in numbers if name.rstrip("012") not in WHERE}
+    return {name: min(number, most.get(name, number)) for name, number in numbers.items()}
+
+
 def told(name: str, numbers: Recipe) -> str:
     """The numbers of a recipe that aren't the least, as text."""
     return " ".join(f"{number}={numbers[number]}" for number, (low, _) in ASKED[name][0].items() if numbers[number] != low)
@@ -375,12 +384,14 @@ def given(name: str, numbers: Recipe) -> bytes:
 
 
 class Dear(NamedTuple):
-    """A row of dear.table: a name, the command or request, the most seconds and megabytes that it may take, and the recipe."""
+    """A row of dear.table: a name, the command or request, the most seconds and megabytes that it may take, the most millions of
+    instructions that its small form may take, and the recipe."""
 
     name: str
     asked: str
     seconds: float
     megabytes: int
+    instructions: float
     numbers: Recipe
 
 
@@ -388,4 +399,5 @@ def rows() -> list[Dear]:
     """The rows of dear.table."""
     lines = (pathlib.Path(__file__).resolve().parent / "dear.table").read_text().splitlines()
     cells = [line.split(" | ") for line in lines if line and not line.startswith("#")]
-    return [Dear(name, asked, float(seconds), int(megabytes), read(asked, text)) for name, asked, seconds, megabytes, text in cells]
+    return [Dear(name, asked, float(seconds), int(megabytes), float(millions), read(asked, text))
+            for name, asked, seconds, megabytes, millions, text in cells]
