@@ -1,6 +1,6 @@
 -- Texts by pieces: bytes, numbers and places, one after another, or as a line with a blank before each.
 use Rattle.std.specs.Prelude.{ℕ, ◌+◌, ◌^◌, ◌<◌, List, [], ◌∷◌, ◌++◌, codes, decimal, length}
-use Rattle.lvdc_map.specs.Address.{Spot}
+use Rattle.lvdc_map.specs.Address.{Spot, IsAddress}
 use Rattle.lvdc_text.specs.Numbers.{octal_text}
 use Rattle.lvdc_text.specs.declared.pieces.Piece.{Piece}
 use Rattle.lvdc_text.specs.declared.pieces.Piece.TheVariants.{Bytes, Decimal, Small, Octal, Word, Cell, Address}
@@ -43,6 +43,21 @@ IsFit (Address at) = Unit {0}
 abbrev pub AreFit : List Piece → Type 0
 AreFit [] = Unit {0}
 AreFit (piece ∷ pieces) = IsFit piece × AreFit pieces
+
+-- what its type says of a piece
+abbrev pub IsInRange : Piece → Type 0
+IsInRange (Bytes bytes) = Unit {0}
+IsInRange (Decimal value) = Unit {0}
+IsInRange (Small value) = value < 2 ^ 8
+IsInRange (Octal value digits) = Unit {0}
+IsInRange (Word word) = word < 2 ^ 26
+IsInRange (Cell cell) = cell < 2 ^ 28
+IsInRange (Address at) = IsAddress at
+
+-- the same of each of the pieces
+abbrev pub AreInRange : List Piece → Type 0
+AreInRange [] = Unit {0}
+AreInRange (piece ∷ pieces) = IsInRange piece × AreInRange pieces
 
 -- the pieces one after another
 abbrev pub pieces_text : List Piece → List ℕ

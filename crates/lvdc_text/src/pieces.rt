@@ -1,8 +1,9 @@
 //! Texts by pieces.
 
-ghost use Rattle.std.specs.Prelude.{◌≡◌, ◌+◌, ◌≤◌, ◌++◌, take, length, OnOk, OnErr};
+ghost use Rattle.std.specs.Prelude.{◌≡◌, ◌+◌, ◌^◌, ◌<◌, ◌≤◌, ◌++◌, take, length, OnOk, OnErr};
+ghost use Rattle.lvdc_map.specs.Address.{IsAddress};
 ghost use Rattle.lvdc_text.specs.Numbers.{octal_text};
-ghost use Rattle.lvdc_text.specs.Pieces.{IsFit, AreFit, spot_text, piece_text, piece_room, pieces_text, pieces_room, fields_text, fields_room};
+ghost use Rattle.lvdc_text.specs.Pieces.{IsFit, AreFit, IsInRange, AreInRange, spot_text, piece_text, piece_room, pieces_text, pieces_room, fields_text, fields_room};
 
 use crate::numbers::{fill_octal, put_decimal, put_octal};
 use lvdc_map::Address;
@@ -27,7 +28,8 @@ pub enum Piece<'a> {
 }
 
 fn word_text(word: Word) -> [u8; 9]
-    ensures { result ≡ octal_text 9 word }
+    ensures text { result ≡ octal_text 9 word }
+    ensures range { word < 2 ^ 26 }
 {
     let mut text = [b'0'; 9];
     fill_octal(&mut text, u64::from(word.value()));
@@ -35,7 +37,8 @@ fn word_text(word: Word) -> [u8; 9]
 }
 
 fn cell_text(cell: Cell) -> [u8; 10]
-    ensures { result ≡ octal_text 10 cell }
+    ensures text { result ≡ octal_text 10 cell }
+    ensures range { cell < 2 ^ 28 }
 {
     let mut text = [b'0'; 10];
     fill_octal(&mut text, u64::from(cell.bits()));
@@ -44,7 +47,8 @@ fn cell_text(cell: Cell) -> [u8; 10]
 
 #[tactic(auto, unfolding(crate::specs::Numbers::octal_text))]
 fn address_text(at: Address) -> [u8; 8]
-    ensures { result ≡ spot_text at }
+    ensures text { result ≡ spot_text at }
+    ensures range { IsAddress at }
 {
     [
         b'0' + at.pair % 8,
@@ -63,6 +67,7 @@ fn put_piece(out: &mut Vec<u8>, piece: &Piece) -> Result<(), NoMemory>
     requires { IsFit piece.now }
     ensures text { OnOk result (out.new.items ≡ out.old.items ++ piece_text piece.now) }
     ensures short { OnOk result (length out.new.items ≤ length out.old.items + piece_room piece.now) }
+    ensures range { OnOk result (IsInRange piece.now) }
     ensures err { OnErr result (out.new.items ≡ out.old.items) }
 {
     match *piece {
@@ -82,6 +87,7 @@ fn put_each(out: &mut Vec<u8>, pieces: &[Piece]) -> Result<(), NoMemory>
     requires { AreFit pieces.now }
     ensures text { OnOk result (out.new.items ≡ out.old.items ++ pieces_text pieces.now) }
     ensures short { OnOk result (length out.new.items ≤ length out.old.items + pieces_room pieces.now) }
+    ensures ranges { OnOk result (AreInRange pieces.now) }
     ensures err { OnErr result (take (length out.old.items) out.new.items ≡ out.old.items) }
 {
     for piece in pieces {
@@ -95,6 +101,7 @@ pub fn put(out: &mut Vec<u8>, pieces: &[Piece]) -> Result<(), NoMemory>
     requires { AreFit pieces.now }
     ensures text { OnOk result (out.new.items ≡ out.old.items ++ pieces_text pieces.now) }
     ensures short { OnOk result (length out.new.items ≤ length out.old.items + pieces_room pieces.now) }
+    ensures ranges { OnOk result (AreInRange pieces.now) }
     ensures err { OnErr result (out.new.items ≡ out.old.items) }
 {
     let before = out.len();
@@ -112,6 +119,7 @@ fn put_fields(out: &mut Vec<u8>, pieces: &[Piece]) -> Result<(), NoMemory>
     requires { AreFit pieces.now }
     ensures text { OnOk result (out.new.items ≡ out.old.items ++ fields_text pieces.now) }
     ensures short { OnOk result (length out.new.items ≤ length out.old.items + fields_room pieces.now) }
+    ensures ranges { OnOk result (AreInRange pieces.now) }
     ensures err { OnErr result (take (length out.old.items) out.new.items ≡ out.old.items) }
 {
     for piece in pieces {
@@ -127,6 +135,7 @@ fn put_name_and_fields(out: &mut Vec<u8>, name: &[u8], pieces: &[Piece]) -> Resu
     requires { AreFit pieces.now }
     ensures text { OnOk result (out.new.items ≡ out.old.items ++ name.now ++ fields_text pieces.now) }
     ensures short { OnOk result (length out.new.items ≤ length out.old.items + (length name.now + fields_room pieces.now)) }
+    ensures ranges { OnOk result (AreInRange pieces.now) }
     ensures err { OnErr result (take (length out.old.items) out.new.items ≡ out.old.items) }
 {
     out.extend_from_slice(name)?;
@@ -139,6 +148,7 @@ pub fn put_line(out: &mut Vec<u8>, name: &[u8], pieces: &[Piece]) -> Result<(), 
     requires { AreFit pieces.now }
     ensures text { OnOk result (out.new.items ≡ out.old.items ++ name.now ++ fields_text pieces.now) }
     ensures short { OnOk result (length out.new.items ≤ length out.old.items + (length name.now + fields_room pieces.now)) }
+    ensures ranges { OnOk result (AreInRange pieces.now) }
     ensures err { OnErr result (out.new.items ≡ out.old.items) }
 {
     let before = out.len();
