@@ -1,12 +1,13 @@
 -- Images and their texts.
 use Rattle.std.specs.Prelude.{◌≡◌, ℕ, ◌+◌, ◌^◌, ◌<◌, true, ◌==◌, List, [], ◌∷◌, ◌++◌, map, codes, All, Option, None, Some, IfSome, if◌then◌else◌}
-use Rattle.lvdc_map.specs.Address.{Spot, IsAddress}
+use Rattle.lvdc_map.specs.Address.{IsAddress}
 use Rattle.lvdc_map.specs.Hop.{HopConstant, IsHopConstant, word_of_hop}
 use Rattle.lvdc_map.specs.Banks.{is_simplex}
 use Rattle.lvdc_map.specs.Memory.{are_rising, AllThere}
 use Rattle.lvdc_map.specs.declared.placed.Placed.{Placed}
 pub use Rattle.lvdc_text.specs.Joined.{text_of}
 use Rattle.lvdc_text.specs.Numbers.{octal_text}
+pub use Rattle.lvdc_text.specs.Pieces.{spot_text}
 
 -- what an image says: its words, the start constant, which version 1 has not, and which pairs are simplex, a bit each
 pub record Contents : Type 0 where
@@ -31,10 +32,6 @@ pub record IsImageInRange (image : Contents) : Type 0 where
   pub words : All IsPlaced image.words
   pub start : IfSome image.start IsHopConstant
   pub banks : image.banks < 16
-
--- an address: bank, sector and location in one, two and three octal digits
-abbrev pub spot_text : Spot → List ℕ
-spot_text at = octal_text 1 at.pair ++ codes " " ++ octal_text 2 at.sector ++ codes " " ++ octal_text 3 at.loc
 
 -- the line of a word: its address and the word itself, in octal
 abbrev pub word_line : Placed → List ℕ

@@ -3,19 +3,15 @@ ghost use Rattle.lvdc_map.specs.Address.{IsAddress};
 ghost use Rattle.lvdc_image.specs.Image.{spot_text};
 
 use lvdc_map::Address;
-use lvdc_text::put_octal;
+use lvdc_text::{Piece, put};
 use lvdc_word::NoMemory;
 
-/// Adds an address: bank, sector and location, as `p ss lll`. After a want of memory `out` may have grown by a part of it.
+/// Adds an address: bank, sector and location, as `p ss lll`. After a want of memory `out` is as before.
 pub fn put_address(out: &mut Vec<u8>, at: Address) -> Result<(), NoMemory>
     ensures text { OnOk result (out.new.items ≡ out.old.items ++ spot_text at) }
     ensures length { OnOk result (length out.new.items ≡ length out.old.items + 8) }
     ensures address { OnOk result (IsAddress at) }
 {
-    put_octal(out, u64::from(at.pair), 1)?;
-    out.extend_from_slice(b" ")?;
-    put_octal(out, u64::from(at.sector), 2)?;
-    out.extend_from_slice(b" ")?;
-    put_octal(out, u64::from(at.loc), 3)?;
+    put(out, &[Piece::Address(at)])?;
     Ok(())
 }

@@ -3,7 +3,9 @@ use Rattle.std.proofs.Common.{◌≡◌, ℕ, ◌+◌, ◌*◌, ◌<◌, ◌≤�
 use Rattle.std.proofs.Math.Nat.{mul-suc}
 use Rattle.std.proofs.lemmas.Fmt.{length-decimal-le}
 use Rattle.std.proofs.lemmas.List.Elements.{All-head, All-tail}
-use Rattle.lvdc_lines.specs.Noted.{lines_of, direction, switch_text, noted_size}
+use Rattle.lvdc_text.proofs.ReadBack.{length-octal_text}
+use Rattle.lvdc_model.specs.declared.repair.Repair.{Repair}
+use Rattle.lvdc_lines.specs.Noted.{lines_of, direction, switch_text, repair_line, noted_size}
 use Rattle.lvdc_lines.proofs.LineLists.{lines_of-append}
 
 -- what was added is short, so the whole grows by little
@@ -28,6 +30,11 @@ length-switch_text false = omega arith
 pub length-direction : (reading : Bool) → length (direction reading) ≤ 4
 length-direction true = omega arith
 length-direction false = omega arith
+
+-- the line of a repair whose twin is a number of one byte, in a step of seven digits
+pub repair_short : (r : Repair) → r.twin < 256 → r.step < 10 ^ 7 → length (repair_line r) ≤ 35
+repair_short r twin early =
+    simp (length-append, length-octal_text) (omega (arith, length-switch_text r.switched, step_short r.step early, byte_short r.twin twin))
 
 pub length-both : {A : Type 0} (line : A → List ℕ) (xs ys : List A)
     → length (lines_of line (xs ++ ys)) ≡ length (lines_of line xs) + length (lines_of line ys)

@@ -2,34 +2,27 @@
 
 ghost use Rattle.std.specs.Prelude.{◌≡◌, ◌<◌, ◌≤◌, ◌^◌, ◌++◌, length, All, OnOk};
 ghost use Rattle.lvdc_map.specs.Address.{IsAddress};
-ghost use Rattle.lvdc_lines.specs.Noted.{switch_text, repair_line, repairs_text};
+ghost use Rattle.lvdc_lines.specs.Noted.{repair_line, repairs_text};
 
-use lvdc_image::put_address;
 use lvdc_model::Repair;
-use lvdc_text::put_decimal;
+use lvdc_text::{Piece, put_line};
 use lvdc_word::NoMemory;
 
-fn switch_text(switched: bool) -> &'static [u8]
-    ensures { result.now ≡ switch_text switched }
-{
-    if switched { b" SWITCH" } else { b"" }
-}
-
 /// Adds the line of a repair.
+#[tactic(auto, using(crate::proofs::LineSizes::repair_short))]
 pub fn put_repair_line(out: &mut Vec<u8>, repair: &Repair) -> Result<(), NoMemory>
     ensures line { OnOk result (out.new.items ≡ out.old.items ++ repair_line repair.now) }
     ensures short { OnOk result (repair.now.step < 10 ^ 7 → length (repair_line repair.now) ≤ 35) }
     ensures at { OnOk result (IsAddress repair.now.at) }
 {
-    out.extend_from_slice(b"REPAIR ")?;
-    put_decimal(out, repair.step)?;
-    out.extend_from_slice(b" ")?;
-    put_address(out, repair.at)?;
-    out.extend_from_slice(b" ")?;
-    put_decimal(out, u64::from(repair.twin))?;
-    out.extend_from_slice(switch_text(repair.switched))?;
-    out.extend_from_slice(b"\n")?;
-    Ok(())
+    let step = Piece::Decimal(repair.step);
+    let at = Piece::Address(repair.at);
+    let twin = Piece::Small(repair.twin);
+    if repair.switched {
+        put_line(out, b"REPAIR", &[step, at, twin, Piece::Bytes(b"SWITCH")])
+    } else {
+        put_line(out, b"REPAIR", &[step, at, twin])
+    }
 }
 
 /// Adds the lines of the repairs, in their order.

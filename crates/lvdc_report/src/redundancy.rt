@@ -4,7 +4,7 @@ ghost use Rattle.std.specs.Prelude.{◌≡◌, ◌+◌, ◌≤◌, ◌++◌, len
 ghost use Rattle.lvdc_report.specs.Voted.{wrong_line, wrong_lines, wrong_text};
 
 use lvdc_machine::Machine;
-use lvdc_text::put_decimal;
+use lvdc_text::{Piece, put_line};
 use lvdc_word::NoMemory;
 
 /// Adds the line of a copy, where it differed at all.
@@ -15,14 +15,15 @@ fn put_wrong_line(out: &mut Vec<u8>, number: u8, copy: u8, count: u64) -> Result
     if count == 0 {
         return Ok(());
     }
-    out.extend_from_slice(b"WRONG ")?;
-    put_decimal(out, u64::from(number))?;
-    out.extend_from_slice(b" ")?;
-    put_decimal(out, u64::from(copy))?;
-    out.extend_from_slice(b" ")?;
-    put_decimal(out, count)?;
-    out.extend_from_slice(b"\n")?;
-    Ok(())
+    put_line(
+        out,
+        b"WRONG",
+        &[
+            Piece::Small(number),
+            Piece::Small(copy),
+            Piece::Decimal(count),
+        ],
+    )
 }
 
 /// Adds the lines of the three copies of a module, 1 to 7.

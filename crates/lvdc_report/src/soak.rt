@@ -1,19 +1,18 @@
 //! The text of a soak run.
 
-ghost use Rattle.std.specs.Prelude.{◌≡◌, ◌+◌, ◌*◌, ◌≤◌, ◌++◌, ℕ, List, length, OnOk, IfOk};
+ghost use Rattle.std.specs.Prelude.{◌≡◌, ◌*◌, ◌≤◌, ℕ, List, length, IfOk};
 ghost use Rattle.lvdc_port.specs.Device.{Device};
 ghost use Rattle.lvdc_model.specs.Trial.{Trial};
 ghost use Rattle.lvdc_model.specs.Voted.{Voted};
 ghost use Rattle.lvdc_machine.specs.Resumed.{state_from, StandsFrom};
 ghost use Rattle.lvdc_machine.specs.Stands.{Stands, state_by};
 ghost use Rattle.lvdc_machine.specs.View.{answer_of_end};
-ghost use Rattle.lvdc_report.specs.Voted.{three_counts, all_counts, number_line, soak_text};
+ghost use Rattle.lvdc_report.specs.Voted.{three_counts, all_counts, soak_text};
 
 use crate::end::put_end;
-use crate::registers::{put_times_line, put_word_line};
 use crate::report::LONGEST_REPORT;
 use lvdc_machine::{Machine, Outcome};
-use lvdc_text::put_decimal;
+use lvdc_text::{Piece, put_line};
 use lvdc_word::NoMemory;
 use std::alloc::Global;
 
@@ -38,18 +37,6 @@ pub fn all_counts(machine: &Machine) -> u64
     sum
 }
 
-/// Adds a line of a name and a decimal number.
-fn put_number_line(out: &mut Vec<u8>, name: &[u8], number: u64) -> Result<(), NoMemory>
-    ensures line { OnOk result (out.new.items ≡ out.old.items ++ number_line name.now number) }
-    ensures short { OnOk result (length out.new.items ≤ length out.old.items + length name.now + 22) }
-{
-    out.extend_from_slice(name)?;
-    out.extend_from_slice(b" ")?;
-    put_decimal(out, number)?;
-    out.extend_from_slice(b"\n")?;
-    Ok(())
-}
-
 /// The text of the soak run of this number, made by this machine. The end is the one that the machine keeps, or `Done` where
 /// it keeps none.
 pub fn report_soak(
@@ -69,11 +56,15 @@ pub fn report_soak(
 {
     let visible = machine.visible();
     let mut out = Vec::new(alloc);
-    put_number_line(&mut out, b"LVDC SOAK", u64::from(number))?;
+    put_line(&mut out, b"LVDC SOAK", &[Piece::Decimal(u64::from(number))])?;
     put_end(&mut out, end)?;
-    put_times_line(&mut out, visible.times)?;
-    put_word_line(&mut out, b"A", visible.a)?;
-    put_number_line(&mut out, b"WRONG", all_counts(machine))?;
-    put_number_line(&mut out, b"REPAIRS", machine.repairs().len() as u64)?;
+    put_line(&mut out, b"TIMES", &[Piece::Decimal(visible.times)])?;
+    put_line(&mut out, b"A", &[Piece::Word(visible.a)])?;
+    put_line(&mut out, b"WRONG", &[Piece::Decimal(all_counts(machine))])?;
+    put_line(
+        &mut out,
+        b"REPAIRS",
+        &[Piece::Decimal(machine.repairs().len() as u64)],
+    )?;
     Ok(out)
 }

@@ -9,11 +9,10 @@ ghost use Rattle.lvdc_lines.specs.Noted.{lines_below};
 ghost use Rattle.lvdc_report.specs.Report.{memory_line, unknown_line, told_line, line_at, memory_text, all_known, plain_line};
 ghost use Rattle.lvdc_report.specs.Voted.{shown_line};
 
-use lvdc_image::put_address;
 use lvdc_machine::{Machine, Shown};
 use lvdc_map::Address;
 use lvdc_plain::Plain;
-use lvdc_text::put_octal;
+use lvdc_text::{Piece, put_line};
 use lvdc_word::{NoMemory, Word};
 
 /// Adds the line of a word of memory.
@@ -21,12 +20,7 @@ pub fn put_memory_line(out: &mut Vec<u8>, at: Address, word: Word) -> Result<(),
     ensures line { OnOk result (out.new.items ≡ out.old.items ++ memory_line at word) }
     ensures short { OnOk result (length out.new.items ≤ length out.old.items + 23) }
 {
-    out.extend_from_slice(b"MEM ")?;
-    put_address(out, at)?;
-    out.extend_from_slice(b" ")?;
-    put_octal(out, u64::from(word.value()), 9)?;
-    out.extend_from_slice(b"\n")?;
-    Ok(())
+    put_line(out, b"MEM", &[Piece::Address(at), Piece::Word(word)])
 }
 
 /// Adds the line of a word that can't be told.
@@ -34,10 +28,7 @@ pub fn put_unknown_line(out: &mut Vec<u8>, at: Address) -> Result<(), NoMemory>
     ensures line { OnOk result (out.new.items ≡ out.old.items ++ unknown_line at) }
     ensures short { OnOk result (length out.new.items ≤ length out.old.items + 23) }
 {
-    out.extend_from_slice(b"MEM ")?;
-    put_address(out, at)?;
-    out.extend_from_slice(b" ?\n")?;
-    Ok(())
+    put_line(out, b"MEM", &[Piece::Address(at), Piece::Bytes(b"?")])
 }
 
 /// Adds the line of a word that can be told, unless it is 0.

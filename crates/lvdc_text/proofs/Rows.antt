@@ -1,11 +1,14 @@
 -- Worked values of the definitions.
 use Rattle.std.proofs.Common.{◌≡◌, ◌≢◌, ℕ, zero, suc, ◌<◌, [], ◌∷◌, Result, Ok, Err, Some, None, refl, subst, arith, lit<}
 use Rattle.std.specs.Prelude.{codes}
+use Rattle.std.specs.Fmt.{digits}
 use Rattle.std.specs.IoError.{error_kind}
 use Rattle.std.specs.declared.io.Error.{Error}
 use Rattle.std.specs.declared.io.ErrorKind.TheVariants.{Interrupted}
 use Rattle.lvdc_text.specs.Lines.{part_at, lines_from, lines_of, words_from, words_of}
 use Rattle.lvdc_text.specs.Numbers.{number_of, octal_text}
+use Rattle.lvdc_text.specs.Pieces.{pieces_text, fields_text}
+use Rattle.lvdc_text.specs.declared.pieces.Piece.TheVariants.{Decimal, Small, Octal, Word, Cell, Address}
 use Rattle.lvdc_text.specs.Room.{TakesSome, UsesRoom}
 use Rattle.lvdc_text.specs.Tries.{WereInterrupted, IsTried, most_tries}
 use Rattle.lvdc_text.specs.Tries.IsTried.{answered, given_up}
@@ -37,6 +40,18 @@ one_digit_too_many = refl
 zeros_in_front : octal_text 3 0o17 ≡ codes "017"
 unfolding octal_text
 zeros_in_front = refl
+
+-- ---- pieces
+
+pieces_of_each_kind :
+    fields_text (Decimal 12 ∷ Small 3 ∷ Octal 0o17 3 ∷ Word 8 ∷ Cell 9 ∷ Address (record { pair = 3; sector = 0o17; loc = 0o376 }) ∷ [])
+    ≡ codes " 12 3 017 000000010 0000000011 3 17 376\n"
+unfolding digits octal_text
+pieces_of_each_kind = refl
+
+nothing_between_pieces : pieces_text (Small 1 ∷ Octal 2 2 ∷ []) ≡ codes "102"
+unfolding digits octal_text
+nothing_between_pieces = refl
 
 -- ---- writes
 

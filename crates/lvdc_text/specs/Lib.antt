@@ -4,6 +4,7 @@ pub mod Room
 pub mod Tries
 pub mod Transfer
 pub mod Numbers
+pub mod Pieces
 pub mod Lines
 pub mod Words
 pub mod Joined

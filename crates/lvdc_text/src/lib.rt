@@ -1,5 +1,5 @@
 //! Texts at the edge: where bytes come from and where they go, the lines and tokens of a text, the reading and printing of its
-//! numbers, and values by the names that a text gives them. For the programs: the streams of std, which try again what a signal cut
+//! numbers, texts by pieces, and values by the names that a text gives them. For the programs: the streams of std, which try again what a signal cut
 //! short, and memory that stays.
 #![tactic(auto)]
 
@@ -12,6 +12,7 @@ mod index;
 mod keep;
 mod memory;
 mod numbers;
+mod pieces;
 mod retried;
 mod standard;
 mod streams;
@@ -26,6 +27,7 @@ pub use index::Index;
 pub use keep::keep_memory;
 pub use memory::{MemorySink, MemorySource};
 pub use numbers::{decimal, fill_octal, octal, octal_word, plain_decimal, put_decimal, put_octal};
+pub use pieces::{Piece, put, put_line};
 pub use standard::{StdSink, StdSource};
 pub use streams::{Failed, Sink, Source};
 pub use transfer::{ReadEnd, WriteFault, read_all, write_all};

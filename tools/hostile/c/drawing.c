@@ -1,6 +1,6 @@
 // See drawing.h.
 #include "drawing.h"
-#include "../../conformance/c/adapter.h"
+#include "../../../conformance/c/adapter.h"
 #include <stdarg.h>
 #include <stdio.h>
 #include <stdlib.h>

@@ -4,7 +4,7 @@
 // then an input, which are framed here, so that a change of length breaks no frame. The worker is asked once, and each reply is judged by the rules of
 // docs/FORMATS.md: whether it is one, its status and text, and where tools/bench/peer.c covers the request each byte. What is wrong ends in abort(), and so
 // does a run-time check of the worker, which are left in.
-#include "../../conformance/c/adapter.h"
+#include "../../../conformance/c/adapter.h"
 #include <errno.h>
 #include <stdarg.h>
 #include <stdio.h>

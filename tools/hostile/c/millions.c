@@ -5,7 +5,7 @@
 // anew after each hundred thousand.
 #define _GNU_SOURCE  // for F_SETPIPE_SZ
 #include "drawing.h"
-#include "../../conformance/c/adapter.h"
+#include "../../../conformance/c/adapter.h"
 #include <errno.h>
 #include <fcntl.h>
 #include <poll.h>

@@ -3,14 +3,4 @@ use Rattle.lvdc_text.proofs.ReadBack.{length-octal_text}
 use Rattle.lvdc_image.proofs.address.put_address.Goals as goal
 
 pub returns-clause-length : goal.returns-clause-length
-returns-clause-length c =
-    omega (
-      arith,
-      ap length c.in_ok-put_octal.ensures.ok,
-      ap length c.in_ok-extend_from_slice.ensures.items,
-      ap length c.in_ok-put_octal-2.ensures.ok,
-      ap length c.in_ok-extend_from_slice-2.ensures.items,
-      ap length c.in_ok-put_octal-3.ensures.ok,
-      length-append {A = ℕ},
-      length-octal_text,
-    )
+returns-clause-length c = omega (arith, ap length c.in_ok-put.ensures.text, length-append {A = ℕ}, length-octal_text)

@@ -1,0 +1,13 @@
+use Rattle.std.proofs.Common.{◌≡◌, ◌≤◌, ◌+◌, ◌++◌, drop, take, length}
+use Rattle.lvdc_text.specs.Pieces.{AreFit, AreInRange, pieces_text, pieces_room}
+use Rattle.lvdc_text.proofs.pieces.put_each.Given as goal
+
+-- what is appended so far and what is to come are the whole
+abbrev pub invariant-loop-piece : goal.invariant-loop-piece
+invariant-loop-piece l = record {
+  fit : AreFit (drop l.piece-index l.pieces);
+  text : l.out.items ++ pieces_text (drop l.piece-index l.pieces) ≡ l.initial.out.items ++ pieces_text l.pieces;
+  short : length l.out.items + pieces_room (drop l.piece-index l.pieces) ≤ length l.initial.out.items + pieces_room l.pieces;
+  ranges : AreInRange (drop l.piece-index l.pieces) → AreInRange l.pieces;
+  front : take (length l.initial.out.items) l.out.items ≡ l.initial.out.items;
+}
