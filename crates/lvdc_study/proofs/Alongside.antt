@@ -129,7 +129,7 @@ module _ (o : Trial) (v : Voted) (devices : List Device) (log : List Exchange) w
   step-apart (Some e) same = refl
   step-apart None same =
       subst (λ (said : Verdict). judged-line (own_verdict o begun) o begun ≡ judged-line said o else-begun
-          → apart (judged_by (own_verdict o begun) o begun) ≡ apart (judged_by said o else-begun))
+      → apart (judged_by (own_verdict o begun) o begun) ≡ apart (judged_by said o else-begun))
       (sym same-said) (judged-apart o begun else-begun.devices log (own_verdict o begun)) same
 
   step-length : (end : Option Outcome) → length (step-line end o v) ≡ length (step-line end o (record v { devices = devices; log = log }))

@@ -16,9 +16,10 @@ pub replayed-counts : ((o : Trial) (n : ℕ) → IsOpening o.opening → first_b
     → (o : Trial) (times lines : ℕ) (m : View) → IsOpening o.opening → HasReplayed o times lines m → first_bad o times ≡ Admissible
     → (m.counts ≡ (through o (3 * times)).counts) × (m.repairs ≡ (through o (3 * times)).repairs)
 replayed-counts goes o times lines m opens h good =
-    let same = goes o (3 * times) opens good in
-    (h.shows.counts ∙ ap (λ (v : Voted). v.counts) h.same ∙ sym (ap (λ (v : Voted). v.counts) same),
-      h.shows.repairs ∙ ap (λ (v : Voted). v.repairs) h.same ∙ sym (ap (λ (v : Voted). v.repairs) same))
+    let same = goes o (3 * times) opens good in (
+      h.shows.counts ∙ ap (λ (v : Voted). v.counts) h.same ∙ sym (ap (λ (v : Voted). v.counts) same),
+      h.shows.repairs ∙ ap (λ (v : Voted). v.repairs) h.same ∙ sym (ap (λ (v : Voted). v.repairs) same),
+    )
 
 first-good : (a b : Verdict) → or_else a b ≡ Admissible → a ≡ Admissible
 first-good Admissible b h = refl

@@ -24,11 +24,11 @@ ghost use Rattle.lvdc_campaign.specs.Ran.{HasRunPlainly};
 ghost use Rattle.lvdc_study.specs.Study.{opening_over, IsProgram};
 ghost use Rattle.lvdc_study.specs.Waypoints.{IsPrefix, IsWaypoint, HasReplayed, words_read};
 
-use crate::waypoint::{Waypoint, spacing, waypoint_of};
 use crate::Program;
+use crate::waypoint::{Waypoint, spacing, waypoint_of};
 use lvdc_fault::Script;
 use lvdc_laws_runs::machines_may_begin_late;
-use lvdc_machine::{Machine, Mode, Orders};
+use lvdc_machine::{Machine, Mode, Orders, resumed_goes_on};
 use lvdc_plain::{Exchange, Plain};
 use lvdc_port::{PortDevice, Supply, supply_all};
 use lvdc_word::NoMemory;
@@ -159,6 +159,7 @@ fn next_waypoint(
     ensures steps { IfOk result (λ next. IfSome next (λ w. w.snapshot.steps ≡ 3 * (from.now.snapshot.steps / 3 + every))) }
     ensures distinct { AreDistinct (map device_of devices.new.items) }
 {
+    resumed_goes_on();
     lvdc_laws_voted::no_faults_no_verdict();
     lvdc_laws_voted::judges_alone();
     let times = from.snapshot.steps / 3 + every;

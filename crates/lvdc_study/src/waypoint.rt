@@ -30,7 +30,9 @@ const LEAST: u64 = 32;
 
 /// For so many bytes, at most, there are waypoints of a program; so many bytes are reckoned for one, and for each word of its image.
 const ROOM: usize = 16_777_216;
+
 const BASE: usize = 512;
+
 const WORD: usize = 32;
 
 /// So many scripts, at least, and so many times are worth the waypoints.
@@ -60,11 +62,7 @@ fn may_begin_at(waypoint: &Waypoint, script: &Script, times: u64) -> bool
 
 /// The position of a waypoint at which a script may begin, and which isn't behind so many times. Waypoints stand by rising steps, so it is
 /// found by halves.
-pub(crate) fn waypoint_before(
-    waypoints: &[Waypoint],
-    script: &Script,
-    times: u64,
-) -> Option<usize>
+pub(crate) fn waypoint_before(waypoints: &[Waypoint], script: &Script, times: u64) -> Option<usize>
     requires { times ≤ MOST_TIMES }
     ensures begins { IfSome result (λ at. IsSomeAnd (slice_get waypoints.now at) (λ w. AllBeginFrom w.snapshot.steps script.now)) }
     ensures ahead { IfSome result (λ at. IsSomeAnd (slice_get waypoints.now at) (λ w. w.snapshot.steps ≤ 3 * times)) }

@@ -1,4 +1,5 @@
 use Rattle.std.proofs.Common.{◌≡◌, ℕ, ◌∙◌, List, drop, length, sym, ap, subst}
+use Rattle.lvdc_plain.specs.Run.{run}
 use Rattle.lvdc_plain.specs.declared.records.Exchange.{Exchange}
 use Rattle.lvdc_campaign.proofs.Stationed.{none-told}
 use Rattle.lvdc_study.specs.Waypoints.{IsPrefix}
@@ -13,7 +14,7 @@ returns-clause-replayed g c = λ told p script count at within ran later good st
     has-replayed p c.args.from.now script c.args.times c.machines_may_begin_late.ensures.runs c.no_faults_no_verdict.ensures c.judges_alone.ensures
     c.guarded_times.ensures c.ports_match.ensures count at c.requires.ahead within later good _ c.run.new.self _
     (c.run.ensures.stands _ _ 0 stands) end (c.run.ensures.leaves.keeps.mode ∙ c.requires.fresh.mode_is)
-    (subst (λ (log : List Exchange). IsPrefix log _) c.log-2.ensures.log (subst (λ (log : List Exchange). IsPrefix c.log-2.result.now log) lines found))
+    (subst (λ (log : List Exchange). IsPrefix log (drop c.args.from.now.lines (run p count).plain.log)) c.log-2.ensures.log (subst (λ (log : List Exchange). IsPrefix c.log-2.result.now log) lines found))
 
 pub returns-clause-steps : goal.returns-clause-steps
 returns-clause-steps g c = λ told o v made stands.
