@@ -1,5 +1,6 @@
 ghost use Rattle.std.specs.Prelude.{◌≡◌, List, All, IfOk, IfSome};
 ghost use Rattle.lvdc_port.specs.Device.{Device};
+ghost use Rattle.lvdc_snapshot.specs.Snapshot.{IsWhole};
 ghost use Rattle.lvdc_campaign.specs.Campaign.{IsScript};
 ghost use Rattle.lvdc_campaign.specs.Ran.{HasRunPlainly};
 ghost use Rattle.lvdc_study.specs.Study.{opening_over, IsProgram, row_of};
@@ -28,6 +29,7 @@ fn study_apart_over_rack(
 ) -> Result<Option<Row>, NoMemory>
     requires program { IsProgram program.now }
     requires script { IsScript named.now }
+    requires whole { All (λ w. IsWhole w.snapshot) waypoints.now }
     ensures { IfOk result (λ made. IfSome made (λ row. (first : List Device) → HasRunPlainly (opening_over program.now first) program.now.count plain.now
         → All (IsWaypoint (opening_over program.now first) program.now.count) waypoints.now → row ≡ row_of (opening_over program.now first) program.now.count named.now)) }
 {

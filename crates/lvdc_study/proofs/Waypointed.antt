@@ -1,5 +1,5 @@
 -- Snapshots without their logs, and the waypoint at which a script may begin.
-use Rattle.std.proofs.Common.{rules, ◌≡◌, ℕ, zero, suc, ◌/◌, ◌<◌, Bool, true, false, List, [], ◌∷◌, length, is_some, All, AllPairs, refl, sym, ap, ◌∙◌, subst, arith, IfSome, IsSomeAnd, slice_get}
+use Rattle.std.proofs.Common.{rules, ◌≡◌, ℕ, zero, suc, ◌/◌, ◌<◌, Bool, true, false, List, [], ◌∷◌, length, is_some, All, AllPairs, refl, sym, ap, ◌∙◌, subst, arith, IfSome, IsSomeAnd, slice_get, get_or}
 use Rattle.std.proofs.lemmas.List.Elements.{All-nil}
 use Rattle.std.specs.declared.option.Option.{Option}
 use Rattle.std.specs.declared.option.Option.TheVariants.{None, Some}
@@ -68,3 +68,22 @@ pub found-one : {A : Type 0} (P : A → Type 0) (a : A) (found : Option ℕ) (is
 found-one P a None is same told h = absurd (cc)
 found-one P a (Some zero) is same told h = h
 found-one P a (Some (suc at)) is same told h = absurd h
+
+-- what holds of a value if there is one holds of the one that is there
+pub some-is : {A : Type 0} (P : A → Type 0) (o : Option A) (a : A) → o ≡ Some a → IfSome o P → P a
+some-is P o a is h = subst (λ (found : Option _). IfSome found P) is h
+
+-- what is so of what is found at a position is so of what stands there
+pub found-at : {A : Type 0} (P : A → Type 0) (xs : List A) (i : ℕ) (x : A) → x ≡ get_or xs i x → IsSomeAnd (slice_get xs i) P → P x
+found-at P [] i x is h = absurd h
+found-at P (y ∷ ys) zero x is h = subst P (sym is) h
+found-at P (y ∷ ys) (suc i) x is h = found-at P ys i x is h
+
+found-within : {A : Type 0} (P : A → Type 0) (xs : List A) (i : ℕ) → IsSomeAnd (slice_get xs i) P → i < length xs
+found-within P [] i h = absurd h
+found-within P (y ∷ ys) zero h = omega arith
+found-within P (y ∷ ys) (suc i) h = let within = found-within P ys i h in omega (arith, within)
+
+-- so is what is so of all
+pub all-at : {A : Type 0} (P Q : A → Type 0) (xs : List A) (i : ℕ) (x : A) → x ≡ get_or xs i x → IsSomeAnd (slice_get xs i) P → All Q xs → Q x
+all-at P Q xs i x is h all = subst Q (sym is) (all i x (found-within P xs i h))

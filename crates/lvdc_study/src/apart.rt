@@ -3,6 +3,7 @@
 ghost use Rattle.std.specs.Prelude.{◌≡◌, ◌≤◌, ◌<◌, List, All, IfOk, IfSome, map};
 ghost use Rattle.lvdc_port.specs.Device as device;
 ghost use Rattle.lvdc_port.specs.Devices.{AreDistinct};
+ghost use Rattle.lvdc_snapshot.specs.Snapshot.{IsWhole};
 ghost use Rattle.lvdc_campaign.specs.Campaign.{IsScript};
 ghost use Rattle.lvdc_campaign.specs.Ran.{HasRunPlainly};
 ghost use Rattle.lvdc_study.specs.Study.{opening_over, IsProgram, row_of};
@@ -45,6 +46,7 @@ pub fn study_apart(
 ) -> Result<Option<Row>, NoMemory>
     requires program { IsProgram program.now }
     requires script { IsScript named.now }
+    requires whole { All (λ w. IsWhole w.snapshot) waypoints.now }
     requires distinct { AreDistinct (map device_of devices.old.items) }
 
     // Of each opening of the program whose waypoints they are, and whose plain run the plain machine has made.

@@ -202,7 +202,7 @@ fn first_waypoint(
         Script::new(alloc),
         unplugs,
         Mode::Guarded,
-        0,
+        program.count,
         devices,
     )?;
     let waypoint = waypoint_of(alloc, &machine, 0)?;

@@ -32,9 +32,9 @@ returns-clause-waypoint g c = λ p count at lines within ran.
     let from = c.args.from.now in
     let times = from.snapshot.steps / 3 + c.args.every in
     let o = trial_under p [] in
-    let devices = map (λ b. (goal.PortDevice-dyn g (b.vtable, b.value)).device_of b.value) c.args.devices.now.items in
+    let devices = map (λ b. (goal.PortDevice-dyn g (b.vtable, b.value)).device_of b.value) c.machine_from.new.devices.items in
     let state = record at.state { devices = devices } in
-    let stands = c.in-Ok.ensures.stands o state (sym c.new-script.ensures) lines (sym at.banks) (means-over from.snapshot at.state devices at.means) refl in
+    let stands = c.in-Ok.ensures.stands o state (sym c.new-script.ensures) lines (sym at.banks) (means-over from.snapshot at.state devices at.means) c.in-Ok.ensures.devices in
     let made = c.in_ok-waypoint.ensures in
     next-waypoint p count c.in_ok-waypoint.waypoint c.goes_along.new.machine made.means made.whole made.banks made.steps made.log c.judges_alone.ensures times from.lines
     at.opening within (c.if-not-goes_along.ensures.steps refl o state at.means.steps stands)
