@@ -1,5 +1,4 @@
 use Rattle.std.proofs.Common.{◌≡◌, ℕ, ◌*◌, ◌≤◌, List, true, map, refl, sym, ap, subst, ◌∙◌}
-use Rattle.std.proofs.lemmas.Bool.{not-false}
 use Rattle.std.specs.declared.option.Option.TheVariants.{None}
 use Rattle.lvdc_fault.specs.declared.verdict.Verdict.TheVariants.{Admissible}
 use Rattle.lvdc_laws_runs.specs.Early.{AllBeginFrom}
@@ -46,7 +45,7 @@ returns g c = λ first ran all.
     c.in-Some.ensures.ahead all in
     let begins : AllBeginFrom from.snapshot.steps named.script =
     found-at (λ (w : Waypoint). AllBeginFrom w.snapshot.steps named.script) c.args.waypoints.now c.in-Some.at from c.index-waypoints-at.is c.in-Some.ensures.begins in
-    let form = sym c.in_ok-masking.ensures ∙ not-false c.in_ok-masking.masking c.if-not-masking.false in
+    let form = sym c.in_ok-masking.ensures ∙ c.if-not-masking.false in
     let whole = (c.form_masks.ensures o program.count at.opening form).verdict in
     let good = c.replayed_counts.ensures.early o times program.count window.within whole in
     let devices = map (λ b. (goal.PortDevice-dyn g (b.vtable, b.value)).device_of b.value) c.machine_from.new.devices.items in
