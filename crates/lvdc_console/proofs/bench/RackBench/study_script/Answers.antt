@@ -11,7 +11,7 @@ use Rattle.lvdc_study.specs.Study.{opening_over, row_of}
 use Rattle.lvdc_study.specs.Waypoints.{IsWaypoint}
 use Rattle.lvdc_study.specs.declared.waypoint.Waypoint.{Waypoint}
 use Rattle.lvdc_console.specs.Rack.{rack}
-use Rattle.lvdc_console.proofs.Benched.{wants_memory}
+use Rattle.lvdc_console.proofs.Benched.{some-is, wants_memory}
 use Rattle.lvdc_console.proofs.bench.RackBench.study_script.Goals as goal
 
 pub study_apart_over_rack-requires-clause-whole : goal.study_apart_over_rack-requires-clause-whole
@@ -20,7 +20,8 @@ study_apart_over_rack-requires-clause-whole c =
     c.args.waypoints.now c.requires.waypoints
 
 pub returns-in-Some-clause-row : goal.returns-in-Some-clause-row
-returns-in-Some-clause-row c = ?
+returns-in-Some-clause-row c =
+    some-is _ c.in_ok-row.field-0 c.in-Some.row c.in-Some.is c.in_ok-row.ensures rack c.requires.plain c.requires.waypoints
 
 pub study_script-requires-clause-plain : goal.study_script-requires-clause-plain
 study_script-requires-clause-plain c =
