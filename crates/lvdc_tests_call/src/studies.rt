@@ -11,7 +11,8 @@ use lvdc_machine::Snapshot;
 use lvdc_plain::Plain;
 use lvdc_port::{Failing, PortDevice, Tape};
 use lvdc_study::{
-    Bench, Program, Row, Unstudied, Waypoint, make_stations, make_waypoints, run_plain, study_script,
+    Bench, Program, Row, Unstudied, Waypoint, make_stations, make_waypoints, run_plain,
+    study_script,
 };
 use lvdc_word::NoMemory;
 use std::alloc::Global;
