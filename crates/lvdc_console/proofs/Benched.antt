@@ -1,5 +1,7 @@
 -- Over devices that never fail a run leaves a row, unless memory is wanting.
-use Rattle.std.proofs.Common.{◌≡◌, ℕ, List, map, refl}
+use Rattle.std.proofs.Common.{◌≡◌, ℕ, List, IfSome, map, refl, subst}
+use Rattle.std.specs.declared.option.Option.{Option}
+use Rattle.std.specs.declared.option.Option.TheVariants.{Some}
 use Rattle.lvdc_port.specs.Device.{Device}
 use Rattle.lvdc_port.specs.Devices.{count_at, NeverFail}
 use Rattle.lvdc_port.proofs.Lists.{never-rose}
@@ -13,3 +15,7 @@ pub wants_memory : {B : Type 0} (device_of : B → Device) (faults : B → ℕ) 
 wants_memory device_of faults NoMemory old new devices are sound failed = refl
 wants_memory device_of faults (DeviceFailed port) old new devices are sound rose =
     absurd (never-rose device_of faults port (count_at device_of faults port new) old sound rose)
+
+-- what is said of a row if there is one is so of the one that is there
+pub some-is : {A : Type 0} (P : A → Type 0) (o : Option A) (a : A) → o ≡ Some a → IfSome o P → P a
+some-is P o a is h = subst (λ (found : Option _). IfSome found P) is h

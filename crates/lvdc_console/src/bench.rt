@@ -1,3 +1,10 @@
+ghost use Rattle.std.specs.Prelude.{◌≡◌, List, All, IfOk, IfSome};
+ghost use Rattle.lvdc_port.specs.Device.{Device};
+ghost use Rattle.lvdc_snapshot.specs.Snapshot.{IsWhole};
+ghost use Rattle.lvdc_campaign.specs.Campaign.{IsScript};
+ghost use Rattle.lvdc_campaign.specs.Ran.{HasRunPlainly};
+ghost use Rattle.lvdc_study.specs.Study.{opening_over, IsProgram, row_of};
+ghost use Rattle.lvdc_study.specs.Waypoints.{IsWaypoint};
 ghost use Rattle.lvdc_console.specs.Rack.{rack};
 
 use crate::devices::{four_tapes, other_devices, plug_in_four, sixteen_devices};
@@ -5,9 +12,33 @@ use crate::rack::is_whole;
 use lvdc_fault::Named;
 use lvdc_machine::Snapshot;
 use lvdc_plain::Plain;
-use lvdc_study::{Bench, Program, Row, Unstudied, make_stations, run_plain, study_script};
+use lvdc_study::{
+    Bench, Program, Row, Unstudied, Waypoint, make_stations, make_waypoints, run_plain,
+    study_apart, study_script,
+};
 use lvdc_word::NoMemory;
 use std::alloc::Global;
+
+/// The row of a script from a waypoint, over sixteen devices of its own, where one can be told so.
+fn study_apart_over_rack(
+    alloc: Global,
+    program: &Program<'_>,
+    plain: &Plain,
+    waypoints: &[Waypoint],
+    named: &Named,
+) -> Result<Option<Row>, NoMemory>
+    requires program { IsProgram program.now }
+    requires script { IsScript named.now }
+    requires whole { All (λ w. IsWhole w.snapshot) waypoints.now }
+    ensures { IfOk result (λ made. IfSome made (λ row. (first : List Device) → HasRunPlainly (opening_over program.now first) program.now.count plain.now
+        → All (IsWaypoint (opening_over program.now first) program.now.count) waypoints.now → row ≡ row_of (opening_over program.now first) program.now.count named.now)) }
+{
+    if waypoints.is_empty() {
+        return Ok(None);
+    }
+    let mut devices = sixteen_devices!(alloc);
+    study_apart(alloc, program, plain, waypoints, named, &mut devices)
+}
 
 /// The bench of the program: each run of a study has sixteen devices of its own, which are made for it and dropped with it.
 pub(crate) struct Rack;
@@ -33,14 +64,28 @@ impl Bench for Rack {
         make_stations(alloc, program, &mut devices)
     }
 
+    fn make_waypoints(
+        &self,
+        alloc: Global,
+        program: &Program<'_>,
+        plain: &Plain,
+    ) -> Result<Vec<Waypoint>, NoMemory> {
+        let mut devices = sixteen_devices!(alloc);
+        make_waypoints(alloc, program, plain, &mut devices)
+    }
+
     fn study_script(
         &self,
         alloc: Global,
         program: &Program<'_>,
         plain: &Plain,
         stations: &[Snapshot],
+        waypoints: &[Waypoint],
         named: Named,
     ) -> Result<Row, Unstudied> {
+        if let Some(row) = study_apart_over_rack(alloc, program, plain, waypoints, &named)? {
+            return Ok(row);
+        }
         let mut devices = sixteen_devices!(alloc);
         study_script(alloc, program, plain, stations, named, &mut devices)
     }

@@ -7,3 +7,10 @@ mod Making
 mod Parts
 mod Rowing
 mod Studying
+mod Alongside
+mod Prefixes
+mod Replayed
+mod Waypointed
+mod Counted
+mod Again
+mod Lines

@@ -1,5 +1,5 @@
 -- A row, by what the runs of its script came to.
-use Rattle.std.proofs.Common.{◌≡◌, ℕ, ◌*◌, Bool, true, List, sym, ◌∙◌}
+use Rattle.std.proofs.Common.{◌≡◌, ℕ, ◌*◌, ◌≤◌, Bool, true, List, sym, ◌∙◌}
 use Rattle.std.specs.declared.option.Option.{Option}
 use Rattle.std.specs.declared.option.Option.TheVariants.{None}
 use Rattle.lvdc_port.specs.Device.{Device}
@@ -23,6 +23,7 @@ use Rattle.lvdc_campaign.specs.Window.{IsWindow, TellsAll}
 use Rattle.lvdc_study.specs.declared.difference.Difference.{Difference}
 use Rattle.lvdc_study.specs.declared.program.Program.{Program}
 use Rattle.lvdc_study.specs.Outcomes.{first_difference}
+use Rattle.lvdc_study.specs.Waypoints.{HasReplayed}
 use Rattle.lvdc_study.specs.Study.{opening_over, row_with, row_of, IsSame}
 
 row-is : (opening : Opening) (times : ℕ) (named : Named) (verdict : Verdict) (difference : Option Difference) (counts : List (List ℕ)) (repairs : List Repair) (form : Bool)
@@ -48,6 +49,26 @@ admissible-row p devices named judged times window run verdict tells form is_for
     let counted = done o times judged run good in
     row-is (opening_over p devices) p.count named verdict None judged.counts judged.repairs form (admitted ∙ sym all.admissible)
     (sym (same o p.count run.opening all.admissible).difference) (counted.0 ∙ all.counts) (counted.1 ∙ all.repairs) is_form
+
+-- where a script masks by form, and a machine has replayed the times in which its events act
+pub replayed-row : (p : Program) (devices : List Device) (named : Named) (made : View) (times lines : ℕ) → IsWindow named.script times p.count
+    → IsOpening (opening_over p devices) → masks named.script p.banks p.count ≡ true
+    → HasReplayed (trial_under (opening_over p devices) named.script) times lines made
+    → ((o : Trial) (times : ℕ) → IsOpening o.opening → first_bad o times ≡ Admissible → IsSame o times)
+    → ((o : Trial) (count : ℕ) → IsOpening o.opening → masks o.script o.opening.banks count ≡ true → Masked o count)
+    → ((o : Trial) (times count : ℕ) → IsOpening o.opening → IsWindow o.script times count → first_bad o times ≡ Admissible → TellsAll o times count)
+    → ((o : Trial) (times lines : ℕ) (m : View) → IsOpening o.opening → HasReplayed o times lines m → first_bad o times ≡ Admissible
+    → (m.counts ≡ (through o (3 * times)).counts) × (m.repairs ≡ (through o (3 * times)).repairs))
+    → ((o : Trial) (times count : ℕ) → times ≤ count → first_bad o count ≡ Admissible → first_bad o times ≡ Admissible)
+    → row_with named.name Admissible None made.counts made.repairs true ≡ row_of (opening_over p devices) p.count named
+replayed-row p devices named made times lines window opens form h same masked tells-all counted early =
+    let o = trial_under (opening_over p devices) named.script in
+    let whole = (masked o p.count opens form).verdict in
+    let good = early o times p.count window.within whole in
+    let all = tells-all o times p.count opens window good in
+    let told = counted o times lines made opens h good in
+    row-is (opening_over p devices) p.count named Admissible None made.counts made.repairs true (sym whole) (sym (same o p.count opens whole).difference)
+    (told.0 ∙ all.counts) (told.1 ∙ all.repairs) (sym form)
 
 -- a machine has judged a script over these devices, and this is what it tells of the verdict; and whether the script masks by form is this
 module _ (p : Program) (devices : List Device) (named : Named) (judged : View) (run : HasRun Guarded (trial_under (opening_over p devices) named.script) p.count judged)

@@ -39,6 +39,10 @@ EndsPlainlyIn _ port = ⊥
 
 -- ---- devices in their first states, of a run that isn't seen
 
+-- A bench makes the devices of a run and lets them go with it, so whoever asked has none left whose count of faults could be compared, and
+-- a clause that only says that there are such devices holds of any port. So what follows says where a run comes to, and `HasFailed`, of
+-- the calls that are lent the devices, that the device has failed.
+
 -- a run of the voted machine comes in this step to an exchange with the device at this port
 pub record Exchanges (o : Trial) (times step port : ℕ) : Type 0 where
   pub mode : Mode

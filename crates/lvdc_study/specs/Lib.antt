@@ -1,3 +1,4 @@
 pub mod Outcomes
 pub mod Study
 pub mod Failures
+pub mod Waypoints

@@ -7,9 +7,10 @@ ghost use Rattle.lvdc_campaign.specs.Ran.{HasRunPlainly};
 ghost use Rattle.lvdc_campaign.specs.Stations.{IsStation};
 ghost use Rattle.lvdc_study.specs.Failures.{FailsUnder, FailsPlainly};
 ghost use Rattle.lvdc_study.specs.Study.{opening_over, IsProgram, row_of};
+ghost use Rattle.lvdc_study.specs.Waypoints.{IsWaypoint};
 ghost use Rattle.lvdc_study.specs.declared.fault.Unstudied.TheVariants.{NoMemory as WantsMemory};
 
-use crate::{Program, Row, Unstudied};
+use crate::{Program, Row, Unstudied, Waypoint};
 use lvdc_fault::Named;
 use lvdc_machine::Snapshot;
 use lvdc_plain::Plain;
@@ -38,18 +39,31 @@ pub trait Bench {
         requires { IsProgram program.now }
         ensures { IfOk result (λ stations. All (IsStation (opening_over program.now (devices self.now)) program.now.count) stations.items) };
 
-    /// The row of a script, beside the plain run of the same program. Its run may go on from a station of that program.
+    /// Waypoints of a program, whose plain run was made.
+    fn make_waypoints(
+        &self,
+        alloc: Global,
+        program: &Program<'_>,
+        plain: &Plain,
+    ) -> Result<Vec<Waypoint>, NoMemory>
+        requires program { IsProgram program.now }
+        requires plain { HasRunPlainly (opening_over program.now (devices self.now)) program.now.count plain.now }
+        ensures { IfOk result (λ waypoints. All (IsWaypoint (opening_over program.now (devices self.now)) program.now.count) waypoints.items) };
+
+    /// The row of a script, beside the plain run of the same program. Its run may go on from a station or a waypoint of that program.
     fn study_script(
         &self,
         alloc: Global,
         program: &Program<'_>,
         plain: &Plain,
         stations: &[Snapshot],
+        waypoints: &[Waypoint],
         named: Named,
     ) -> Result<Row, Unstudied>
         requires program { IsProgram program.now }
         requires plain { HasRunPlainly (opening_over program.now (devices self.now)) program.now.count plain.now }
         requires stations { All (IsStation (opening_over program.now (devices self.now)) program.now.count) stations.now }
+        requires waypoints { All (IsWaypoint (opening_over program.now (devices self.now)) program.now.count) waypoints.now }
         requires script { IsScript named }
         ensures row { IfOk result (λ row. row ≡ row_of (opening_over program.now (devices self.now)) program.now.count named) }
         ensures failed { IfErr result (λ e. FailsUnder (trial_under (opening_over program.now (devices self.now)) named.script) program.now.count e) }

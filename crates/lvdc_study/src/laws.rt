@@ -14,6 +14,7 @@ ghost use Rattle.lvdc_campaign.specs.Ran.{HasRun};
 ghost use Rattle.lvdc_study.specs.Failures.{FailsPlainly, FailsUnder};
 ghost use Rattle.lvdc_study.specs.Outcomes.{first_difference};
 ghost use Rattle.lvdc_study.specs.Study.{rows_of, IsSame, KeepsLaws};
+ghost use Rattle.lvdc_study.specs.Waypoints.{HasReplayed};
 ghost use Rattle.lvdc_study.specs.declared.fault.Unstudied.{Unstudied};
 
 /// A law, which does nothing when it runs: under a script whose steps are all admissible the run through every fault comes to
@@ -46,6 +47,16 @@ pub(crate) fn judged_goes_through()
 {
     lvdc_campaign::through_is_guarded();
     lvdc_laws_voted::judges_alone();
+}
+
+/// A law: where all steps of the times of a script's window are admissible, a machine that made them over whatever devices has counted and
+/// repaired what the run through every fault has in the end.
+pub(crate) fn replayed_counts()
+    ensures counts { (o : Trial) (times lines : ℕ) (m : View) → IsOpening o.opening → HasReplayed o times lines m → first_bad o times ≡ Admissible
+        → (m.counts ≡ (through o (3 * times)).counts) × (m.repairs ≡ (through o (3 * times)).repairs) }
+    ensures early { (o : Trial) (times count : ℕ) → times ≤ count → first_bad o count ≡ Admissible → first_bad o times ≡ Admissible }
+{
+    lvdc_campaign::through_is_guarded();
 }
 
 /// A law: where the plain run fails before a script begins, a run under the script fails there too.

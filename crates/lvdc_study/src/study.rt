@@ -36,7 +36,7 @@ fn first_step(repairs: &[Repair]) -> Option<u64>
 }
 
 /// The row of a name, with what a machine counted and repaired.
-fn row_with(
+pub(crate) fn row_with(
     name: Seq<u8>,
     verdict: Verdict,
     difference: Option<Difference>,
@@ -58,7 +58,7 @@ fn row_with(
 }
 
 /// Whether a script masks by form in the run of a program.
-fn masks(alloc: Global, program: &Program<'_>, script: &Script) -> Result<bool, NoMemory>
+pub(crate) fn masks(alloc: Global, program: &Program<'_>, script: &Script) -> Result<bool, NoMemory>
     ensures { IfOk result (λ answer. answer ≡ masks script.now program.now.banks program.now.count) }
 {
     let unmet = first_unmet(alloc, script, program.banks, program.count)?;

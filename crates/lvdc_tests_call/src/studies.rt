@@ -10,7 +10,10 @@ use lvdc_fault::Named;
 use lvdc_machine::Snapshot;
 use lvdc_plain::Plain;
 use lvdc_port::{Failing, PortDevice, Tape};
-use lvdc_study::{Bench, Program, Row, Unstudied, make_stations, run_plain, study_script};
+use lvdc_study::{
+    Bench, Program, Row, Unstudied, Waypoint, make_stations, make_waypoints, run_plain,
+    study_script,
+};
 use lvdc_word::NoMemory;
 use std::alloc::Global;
 use std::process::Abort;
@@ -55,12 +58,23 @@ impl Bench for OneTape {
         make_stations(alloc, program, &mut devices)
     }
 
+    fn make_waypoints(
+        &self,
+        alloc: Global,
+        program: &Program<'_>,
+        plain: &Plain,
+    ) -> Result<Vec<Waypoint>, NoMemory> {
+        let mut devices = one_tape(alloc, self.fails)?;
+        make_waypoints(alloc, program, plain, &mut devices)
+    }
+
     fn study_script(
         &self,
         alloc: Global,
         program: &Program<'_>,
         plain: &Plain,
         stations: &[Snapshot],
+        _waypoints: &[Waypoint],
         named: Named,
     ) -> Result<Row, Unstudied> {
         let mut devices = one_tape(alloc, self.fails)?;

@@ -3,6 +3,8 @@ use Rattle.std.proofs.lemmas.List.Elements.{All-head, All-tail, All-contains_its
 use Rattle.lvdc_fault.specs.declared.named.Named.{Named}
 use Rattle.lvdc_campaign.specs.Campaign.{IsScript}
 use Rattle.lvdc_study.specs.Study.{opening_over, row_of}
+use Rattle.lvdc_study.specs.Waypoints.{IsWaypoint}
+use Rattle.lvdc_study.specs.declared.waypoint.Waypoint.{Waypoint}
 use Rattle.lvdc_study.proofs.Studying.{mapped-more, plain-fails, script-fails}
 use Rattle.lvdc_study.proofs.scripts.study_scripts.Goals as goal
 
@@ -39,3 +41,8 @@ returns-in-Err-study_script-clause-failed g c =
     (All-head (Contains c.args.scripts.items) c.in-Some.named c.next.new.self.rest.items
     (subst (All (Contains c.args.scripts.items)) steps c.loop-named.invariant.known))
     c.in-Err-study_script.e c.in-Err-study_script.ensures.failed
+
+pub study_script-requires-clause-waypoints : goal.study_script-requires-clause-waypoints
+study_script-requires-clause-waypoints g c =
+    subst (All (IsWaypoint (opening_over c.args.program.now (g.B.Bench.devices c.args.bench.now)) c.args.program.now.count))
+    (sym {A = List Waypoint} c.deref-in-loop-named.ensures.value) c.in_ok-waypoints.ensures

@@ -1,14 +1,27 @@
 use Rattle.std.proofs.Common.{◌≡◌, All, List, IfOk, IfErr, sym, subst}
+use Rattle.std.proofs.lemmas.List.Elements.{All-weaker}
 use Rattle.std.proofs.lemmas.Result.{IfErr-weaker}
 use Rattle.lvdc_port.specs.Device.{Device}
+use Rattle.lvdc_snapshot.specs.Snapshot.{IsWhole}
 use Rattle.lvdc_campaign.specs.Campaign.{trial_under}
 use Rattle.lvdc_campaign.specs.Ran.{HasRunPlainly}
 use Rattle.lvdc_campaign.specs.Stations.{IsStation}
 use Rattle.lvdc_study.specs.Failures.{FailsUnder}
 use Rattle.lvdc_study.specs.Study.{opening_over, row_of}
+use Rattle.lvdc_study.specs.Waypoints.{IsWaypoint}
+use Rattle.lvdc_study.specs.declared.waypoint.Waypoint.{Waypoint}
 use Rattle.lvdc_console.specs.Rack.{rack}
-use Rattle.lvdc_console.proofs.Benched.{wants_memory}
+use Rattle.lvdc_console.proofs.Benched.{some-is, wants_memory}
 use Rattle.lvdc_console.proofs.bench.RackBench.study_script.Goals as goal
+
+pub study_apart_over_rack-requires-clause-whole : goal.study_apart_over_rack-requires-clause-whole
+study_apart_over_rack-requires-clause-whole c =
+    All-weaker (IsWaypoint (opening_over c.args.program.now rack) c.args.program.now.count) (λ (w : Waypoint). IsWhole w.snapshot) (λ w at. at.whole)
+    c.args.waypoints.now c.requires.waypoints
+
+pub returns-in-Some-clause-row : goal.returns-in-Some-clause-row
+returns-in-Some-clause-row c =
+    some-is _ c.in_ok-row.field-0 c.in-Some.row c.in-Some.is c.in_ok-row.ensures rack c.requires.plain c.requires.waypoints
 
 pub study_script-requires-clause-plain : goal.study_script-requires-clause-plain
 study_script-requires-clause-plain c =
