@@ -73,6 +73,8 @@ NAMED = [
           {(6, 1): control(0, 9), (6, 2): 5, (6, 3): 6, (6, 4): 7}),
     *made("spare-bits-of-control-stay", "The bits 9 to 25 of CONTROL stay through phases, and go with the landing.",
           {(6, 1): control(1, 7, 0o123456000), (6, 2): 5, (6, 3): 6, (6, 4): 7}, 4),
+    *made("spare-bits-of-control-give-a-quotient-no-sign", "A quotient is negative by bit 7 of CONTROL alone: the bits 9 to 25 say nothing of it.",
+          {(6, 1): control(3, 2, 0o123457000), (6, 2): 0o1234567, (6, 3): 0o1000, (6, 4): 0o35}, 3),
     *made("a-request-in-phase-c-of-a-hold", "Phase C makes the exchange that REQUEST names in a held time too, and REQUEST is 0 after it.",
           {(1, 0): 2, (1, 1): 3, (7, 1): 1 | 2 << 3 | 1 << 11, (5, 0): 0o765}),
     *made("request-is-0-after-phase-b-of-a-hold", "In phase B of a hold REQUEST becomes 0.",
