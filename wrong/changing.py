@@ -1,4 +1,4 @@
-"""Changes of a definition, one place at a time: what `tools/wrong/search` tries."""
+"""Changes of a definition, one place at a time: what `wrong/search` tries."""
 from collections.abc import Iterator
 from typing import NamedTuple
 

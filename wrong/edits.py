@@ -7,7 +7,7 @@ A file is named from the folder of the edit's crate. One that changes several cr
 import pathlib
 from collections.abc import Iterator
 
-TOP = pathlib.Path(__file__).resolve().parents[2]
+TOP = pathlib.Path(__file__).resolve().parent.parent
 
 
 class Misfit(Exception):
