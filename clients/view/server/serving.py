@@ -164,14 +164,14 @@ class Server:
 
     def serve_forever(self) -> None:
         """Takes requests until the program or the server ends."""
-        gathering = Gathering(self._listener, self._hand_on)
-        while not self._is_over:
-            try:
+        try:
+            gathering = Gathering(self._listener, self._hand_on)
+            while not self._is_over:
                 gathering.go_on()
-            except (OSError, ValueError):
-                # a listener that was closed can't be looked at
-                if not self._is_over:
-                    raise
+        except (OSError, ValueError):
+            # a listener that was closed can't be looked at
+            if not self._is_over:
+                raise
 
     def _hand_on(self, connection: socket.socket, came: bytes) -> None:
         """Lets a request wait for a thread, or turns it away."""
