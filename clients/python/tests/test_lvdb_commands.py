@@ -1,4 +1,6 @@
 """Each command of lvdb: what it answers, and that wrong arguments are told what is right and change nothing."""
+import resource
+import signal
 from pathlib import Path
 
 import pytest
@@ -214,6 +216,19 @@ def test_faults_are_lines_of_the_deck_from_the_next_step_on(sum_: Console, line:
         carry_out(sum_, f"save {path}")
     assert told(sum_, "undo").startswith(f"{fault} is out again")
     assert sum_.debugger.injected == ()
+
+
+def test_a_deck_without_room_is_not_saved_in_part(sum_: Console, tmp_path: Path) -> None:
+    path, limits = tmp_path / "saved.deck", resource.getrlimit(resource.RLIMIT_FSIZE)
+    before = signal.signal(signal.SIGXFSZ, signal.SIG_IGN)
+    resource.setrlimit(resource.RLIMIT_FSIZE, (10, limits[1]))
+    try:
+        with pytest.raises(CommandError, match="can't be written"):
+            carry_out(sum_, f"save {path}")
+    finally:
+        resource.setrlimit(resource.RLIMIT_FSIZE, limits)
+        signal.signal(signal.SIGXFSZ, before)
+    assert not path.exists()
 
 
 def test_a_deck_that_is_saved_runs_as_it_was_debugged(sum_: Console, worker: Asker, tmp_path: Path) -> None:

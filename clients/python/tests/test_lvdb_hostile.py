@@ -2,6 +2,7 @@
 --seconds=3600 goes on for an hour, with draws of its own."""
 import io
 import random
+import subprocess
 import time
 from collections.abc import Callable
 from pathlib import Path
@@ -136,3 +137,18 @@ def test_random_input_is_answered(worker: Worker, tmp_path: Path, pytestconfig: 
         draw.choice(ways)()
         done += 1
     print(f"{done} draws")
+
+
+def with_memory(kilobytes: int, *words: str) -> subprocess.CompletedProcess[str]:
+    """lvdb with these words, where it has so much memory at most."""
+    command = ["bash", "-c", f'ulimit -v {kilobytes}; exec "$@"', "bash", str(TOP / "clients/python/lvdb"), *words]
+    return subprocess.run(command, stdin=subprocess.DEVNULL, capture_output=True, text=True, check=False)
+
+
+def test_too_little_memory_is_told(worker: Worker, tmp_path: Path) -> None:
+    path = tmp_path / "long.deck"
+    path.write_text("IMAGE\nLVDC 1\nEND\nFAULTS\n" + "FLIP 1 1 0 0 0 1\n" * 60_000 + "RUN 1\n")
+    least = next(it for it in range(24_000, 400_000, 2_000) if with_memory(it, "--help").returncode == 0)
+    # what a process has room for differs by a little
+    told = with_memory(least + 8_000, str(path))
+    assert (told.returncode, told.stderr) == (1, "lvdb: there isn't enough memory\n")

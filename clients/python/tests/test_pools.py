@@ -150,6 +150,28 @@ def test_a_study_that_was_killed_goes_on_to_the_same_bytes(worker: Worker, tmp_p
     assert lvdc.study(DECK, kind, worker=worker, keep=tmp_path / "kept") == whole
 
 
+def test_a_study_whose_rows_have_not_come_to_the_disk_goes_on(worker: Worker, tmp_path: Path) -> None:
+    kind = scripts.pairs(DECK, modules=[5])
+    whole = lvdc.study(DECK, kind, worker=worker, keep=tmp_path / "kept", at_once=50)
+    text, marks = (tmp_path / "kept").read_bytes(), (tmp_path / "kept.made-of").read_bytes()
+    for size, behind in ((len(text) // 2, b""), (0, b""), (len(text), b"\0" * 100), (len(text) // 3, b"12 ab")):
+        (tmp_path / "kept").write_bytes(text[:size])
+        (tmp_path / "kept.made-of").write_bytes(marks + behind)
+        assert lvdc.study(DECK, kind, worker=worker, keep=tmp_path / "kept", at_once=70) == whole
+        assert (tmp_path / "kept").read_bytes() == text
+        assert lvdc.study(DECK, kind, worker=worker, keep=tmp_path / "kept") == whole
+
+
+def test_two_studies_at_once_are_not_at_work_in_one_file(worker: Worker, tmp_path: Path) -> None:
+    kind = scripts.pairs(DECK, modules=[5])
+    first = lvdc.study_each(DECK, kind, worker=worker, keep=tmp_path / "kept", at_once=50)
+    rows = [next(first)]
+    with pytest.raises(FileExistsError, match="another study is at work"):
+        lvdc.study(DECK, kind, worker=worker, keep=tmp_path / "kept")
+    rows += first
+    assert list(lvdc.study(DECK, kind, worker=worker, keep=tmp_path / "kept")) == rows
+
+
 def test_a_file_of_another_study_is_refused(worker: Worker, tmp_path: Path) -> None:
     kind = scripts.pairs(DECK, modules=[3])
     lvdc.study(DECK, kind, worker=worker, keep=tmp_path / "kept")

@@ -5,10 +5,12 @@ import time
 
 from gate import Refusal
 from lvdc.pools import Pool
-from lvdc.workers import Reply, TimeLimit, WorkerFailed
+from lvdc.workers import NoWorker, Reply, TimeLimit, WorkerFailed
 
 MOST_SECONDS = 2.0
 MOST_SECONDS_WAITED = 1.0
+# a question that has waited too long in a line of others
+LEAST_SECONDS = 0.001
 MOST_STEPS = 6000
 MOST_ANSWER = 8_388_608
 WHOLE = [["run"], ["run", "--through"], ["form"], ["asm"]]
@@ -36,11 +38,13 @@ class Asker:
         if not self._free.acquire(timeout=max(0.0, since + MOST_SECONDS_WAITED - time.monotonic())):
             raise Refusal(503, "Too many ask at once. Ask again in a second.")
         try:
-            reply = self._pool.ask(words, deck, since + MOST_SECONDS - time.monotonic())
+            reply = self._pool.ask(words, deck, max(LEAST_SECONDS, since + MOST_SECONDS - time.monotonic()))
         except TimeLimit as late:
             raise Refusal(504, f"The answer took more than {MOST_SECONDS:.0f} seconds. Take fewer instruction times.") from late
         except WorkerFailed as failed:
             raise Refusal(502, "The worker has ended while it was asked.") from failed
+        except NoWorker as none:
+            raise Refusal(502, "The worker can't be started.") from none
         finally:
             self._free.release()
         if len(reply.text) > MOST_ANSWER:

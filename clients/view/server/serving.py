@@ -167,7 +167,8 @@ class Server:
         try:
             gathering = Gathering(self._listener, self._hand_on)
             while not self._is_over:
-                gathering.go_on()
+                with contextlib.suppress(MemoryError):
+                    gathering.go_on()
         except (OSError, ValueError):
             # a listener that was closed can't be looked at
             if not self._is_over:
@@ -185,7 +186,7 @@ class Server:
         """Answers one waiting request after another."""
         while True:
             whole = waiting.get()
-            with contextlib.closing(whole.connection), contextlib.suppress(OSError):
+            with contextlib.closing(whole.connection), contextlib.suppress(OSError, MemoryError):
                 Handler(whole, self)
                 whole.connection.shutdown(socket.SHUT_WR)
 

@@ -11,6 +11,8 @@ from dataclasses import dataclass
 WORDS = pathlib.Path(__file__).resolve().parent.parent / "words"
 ENGLISH = "en"
 NAME = re.compile("[a-z]{2,3}(-[a-z0-9]{2,8})?")
+# words that stand on a lamp, which is as wide as a finger on a phone
+ON_LAMPS, MOST_ON_A_LAMP = ("op.", "request."), 5
 IN_BRACES = re.compile(r"\{\w*\}")
 
 # the sentences of a language, by their keys
@@ -59,6 +61,8 @@ def fault_of(key: str, sentence: str, found: Sentences, english: Sentences | Non
         return f"{key} has no sentence"
     if key in found:
         return f"{key} stands here twice"
+    if key.startswith(ON_LAMPS) and len(sentence) > MOST_ON_A_LAMP:
+        return f"{key} stands on a lamp, and has at most {MOST_ON_A_LAMP} letters"
     if english is None:
         return None
     if key not in english:

@@ -31,6 +31,18 @@ TEXT = "document.body.innerText"
 MEASURES = measures("h1, h2, p, button, .says, .number, .voter, .value, .port",
                     "h1, h2, #verdict, #more, button:not(.copy), .says, .voter, .value, .port, .angle", "button")
 
+# Which words that a copy may say are wider than the lamps.
+WIDER = """(() => {
+    const copy = document.querySelector('.copy'), says = copy.querySelector('.says');
+    if (!says) return ['no copy says anything'];
+    const before = says.textContent;
+    const words = Object.keys(LANGUAGES.en).filter((key) => /^(op|request)[.]/.test(key)).map((key) => flight.sight.words(key));
+    const isWider = (word) => { says.textContent = word; return says.getBoundingClientRect().width > copy.clientWidth; };
+    const found = [...new Set(words)].filter(isWider);
+    says.textContent = before;
+    return found;
+})()"""
+
 # All that a visitor can change.
 CONTROLS = """[document.documentElement.lang, document.getElementById('sound').ariaPressed, document.getElementById('told').open, flight.alone,
     flight.struck.length, flight.guess, document.querySelectorAll('.copy.struck, .memory[data-kind="dead"]').length, scrollY,
@@ -239,6 +251,7 @@ def try_state(page: Guest, tally: Tally, name: str) -> None:
     for language in page.run("Object.keys(Words.LANGUAGES)"):
         page.run(f"flight.speak('{language}')")
         tally.expect(f"{name}, {language}", page.run(MEASURES), FINE)
+        tally.expect(f"{name}, {language}: words that are wider than their lamps", page.run(WIDER), [])
         tally.expect(f"{name}, {language}: what visitors can't read", unreadable(page.run(ALL_TEXTS)), [])
 
 

@@ -5,6 +5,7 @@ import contextlib
 import os
 import pathlib
 import random
+import shutil
 import signal
 import sys
 import tempfile
@@ -26,7 +27,7 @@ PATHS = ["", "ask/run", "ask/form", "ask/save/2", "ask/trace/0/9", "ask/run/--th
          "\u00e9"]
 PIECES = [b"\r\n", b"\n", b"\r", b"\0", b": ", b" ", b"\xff\xfe", b"\r\n\r\n", b"Content-Length: 3\r\n", b"Transfer-Encoding: chunked\r\n",
           b"x" * 5000, b"%00", b"\t"]
-AT_ONCE = 24
+AT_ONCE, MORE_THAN_THREADS = 24, 40
 SECONDS_OF_KILLING = 3.0
 
 
@@ -86,16 +87,20 @@ def try_drawn(lab: Lab, tally: Tally, count: int, number: int) -> dict[int, int]
     return told
 
 
+def kill_workers(lab: Lab) -> None:
+    """Kills all workers of a lab, which are the processes below it."""
+    for process in children_of(lab.process.pid):
+        with contextlib.suppress(ProcessLookupError):
+            os.kill(process, signal.SIGKILL)
+
+
 def try_killed(lab: Lab, tally: Tally) -> None:
     """Workers are killed again and again while the lab is asked: each answer is whole, or says that the worker has ended or that it took too long."""
     over = threading.Event()
 
     def kill() -> None:
         while not over.wait(0.1):
-            for process, command in children_of(lab.process.pid).items():
-                if command.startswith(lab.worker):
-                    with contextlib.suppress(ProcessLookupError):
-                        os.kill(process, signal.SIGKILL)
+            kill_workers(lab)
 
     due = lab.asked("run", DECK, *lab.own_headers(DECK))
     killer = threading.Thread(target=kill)
@@ -115,6 +120,21 @@ def try_killed(lab: Lab, tally: Tally) -> None:
     goes_on(lab, tally, "after workers were killed")
 
 
+def try_gone(tally: Tally, worker: str) -> None:
+    """The worker's file goes while the lab runs, and comes again: more questions than it has threads are told so, and then it answers as before."""
+    with tempfile.TemporaryDirectory() as folder:
+        own, away = pathlib.Path(folder, "lvdc-worker"), pathlib.Path(folder, "away")
+        shutil.copy(worker, own)
+        with Lab(str(own)) as lab:
+            goes_on(lab, tally, "before its worker goes")
+            own.rename(away)
+            kill_workers(lab)
+            statuses = {status_of(lab.asked("run", DECK, *lab.own_headers(DECK))) for _ in range(MORE_THAN_THREADS)}
+            tally.expect("questions where there is no worker", statuses, {502})
+            away.rename(own)
+            goes_on(lab, tally, "after its worker has come again")
+
+
 def try_kept(tally: Tally, worker: str) -> None:
     """A file without a byte, as a disk without room leaves one, keeps no address; what is kept there is whole, and is found again."""
     with tempfile.TemporaryDirectory() as folder:
@@ -128,11 +148,12 @@ def try_kept(tally: Tally, worker: str) -> None:
 
 
 def main(worker: str, count: int, number: int) -> None:
-    """Tries all three, and tells how many requests had which status."""
+    """Tries all of it, and tells how many requests had which status."""
     tally = Tally()
     with Lab(worker) as lab:
         told = try_drawn(lab, tally, count, number)
         try_killed(lab, tally)
+    try_gone(tally, worker)
     try_kept(tally, worker)
     print(f"lab: {count} drawn requests of number {number}:", ", ".join(f"{told[status]} by {status}" for status in sorted(told)))
     sys.exit(tally.failed > 0)

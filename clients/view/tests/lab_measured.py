@@ -79,6 +79,17 @@ FEW_TABS = ["tab-copies", "tab-outcome"]
 WHOLE = ["at first", "much is broken", "octal"]
 
 _TABS = "[...document.querySelectorAll('#tabs [role=\"tab\"]')].filter((it) => it.checkVisibility()).map((it) => it.id)"
+# choices whose words have no room in their field; programs, which are many and long, end in dots
+CUT_CHOICES = """(() => {
+    const pen = document.createElement('canvas').getContext('2d');
+    return [...document.querySelectorAll('select:not(#program)')].filter((it) => it.checkVisibility()).flatMap((it) => {
+        const style = getComputedStyle(it);
+        pen.font = style.font;
+        const room = it.clientWidth - parseFloat(style.paddingLeft) - parseFloat(style.paddingRight) - ARROW;
+        return [...it.options].map((option) => option.text).filter((text) => pen.measureText(text).width > room);
+    });
+})()""".replace("ARROW", "28")
+
 _FRAMES = "await new Promise((done) => requestAnimationFrame(() => requestAnimationFrame(done)))"
 
 
@@ -90,6 +101,7 @@ def try_state(page: Visitor, tally: Tally, name: str, is_whole: bool) -> None:
         for tab in tabs:
             measured = page.run(f"(async () => {{ document.getElementById('{tab}').click(); {_FRAMES}; return {MEASURES}; }})()")
             tally.expect(f"{name}, {language}, {tab}", measured, FINE)
+            tally.expect(f"{name}, {language}, {tab}: choices that are cut", page.run(CUT_CHOICES), [])
 
 
 def try_size(page: Visitor, tally: Tally, address: str, size: tuple[int, int]) -> None:

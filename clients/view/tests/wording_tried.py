@@ -12,6 +12,7 @@ WRONG = {
     "language Italiano\nbuss pullman\n": "line 2: there is no key buss",
     "language Italiano\n\n# note\nbus\n": "line 4: bus has no sentence",
     "language Italiano\nbus a\nbus b\n": "line 3: bus stands here twice",
+    "language Italiano\nop.SHF sposta\n": "line 2: op.SHF stands on a lamp",
     "bus pullman\n": "line 1: there is no line with the key language",
     "language Fran\udce7ais\n": "line 1: this is no UTF-8",
 }

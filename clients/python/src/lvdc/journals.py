@@ -2,15 +2,20 @@
 
 Beside the file of rows stands NAME.made-of: a line for each piece that is whole in the file, with how many scripts there are by then, a hash
 of the deck and of all of these, and how many bytes the rows have. What stands behind the last such piece is cut off and asked again, so the
-file comes to the same bytes. It stays there, so that the same study, asked once more, is read and not run."""
+file comes to the same bytes. It stays there, so that the same study, asked once more, is read and not run. One study at a time is at work."""
+import fcntl
 import hashlib
 import os
+import re
 from collections.abc import Iterator
 from pathlib import Path
-from typing import NamedTuple
+from typing import BinaryIO, NamedTuple
 
 from lvdc.lines import decode, encode
 from lvdc.scripts import Script
+
+
+_MARK = re.compile(rb"([0-9]+) ([0-9a-f]{64}) ([0-9]+)\n")
 
 
 class Mark(NamedTuple):
@@ -31,6 +36,7 @@ class Journal:
         self._scripts = 0
         if self.path.exists() and not self.beside.exists():
             raise FileExistsError(f"{self.path} is there, and no {self.beside.name} beside it: name a new file")
+        self._lock = self._locked()
         self.marks = list(self._read_marks())
         size = self.marks[-1].size if self.marks else 0
         if self.path.exists():
@@ -41,6 +47,10 @@ class Journal:
         if not self.is_whole:
             with open(self.path, "ab") as file:
                 file.truncate(size)
+
+    def close(self) -> None:
+        """Lets another study take the file."""
+        self._lock.close()
 
     def text(self) -> str:
         """The rows that are there, up to the last mark."""
@@ -72,6 +82,16 @@ class Journal:
             with open(self.path, "ab") as file:
                 file.write(encode(total))
 
+    def _locked(self) -> BinaryIO:
+        """What stands beside the file, locked. Raises FileExistsError where another study is at work."""
+        lock = open(self.beside, "ab")
+        try:
+            fcntl.flock(lock, fcntl.LOCK_EX | fcntl.LOCK_NB)
+        except BlockingIOError as error:
+            lock.close()
+            raise FileExistsError(f"another study is at work in {self.path}: name a new file") from error
+        return lock
+
     def _take(self, script: Script) -> None:
         """One more script."""
         self._scripts += 1
@@ -82,15 +102,12 @@ class Journal:
         return decode(self.path.read_bytes()[size:])
 
     def _read_marks(self) -> Iterator[Mark]:
-        """The marks of whole lines whose rows are there."""
-        if not self.beside.exists():
-            return
-        size = self.path.stat().st_size if self.path.exists() else 0
-        whole = self.beside.read_bytes()
-        kept = whole[:whole.rfind(b"\n") + 1]
-        if kept != whole:
-            self.beside.write_bytes(kept)
-        for line in kept.decode("ascii").splitlines():
-            scripts, hashed, bytes_ = line.split(" ")
-            if int(bytes_) <= size:
-                yield Mark(int(scripts), hashed, int(bytes_))
+        """The marks of whole lines whose rows are there; what stands behind them is cut off, since after a failure of power it may be anything."""
+        size, end = self.path.stat().st_size if self.path.exists() else 0, 0
+        for line in self.beside.read_bytes().splitlines(keepends=True):
+            found = _MARK.fullmatch(line)
+            if found is None or int(found[3]) > size:
+                break
+            end += len(line)
+            yield Mark(int(found[1]), found[2].decode("ascii"), int(found[3]))
+        os.truncate(self.beside, end)

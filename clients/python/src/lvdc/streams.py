@@ -1,5 +1,6 @@
 """Standard streams that may be closed or full, and files and lines that may be of any size."""
 import contextlib
+import errno
 import io
 import os
 import sys
@@ -12,6 +13,7 @@ from lvdc.limits import MOST_BYTES, MOST_CHARACTERS
 from lvdc.lines import ERRORS
 
 _PIECE = 1 << 16
+NO_MEMORY = "there isn't enough memory"
 
 
 class BadFile(Error):
@@ -59,6 +61,9 @@ def telling(name: str) -> Iterator[None]:
         if not isinstance(error, BrokenPipeError):
             complain(f"{name}: what is told can't be written: {error.strerror}")
         sys.exit(1)
+    except MemoryError:
+        complain(f"{name}: {NO_MEMORY}")
+        sys.exit(1)
 
 
 def read_file(path: Path) -> bytes:
@@ -71,6 +76,17 @@ def read_file(path: Path) -> bytes:
     if len(text) > MOST_BYTES:
         raise BadFile(f"{path} has more than {MOST_BYTES} bytes, which is the most that is read")
     return text
+
+
+def write_new(path: Path, text: bytes) -> None:
+    """Writes a file that isn't there yet; where there is no room for all of it, nothing is left."""
+    with path.open("xb", buffering=0) as file:
+        try:
+            if file.write(text) < len(text):
+                raise OSError(errno.ENOSPC, os.strerror(errno.ENOSPC), str(path))
+        except OSError:
+            path.unlink()
+            raise
 
 
 def read_line(stream: TextIO) -> str:

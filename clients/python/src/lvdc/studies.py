@@ -1,5 +1,6 @@
 """Campaigns and studies of any number of scripts: asked in pieces that one request takes, side by side over a pool, with rows that know
 their scripts."""
+import contextlib
 import io
 import os
 from collections.abc import Callable, Iterable, Iterator, Sequence, Sized
@@ -265,8 +266,15 @@ class _Asked:
 
     def _each(self, scripts: Iterator[Script], total: int | None) -> Iterator[Any]:
         """The rows: those that the journal has, and then those that are asked for."""
+        if self.keep is None:
+            yield from self._asked(None, scripts, total)
+            return
         head = campaign_text(self.deck, [], ports=True)
-        journal = None if self.keep is None else Journal(self.keep, self.command, head)
+        with contextlib.closing(Journal(self.keep, self.command, head)) as journal:
+            yield from self._asked(journal, scripts, total)
+
+    def _asked(self, journal: Journal | None, scripts: Iterator[Script], total: int | None) -> Iterator[Any]:
+        """The same over a journal, or without one."""
         counts = [0, 0, 0, 0]
         done = 0
         if journal is not None:

@@ -282,7 +282,7 @@ window.LANGUAGES = {
   "op.DIV": "by",
   "op.TNZ": "test",
   "op.MPH": "times",
-  "op.AND": "select",
+  "op.AND": "mask",
   "op.ADD": "plus",
   "op.TRA": "jump",
   "op.XOR": "match",

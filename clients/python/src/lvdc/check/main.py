@@ -1,4 +1,5 @@
 """The command lvdc-check: lvdc-check FILE .., lvdc-check --fraction NUMBER .., or lvdc-check --told REFUSAL FILE."""
+import signal
 import sys
 from collections.abc import Iterator, Sequence
 from pathlib import Path
@@ -8,7 +9,7 @@ from lvdc.check.mending import MOST_FINDINGS, Finding, findings_of, told_of
 from lvdc.errors import Error
 from lvdc.lines import decode
 from lvdc.refusals import Refused
-from lvdc.streams import complain, drop_output, open_streams, read_file
+from lvdc.streams import NO_MEMORY, complain, drop_output, open_streams, read_file
 from lvdc.workers import Asker, Worker
 
 USAGE = """usage: lvdc-check FILE ..
@@ -75,6 +76,7 @@ def carry_out(words: Sequence[str]) -> int:
 
 def main() -> None:
     """The command."""
+    signal.signal(signal.SIGINT, signal.default_int_handler)
     open_streams()
     try:
         status = carry_out(sys.argv[1:])
@@ -87,5 +89,8 @@ def main() -> None:
     except OSError as error:
         drop_output()
         complain(f"lvdc-check: what is told can't be written: {error.strerror}")
+        status = 1
+    except MemoryError:
+        complain(f"lvdc-check: {NO_MEMORY}")
         status = 1
     sys.exit(status)

@@ -6,6 +6,7 @@ from lvdc.lvdb import asking, hurting, looking, moving, stopping
 from lvdc.lvdb.console import Console, Leave
 from lvdc.lvdb.errors import CommandError
 from lvdc.lvdb.registry import COMMANDS, Told, carry_out, command, find, split, want_nothing
+from lvdc.streams import write_new
 
 __all__ = ["COMMANDS", "GROUPS", "carry_out", "find", "split"]
 
@@ -28,8 +29,7 @@ def save(console: Console, words: list[str]) -> Iterator[str]:
     if len(words) != 1:
         raise COMMANDS["save"].wrong("the name of a file is wanted")
     try:
-        with Path(words[0]).open("xb") as file:
-            file.write(str(console.debugger.deck).encode("utf-8", "surrogateescape"))
+        write_new(Path(words[0]), str(console.debugger.deck).encode("utf-8", "surrogateescape"))
     except (OSError, ValueError) as error:
         told = error.strerror if isinstance(error, OSError) else error
         raise CommandError(f"{words[0]} can't be written: {told}; name another file") from error

@@ -18,7 +18,7 @@ from lvdc.lvdb.prompt import Prompt, choose_prompt, plain_prompt
 from lvdc.lvdb.session import Debugger, Stop
 from lvdc.lvdb.show import Style
 from lvdc.refusals import Refused
-from lvdc.streams import complain, drop_output, open_streams
+from lvdc.streams import NO_MEMORY, complain, drop_output, open_streams
 from lvdc.values import STEPS_A_TIME
 from lvdc.workers import Asker, Worker
 
@@ -151,6 +151,9 @@ def main() -> None:
     except OSError as error:
         drop_output()
         complain(f"lvdb: what is told can't be written: {error.strerror}")
+        status = 1
+    except MemoryError:
+        complain(f"lvdb: {NO_MEMORY}")
         status = 1
     sys.exit(status)
 

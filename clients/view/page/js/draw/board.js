@@ -133,7 +133,9 @@ const Board = (() => {
             const memories = Parts.TWINS.map((twin) => this.memoryParts(twin));
             this.layer = svg('g', { class: 'moving', 'aria-hidden': 'true' });
             const name = bus.upright ? [] : [this.busName()];
-            this.element.replaceChildren(wires(this.places), ...name, ...parts, ...memories, this.portParts(), this.layer);
+            // no way of a word lies over the name of a memory
+            const twinNames = memories.flatMap((it) => [...it.querySelectorAll(':scope > .twin-name')]);
+            this.element.replaceChildren(wires(this.places), ...name, ...parts, ...memories, this.portParts(), this.layer, ...twinNames);
         }
 
         busName() {
