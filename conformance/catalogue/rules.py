@@ -1,4 +1,4 @@
-"""The rules on which cases rest. docs/EMULATORS.md says of each whether it was published or is this project's profile."""
+"""The rules on which cases rest. docs/MACHINE.md says of each whether it was published or is this project's profile."""
 import re
 from collections.abc import Sequence
 from typing import NamedTuple

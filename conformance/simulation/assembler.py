@@ -1,4 +1,4 @@
-"""The assembler and its listing (docs/FORMATS.md, "Source text")."""
+"""The assembler and its listing (docs/ASSEMBLER.md)."""
 import re
 from collections.abc import Iterator, Sequence
 from typing import NamedTuple

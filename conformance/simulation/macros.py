@@ -1,4 +1,4 @@
-"""Macros (docs/FORMATS.md, "Macros")."""
+"""Macros (docs/ASSEMBLER.md, "Macros")."""
 import re
 from typing import NoReturn
 

@@ -1,5 +1,1 @@
-pub mod Same
 pub mod Campaign
-pub mod Ran
-pub mod Stations
-pub mod Window

@@ -1,65 +1,51 @@
 //! The rows of a campaign.
 
-ghost use Rattle.std.specs.Prelude.{◌≡◌, ◌≤◌, length, true, IfOk, All};
+ghost use Rattle.std.specs.Prelude.{◌≡◌, ◌≤◌, length, map, true, IfOk, All};
 ghost use Rattle.lvdc_map.specs.Memory.{are_rising, AllThere};
+ghost use Rattle.lvdc_plain.specs.Run.{IsOpening};
 ghost use Rattle.lvdc_fault.specs.declared.verdict.Verdict.TheVariants as verdicts;
+ghost use Rattle.lvdc_runs.specs.Scripts.{IsScript};
 ghost use Rattle.lvdc_campaign.specs.declared.TheConstants.{MOST_TIMES, MOST_SCRIPTS};
-ghost use Rattle.lvdc_campaign.specs.Campaign.{program_of, opening_of, row_of, rows_of, IsProgram, IsScript};
-ghost use Rattle.lvdc_campaign.specs.Ran.{HasRunPlainly};
-ghost use Rattle.lvdc_campaign.specs.Stations.{IsStation};
+ghost use Rattle.lvdc_campaign.specs.Campaign.{program_of, short_row, rows_of};
 
 use crate::Row;
-use crate::late::{run_late, stations_for};
-use crate::laws::{admissible_is_same, window_tells_all};
-use crate::program::Program;
-use crate::runs::{is_admissible, run_plain, verdict_of};
-use crate::same::is_same;
-use crate::window::window_of;
+use crate::bench::NoDevices;
+use crate::laws::{admissible_rows_are_same, rows_are_of_a_study};
 use lvdc_fault::Named;
-use lvdc_machine::{Orders, Snapshot};
-use lvdc_map::{Banks, Hop, Placed};
-use lvdc_plain::Plain;
+use lvdc_machine::Orders;
+use lvdc_map::{Banks, Hop, Placed, is_hop_constant, places_words};
+use lvdc_study::{Program, study_scripts};
 use lvdc_word::NoMemory;
 use std::alloc::Global;
 
-/// The row of a script. The machine makes the times in which its events act, where no event is on memory; that which judged a script
-/// that isn't admissible goes on from there, through every fault.
-fn make_row(
-    alloc: Global,
-    program: &Program<'_>,
-    plain: &Plain,
-    stations: &[Snapshot],
-    named: Named,
-) -> Result<Row, NoMemory>
-    requires program { IsProgram program.now }
-    requires plain { HasRunPlainly (opening_of program.now) program.now.count plain.now }
-    requires stations { All (IsStation (opening_of program.now) program.now.count) stations.now }
-    requires script { IsScript named }
-    ensures row { IfOk result (λ row. row ≡ row_of (opening_of program.now) program.now.count named) }
-    ensures admissible { IfOk result (λ row. row.verdict ≡ verdicts.Admissible → row.same ≡ true) }
+/// A campaign opens with words and a HOP constant. The call has no effect.
+fn opens_with_words(image: &[Placed], start: Hop, banks: Banks)
+    ensures { IsOpening (program_of image.now start banks) }
 {
-    admissible_is_same();
-    window_tells_all();
-    let Named { name, script } = named;
-    let times = window_of(&script, program.count);
-    let mut machine = run_late(alloc, program, stations, script, times)?;
-    let verdict = verdict_of(&machine);
-    if is_admissible(&verdict) {
-        let same = true;
-        return Ok(Row {
-            name,
-            verdict,
-            same,
-        });
+    places_words(image);
+    is_hop_constant(start);
+}
+
+/// The shorter form of a row.
+fn short_row(row: lvdc_study::Row) -> Row
+    ensures { result ≡ short_row row }
+{
+    Row {
+        name: row.name,
+        verdict: row.verdict,
+        same: row.difference.is_none(),
     }
-    let mut devices = Vec::new(alloc);
-    machine.go_through(program.orders, &mut devices)?;
-    let same = is_same(&machine, plain);
-    Ok(Row {
-        name,
-        verdict,
-        same,
-    })
+}
+
+/// The shorter form of each row.
+fn short_rows(alloc: Global, studied: Vec<lvdc_study::Row>) -> Result<Vec<Row>, NoMemory>
+    ensures { IfOk result (λ rows. rows.items ≡ map short_row studied.items) }
+{
+    let mut rows = Vec::with_capacity(alloc, studied.len())?;
+    for row in studied {
+        rows.push(short_row(row))?;
+    }
+    Ok(rows)
 }
 
 /// Runs a program under each of these scripts, without devices. The plain run is made once for all of them.
@@ -84,19 +70,23 @@ pub fn campaign<'a>(
     // Each admissible script comes to what the plain run comes to.
     ensures admissible { IfOk result (λ rows. All (λ row. row.verdict ≡ verdicts.Admissible → row.same ≡ true) rows.items) }
 {
+    admissible_rows_are_same();
+    rows_are_of_a_study();
+    opens_with_words(image, start, banks);
     let program = Program {
         image,
         start,
         banks,
+        unplugs: &[],
+        supplies: &[],
         orders,
         count,
     };
-    let plain = run_plain(alloc, &program)?;
-    let stations = stations_for(alloc, &program, scripts.len())?;
-    let mut rows = Vec::with_capacity(alloc, scripts.len())?;
-    for named in scripts {
-        let row = make_row(alloc, &program, &plain, &stations, named)?;
-        rows.push(row)?;
+    let bench = NoDevices {
+        scripts: scripts.len(),
+    };
+    match study_scripts(alloc, &program, scripts, &bench) {
+        Ok(studied) => short_rows(alloc, studied),
+        Err(_) => Err(NoMemory),
     }
-    Ok(rows)
 }

@@ -15,7 +15,8 @@ use Rattle.lvdc_deck.specs.declared.fault.DeckFault.TheVariants as deck
 use Rattle.lvdc_campaign_deck.specs.Campaign.{from_campaign, by_count, campaign_of}
 use Rattle.lvdc_campaign_deck.specs.Faults.{name_of, line_of}
 use Rattle.lvdc_campaign_deck.specs.Scripts.{Scripts, named, nothing_said, with_script, with_event, scripts_from}
-use Rattle.lvdc_campaign_deck.specs.declared.TheConstants.{MOST_TIMES, MOST_SCRIPTS, MOST_EVENTS}
+use Rattle.lvdc_fault.specs.declared.TheConstants.{MOST_EVENTS}
+use Rattle.lvdc_campaign_deck.specs.declared.TheConstants.{MOST_TIMES, MOST_SCRIPTS}
 use Rattle.lvdc_campaign_deck.specs.declared.deck.CampaignDeck.{CampaignDeck}
 use Rattle.lvdc_campaign_deck.specs.declared.fault.CampaignFault.{CampaignFault}
 use Rattle.lvdc_campaign_deck.specs.declared.fault.CampaignFault.TheVariants.{NoMemory, BadSection, BadLine, CountTooLarge, TooManyScripts, TooManyEvents, Deck as InDeck}

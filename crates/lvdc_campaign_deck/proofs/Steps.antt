@@ -1,29 +1,20 @@
 -- Lines one after the other: the line CAMPAIGN, and the scripts that lines tell.
-use Rattle.std.proofs.Common.{◌≡◌, ℕ, suc, ◌+◌, ◌<◌, ◌≤◌, Bool, true, false, nat_le, nat_lt, ◌&&◌, ◌||◌, cond, is_some, refl, true≢false, List, [], ◌∷◌, ◌++◌, length, get_or, take, drop, map, codes, Option, None, Some, Result, Ok, Err, sym, ap, ◌∙◌, add-one, arith}
+use Rattle.std.proofs.Common.{◌≡◌, ℕ, ◌+◌, ◌<◌, ◌≤◌, Bool, true, false, nat_le, ◌&&◌, ◌||◌, is_some, refl, true≢false, List, [], ◌∷◌, ◌++◌, length, get_or, drop, map, Option, None, Some, Result, Ok, Err, sym, ap, ◌∙◌, arith}
 use Rattle.std.specs.Bool.{if◌then◌else◌}
 use Rattle.std.proofs.lemmas.List.{drop_more, drop_all, map-append}
 use Rattle.std.proofs.lemmas.Map.Made.{is_some-lookup}
 use Rattle.std.specs.Map.{lookup, keys_of}
 use Rattle.lvdc_text.specs.declared.cutting.Line.{Line}
-use Rattle.lvdc_text.specs.Lines.{lines_of, part_of}
+use Rattle.lvdc_text.specs.Lines.{part_of}
 use Rattle.std.specs.List.{list_all, list_any}
 use Rattle.std.specs.Str.{bytes_eq}
 use Rattle.std.proofs.lemmas.Bool.{and_parts}
 use Rattle.std.proofs.lemmas.Bool.Decides.{nat_tests}
-use Rattle.lvdc_port.specs.Device.{Device}
 use Rattle.lvdc_source.specs.Names.{is_capital, is_of_name, is_name}
-use Rattle.lvdc_deck.specs.Deck.{after_program, deck_of}
-use Rattle.lvdc_deck.specs.declared.deck.Deck.{Deck}
-use Rattle.lvdc_deck.specs.declared.fault.DeckFault.{DeckFault}
-use Rattle.lvdc_fault.specs.declared.event.Event.{Event}
 use Rattle.lvdc_fault.specs.declared.named.Named.{Named}
-use Rattle.lvdc_lines.specs.Lines.{fault_in}
-use Rattle.lvdc_campaign_deck.specs.declared.TheConstants.{MOST_SCRIPTS, MOST_EVENTS}
-use Rattle.lvdc_campaign_deck.specs.declared.deck.CampaignDeck.{CampaignDeck}
 use Rattle.lvdc_campaign_deck.specs.declared.fault.CampaignFault.{CampaignFault}
-use Rattle.lvdc_campaign_deck.specs.declared.fault.CampaignFault.TheVariants.{BadSection, BadLine, TooManyEvents}
-use Rattle.lvdc_campaign_deck.specs.Campaign.{is_campaign, from_campaign, by_deck, checked, program_of, campaign_with, by_lines, campaign_of}
-use Rattle.lvdc_campaign_deck.specs.Scripts.{and_then, Scripts, named, is_taken, nothing_said, all_scripts, script_line, with_event, fault_line, by_tokens, after_line, scripts_from}
+use Rattle.lvdc_campaign_deck.specs.Campaign.{is_campaign, from_campaign}
+use Rattle.lvdc_campaign_deck.specs.Scripts.{and_then, Scripts, is_taken, all_scripts, after_line, scripts_from}
 
 -- what an index past the end reads
 abbrev pub no_line : Line
@@ -48,52 +39,6 @@ module _ (bytes : List ℕ) (lines : List Line) (i : ℕ) (total : List Line) (s
   pub campaign-none : length lines ≤ i → [] ≡ total
   unfolding from_campaign
   campaign-none all = sym (ap (from_campaign bytes) (drop_all i lines all)) ∙ so_far
-
--- ---- a line of the scripts
-
-pub texts-of : (f : Line → List ℕ) (lines rest : List Line) → 0 < length lines → rest ≡ drop 1 lines → map f lines ≡ f (get_or lines 0 no_line) ∷ map f rest
-texts-of f lines rest within r = ap (map f) (drop_more lines 0 no_line within) ∙ ap (λ (ls : List Line). f (get_or lines 0 no_line) ∷ map f ls) (sym r)
-
-module _ (s : Scripts) (number : ℕ) (texts : List (List ℕ)) (first : List ℕ) (more : List (List ℕ)) (e : texts ≡ first ∷ more) where
-  by_first : (is : Bool) → bytes_eq first (codes "SCRIPT") ≡ is
-      → by_tokens s number texts ≡ (if is then script_line s number more else fault_line s number (fault_in texts))
-  by_first is q =
-      ap (by_tokens s number) e
-      ∙ ap (λ (b : Bool). if b then script_line s number more else fault_line s number (fault_in (first ∷ more))) q
-      ∙ ap (λ (ts : List (List ℕ)). if is then script_line s number more else fault_line s number (fault_in ts)) (sym e)
-
-  pub by-script : bytes_eq first (codes "SCRIPT") ≡ true → by_tokens s number texts ≡ script_line s number more
-  by-script q = by_first true q
-
-  pub by-event : bytes_eq first (codes "SCRIPT") ≡ false → by_tokens s number texts ≡ fault_line s number (fault_in texts)
-  by-event q = by_first false q
-
--- the last script has these events, and all have so many
-abbrev with_events : Scripts → Named → List Event → ℕ → Scripts
-with_events s named script events = record s { last = Some (record { name = named.name; script = script }); events = events }
-
-module _ (s all : Scripts) (same : s ≡ all) (number : ℕ) (said : Option Event) (event : Event) (is : said ≡ Some event) where
-  by_last : (last : Option Named) → s.last ≡ last → fault_line all number said ≡ with_event last s number event
-  by_last last l = ap (λ (t : Scripts). fault_line t number said) (sym same) ∙ ap (fault_line s number) is ∙ ap (λ (o : Option Named). with_event o s number event) l
-
-  pub event-none : s.last ≡ None → fault_line all number said ≡ Err (BadLine number)
-  event-none l = by_last None l
-
-  by_few : (named : Named) → s.last ≡ Some named → (few : Bool) → nat_lt s.events MOST_EVENTS ≡ few
-      → fault_line all number said ≡ (if few then Ok (with_events s named (named.script ++ event ∷ []) (suc s.events)) else Err (TooManyEvents number))
-  by_few named l few q =
-      by_last (Some named) l
-      ∙ ap (λ (b : Bool). if b then Ok (with_events s named (named.script ++ event ∷ []) (suc s.events)) else Err (TooManyEvents number)) q
-
-  pub event-many : (named : Named) → s.last ≡ Some named → MOST_EVENTS ≤ s.events → fault_line all number said ≡ Err (TooManyEvents number)
-  event-many named l many = by_few named l false (grind (arith, nat_tests))
-
-  pub event-more : (named : Named) → s.last ≡ Some named → s.events < MOST_EVENTS → (script : List Event) → script ≡ named.script ++ event ∷ []
-      → fault_line all number said ≡ Ok (with_events s named script (s.events + 1))
-  event-more named l few script made =
-      by_few named l true (grind (arith, nat_tests))
-      ∙ ap (λ (n : ℕ). Ok (with_events s named (named.script ++ event ∷ []) n)) (sym (add-one s.events))
-      ∙ ap (λ (events : List Event). Ok (with_events s named events (s.events + 1))) (sym made)
 
 -- ---- the scripts
 
@@ -146,44 +91,6 @@ pub names-more : {X : Type 0} (names after : List (List ℕ × X)) (x : X) (scri
 names-more {X} names after x scripts more script keys is made =
     ap keys_of is ∙ map-append (λ (e : List ℕ × X). e.0) names ((script.name, x) ∷ []) ∙ ap (λ (ks : List (List ℕ)). ks ++ script.name ∷ []) keys
     ∙ sym (map-append (λ (s : Named). s.name) scripts (script ∷ [])) ∙ ap (map (λ (s : Named). s.name)) (sym made)
-
--- ---- the deck before CAMPAIGN
-
-pub program-bad : (text : List ℕ) (devices : List Device) (deck : Deck) (fault : CampaignFault) → deck_of text devices false ≡ Ok deck
-    → checked deck ≡ Err fault → program_of text devices ≡ Err fault
-program-bad text devices deck fault d e = ap (λ (r : Result Deck DeckFault). and_then (by_deck r) checked) d ∙ e
-
--- ---- the whole
-
-module _ (bytes : List ℕ) (devices : List Device) (all after lines : List Line) (a : all ≡ lines_of bytes) (p : after ≡ after_program bytes all)
-    (l : lines ≡ from_campaign bytes after) where
-  by_found : campaign_of bytes devices ≡ by_lines bytes devices (length all + 1) lines
-  by_found =
-      sym (ap (by_lines bytes devices (length all + 1)) (l ∙ ap (from_campaign bytes) (p ∙ ap (after_program bytes) a))
-      ∙ ap (λ (ls : List Line). by_lines bytes devices (length ls + 1) (from_campaign bytes (after_program bytes (lines_of bytes)))) a)
-
-  pub campaign-by_deck : (rest : List Line) → 0 < length lines → rest ≡ drop 1 lines
-      → (deck : Result Deck CampaignFault) → program_of (take (get_or lines 0 no_line).start bytes) devices ≡ deck
-      → campaign_of bytes devices ≡ and_then deck (λ deck. and_then (scripts_from bytes (nothing_said MOST_SCRIPTS) rest) (λ scripts. Ok (campaign_with deck scripts)))
-  campaign-by_deck rest within r deck is =
-      by_found ∙ ap (by_lines bytes devices (length all + 1)) (drop_more lines 0 no_line within)
-      ∙ ap (λ (ls : List Line). and_then (program_of (take (get_or lines 0 no_line).start bytes) devices)
-      (λ deck. and_then (scripts_from bytes (nothing_said MOST_SCRIPTS) ls) (λ scripts. Ok (campaign_with deck scripts)))) (sym r)
-      ∙ ap (λ (read : Result Deck CampaignFault). and_then read (λ deck. and_then (scripts_from bytes (nothing_said MOST_SCRIPTS) rest) (λ scripts. Ok (campaign_with deck scripts)))) is
-
-  pub campaign-by_scripts : (rest : List Line) → 0 < length lines → rest ≡ drop 1 lines
-      → (deck : Deck) → program_of (take (get_or lines 0 no_line).start bytes) devices ≡ Ok deck
-      → (scripts : Result (List Named) CampaignFault) → scripts_from bytes (nothing_said MOST_SCRIPTS) rest ≡ scripts
-      → campaign_of bytes devices ≡ and_then scripts (λ scripts. Ok (campaign_with deck scripts))
-  campaign-by_scripts rest within r deck is scripts told =
-      campaign-by_deck rest within r (Ok deck) is
-      ∙ ap (λ (read : Result (List Named) CampaignFault). and_then read (λ scripts. Ok (campaign_with deck scripts))) told
-
-  pub campaign-missing : length lines < 1 → (deck : Result Deck CampaignFault) → program_of bytes devices ≡ deck
-      → campaign_of bytes devices ≡ and_then deck (λ deck. Err (BadSection (length all + 1)))
-  campaign-missing none deck is =
-      by_found ∙ ap (by_lines bytes devices (length all + 1)) (drop_all 0 lines (omega arith))
-      ∙ ap (λ (read : Result Deck CampaignFault). and_then {B = CampaignDeck} read (λ deck. Err (BadSection (length all + 1)))) is
 
 -- ---- names
 

@@ -11,7 +11,7 @@ use Rattle.lvdc_fault.specs.declared.named.Named.{Named}
 use Rattle.lvdc_fault.specs.Events.{IsEvent}
 use Rattle.lvdc_lines.specs.Lines.{fault_in}
 use Rattle.lvdc_source.specs.Names.{is_name}
-use Rattle.lvdc_campaign_deck.specs.declared.TheConstants.{MOST_EVENTS}
+use Rattle.lvdc_fault.specs.declared.TheConstants.{MOST_EVENTS}
 use Rattle.lvdc_campaign_deck.specs.declared.fault.CampaignFault.{CampaignFault}
 use Rattle.lvdc_campaign_deck.specs.declared.fault.CampaignFault.TheVariants.{NoMemory as WantsMemory, BadLine, TooManyScripts, TooManyEvents}
 

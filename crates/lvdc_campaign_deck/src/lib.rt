@@ -27,9 +27,6 @@ pub const MOST_TIMES: u64 = 10_000;
 /// The most scripts of a campaign (this project's profile).
 pub const MOST_SCRIPTS: usize = 256;
 
-/// The most events of all scripts of a campaign (this project's profile).
-pub const MOST_EVENTS: usize = 65_536;
-
 /// The most scripts of a study (this project's profile).
 pub const MOST_STUDY_SCRIPTS: usize = 65_536;
 

@@ -1,6 +1,7 @@
 ghost use Rattle.std.specs.Prelude.{◌≡◌, ◌≢◌, ◌<◌, ◌≤◌, ◌-◌, ◌^◌, length, map, true, IfOk, IfErr, All, Ok, Err};
 ghost use Rattle.lvdc_map.specs.Memory.{are_rising, AllThere};
-ghost use Rattle.lvdc_campaign_deck.specs.declared.TheConstants.{MOST_TIMES, MOST_SCRIPTS, MOST_EVENTS};
+ghost use Rattle.lvdc_fault.specs.declared.TheConstants.{MOST_EVENTS};
+ghost use Rattle.lvdc_campaign_deck.specs.declared.TheConstants.{MOST_TIMES, MOST_SCRIPTS};
 ghost use Rattle.lvdc_campaign_deck.specs.declared.fault.CampaignFault.TheVariants.{NoMemory as WantsMemory};
 ghost use Rattle.lvdc_campaign_deck.specs.Campaign.{campaign_of, campaign_with};
 ghost use Rattle.lvdc_campaign_deck.specs.Scripts.{CanRun};

@@ -4,13 +4,13 @@ ghost use Rattle.std.specs.Prelude.{◌≡◌, ◌≢◌, ◌<◌, ◌≤◌, �
 ghost use Rattle.lvdc_text.specs.Lines.{IsWithin, part_of};
 ghost use Rattle.lvdc_lines.specs.Lines.{fault_in};
 ghost use Rattle.lvdc_source.specs.Names.{is_name};
-ghost use Rattle.lvdc_campaign_deck.specs.declared.TheConstants.{MOST_EVENTS};
+ghost use Rattle.lvdc_fault.specs.declared.TheConstants.{MOST_EVENTS};
 ghost use Rattle.lvdc_campaign_deck.specs.declared.fault.CampaignFault.TheVariants.{NoMemory as WantsMemory};
 ghost use Rattle.lvdc_campaign_deck.specs.Scripts.{nothing_said, all_scripts, has_name, is_taken, with_script, script_line, fault_line, by_tokens, after_line, scripts_from, Makes, CanRun};
 
+use crate::CampaignFault;
 use crate::by_name::ByName;
-use crate::{CampaignFault, MOST_EVENTS};
-use lvdc_fault::{Named, Script};
+use lvdc_fault::{MOST_EVENTS, Named, Script};
 use lvdc_lines::event_of;
 use lvdc_source::is_name;
 use lvdc_text::{LONGEST_LINE, Line, few_tokens, is_comment, is_long, part};
@@ -30,7 +30,7 @@ struct Scripts {
 impl Model for Scripts {
     ghost use Rattle.std.specs.Prelude.{◌≡◌, ◌≤◌, false, length, IfSome, All};
     ghost use Rattle.lvdc_campaign_deck.specs.Scripts.{Scripts as Told, with_last, is_taken, CanRun};
-    ghost use Rattle.lvdc_campaign_deck.specs.declared.TheConstants.{MOST_EVENTS};
+    ghost use Rattle.lvdc_fault.specs.declared.TheConstants.{MOST_EVENTS};
 
     ghost Value = { Told };
 

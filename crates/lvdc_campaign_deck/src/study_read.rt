@@ -2,7 +2,6 @@ ghost use Rattle.std.specs.Prelude.{◌≡◌, ◌≢◌, ◌<◌, ◌≤◌, �
 ghost use Rattle.lvdc_map.specs.Memory.{are_rising, AllThere};
 ghost use Rattle.lvdc_fault.specs.Events.{IsEvent};
 ghost use Rattle.lvdc_fault.specs.declared.TheConstants.{MOST_TIMES, MOST_EVENTS};
-ghost use Rattle.lvdc_campaign_deck.specs.declared.TheConstants.{MOST_EVENTS as MOST_EVENTS_IN_ALL};
 ghost use Rattle.lvdc_campaign_deck.specs.declared.fault.CampaignFault.TheVariants.{NoMemory as WantsMemory};
 ghost use Rattle.lvdc_campaign_deck.specs.Scripts.{CanRun};
 ghost use Rattle.lvdc_campaign_deck.specs.declared.TheConstants.{MOST_STUDY_SCRIPTS, MOST_TIMES_IN_ALL};
@@ -79,7 +78,7 @@ pub fn read_study(
     ensures events { IfOk result (λ study. All IsEvent study.deck.script) }
     ensures few { IfOk result (λ study. length study.scripts ≤ MOST_STUDY_SCRIPTS) }
     ensures times { IfOk result (λ study. study.deck.count * length study.scripts ≤ MOST_TIMES_IN_ALL) }
-    ensures run { IfOk result (λ study. All (CanRun MOST_EVENTS_IN_ALL) study.scripts) }
+    ensures run { IfOk result (λ study. All (CanRun MOST_EVENTS) study.scripts) }
 {
     let found = lines(alloc, bytes)?;
     let next = found.len() as u32 + 1;

@@ -18,7 +18,7 @@ use Rattle.lvdc_campaign_deck.specs.declared.fault.CampaignFault.{CampaignFault}
 use Rattle.lvdc_campaign_deck.specs.declared.fault.CampaignFault.TheVariants as campaign
 use Rattle.lvdc_deck.specs.declared.fault.DeckFault.{DeckFault}
 use Rattle.lvdc_command_run.specs.Refusals as refusals
-use Rattle.lvdc_command_campaign.specs.Answers as study
+use Rattle.lvdc_command_campaign.specs.Answers as campaigns
 use Rattle.lvdc_macro.specs.Expansion.{Written, bytes_of}
 use Rattle.lvdc_macro.specs.declared.fault.MacroFault.{MacroFault}
 use Rattle.lvdc_command_asm.specs.Expanded as expand
@@ -105,7 +105,7 @@ source_settled (Err fault) = inr (inr (inl refl))
 deck_fault_settled : (fault : DeckFault) → IsSettled (refusals.refusal_status fault)
 deck_fault_settled fault = inr (refusal_is fault)
 
-campaign_fault_settled : (fault : CampaignFault) → IsSettled (study.fault_status fault)
+campaign_fault_settled : (fault : CampaignFault) → IsSettled (campaigns.fault_status fault)
 campaign_fault_settled campaign.NoMemory = inr (inl refl)
 campaign_fault_settled (campaign.Deck fault) = deck_fault_settled fault
 campaign_fault_settled (campaign.BadSection line) = inr (inl refl)
@@ -114,9 +114,9 @@ campaign_fault_settled (campaign.CountTooLarge line) = inr (inl refl)
 campaign_fault_settled (campaign.TooManyScripts line) = inr (inl refl)
 campaign_fault_settled (campaign.TooManyEvents line) = inr (inl refl)
 
-pub study_settled : (r : Result CampaignDeck CampaignFault) → IsSettled (study.status_of r)
-study_settled (Ok deck) = inl refl
-study_settled (Err fault) = campaign_fault_settled fault
+pub campaign_settled : (r : Result CampaignDeck CampaignFault) → IsSettled (campaigns.status_of r)
+campaign_settled (Ok deck) = inl refl
+campaign_settled (Err fault) = campaign_fault_settled fault
 
 patch_fault_settled : (fault : PatchFault) → IsSettled (refusal_status fault)
 patch_fault_settled (NoProgram line) = inr (inl refl)
@@ -139,14 +139,14 @@ whatever (Ok done) p = p done
 whatever (Err fault) p = tt
 
 -- a campaign takes no device, but its deck is judged with those that are there
-pub study_replied : {B E : Type 0} (device_of : B → Device) (faults : B → ℕ) (command : Command) (bytes : List ℕ) (old : List B) (result : Result Reply E)
-    → command ≡ Campaign → IfOk result (λ reply. reply.status ≡ study.status_of (campaign_of bytes (map device_of old)))
-    → IfOk result (λ reply. reply.text ≡ study.text_of (campaign_of bytes (map device_of old)))
+pub campaign_replied : {B E : Type 0} (device_of : B → Device) (faults : B → ℕ) (command : Command) (bytes : List ℕ) (old : List B) (result : Result Reply E)
+    → command ≡ Campaign → IfOk result (λ reply. reply.status ≡ campaigns.status_of (campaign_of bytes (map device_of old)))
+    → IfOk result (λ reply. reply.text ≡ campaigns.text_of (campaign_of bytes (map device_of old)))
     → IfOk result (λ reply. IsReplyTo device_of faults command bytes old old (answer_with reply.status reply.text (map device_of old)))
-study_replied device_of faults command bytes old (Ok reply) is is_status is_text =
+campaign_replied device_of faults command bytes old (Ok reply) is is_status is_text =
     let r = campaign_of bytes (map device_of old) in
-    rw (is, is_status, is_text) (answered (settled_unfailed (study.status_of r) (study_settled r)) (λ refused. refl) (λ port within. refl))
-study_replied device_of faults command bytes old (Err wanting) is is_status is_text = tt
+    rw (is, is_status, is_text) (answered (settled_unfailed (campaigns.status_of r) (campaign_settled r)) (λ refused. refl) (λ port within. refl))
+campaign_replied device_of faults command bytes old (Err wanting) is is_status is_text = tt
 
 -- ---- statuses
 
@@ -159,7 +159,7 @@ command_runs P Q n of_run law (Assemble product) bytes devices e = absurd (never
 command_runs P Q n of_run law Debug bytes devices e = law.of_session bytes devices e
 command_runs P Q n of_run law (Save times) bytes devices e = law.of_save times bytes devices e
 command_runs P Q n of_run law Resume bytes devices e = law.of_resume bytes devices e
-command_runs P Q n of_run law Campaign bytes devices e = absurd (never_runs _ n of_run (study_settled (campaign_of bytes devices)) e)
+command_runs P Q n of_run law Campaign bytes devices e = absurd (never_runs _ n of_run (campaign_settled (campaign_of bytes devices)) e)
 command_runs P Q n of_run law Uplink bytes devices e = absurd (never_runs _ n of_run (patch_settled (request_of bytes)) e)
 command_runs P Q n of_run law (Expand f) bytes devices e = absurd (never_runs _ n of_run (expand_settled f (expand.expansion_in bytes)) e)
 

@@ -14,7 +14,7 @@ use Rattle.lvdc_command_run.specs.Answers.{job_answer}
 use Rattle.lvdc_command_run.specs.Runs.{HasRunThat}
 use Rattle.lvdc_command_run.specs.Replies.{FailsInRun, IsUnanswered}
 use Rattle.lvdc_command_asm.specs.Answers.{source_answer}
-use Rattle.lvdc_command_campaign.specs.Answers.{study_answer, AdmissibleAreSame}
+use Rattle.lvdc_command_campaign.specs.Answers.{campaign_answer, AdmissibleAreSame}
 use Rattle.lvdc_uplink.specs.Answers.{uplink_answer, IsHeard}
 use Rattle.lvdc_uplink.specs.Input.{Request, request_of}
 use Rattle.lvdc_command_asm.specs.Expanded.{macro_answer}
@@ -43,7 +43,7 @@ command_answer (Assemble product) bytes devices = source_answer product bytes de
 command_answer Debug bytes devices = session_answer bytes devices
 command_answer (Save times) bytes devices = save_answer times bytes devices
 command_answer Resume bytes devices = resume_answer bytes devices
-command_answer Campaign bytes devices = study_answer bytes devices
+command_answer Campaign bytes devices = campaign_answer bytes devices
 command_answer Uplink bytes devices = uplink_answer bytes devices
 command_answer (Expand form) bytes devices = macro_answer form bytes devices
 

@@ -7,9 +7,8 @@ use lvdc_command_asm::{Form, Product};
 use lvdc_command_run::Engine;
 use lvdc_text::decimal;
 
-#[derive(Debug)]
 /// What is asked for.
-#[derive(Clone, Copy, PartialEq, Eq)]
+#[derive(Clone, Copy, Debug, PartialEq, Eq)]
 pub enum Command {
     /// `run`, `run --through` and `run --plain`: reads a deck and runs it.
     Run(Engine),

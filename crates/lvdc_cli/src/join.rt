@@ -9,7 +9,7 @@ ghost use Rattle.lvdc_cli.specs.Replies.{IsReplyOf, IsAnswerOf, IsHeadlineOf, Ho
 use crate::command::Command;
 use crate::resume_saved;
 use lvdc_command_asm::{assemble_bytes, expand_bytes};
-use lvdc_command_campaign::study_bytes;
+use lvdc_command_campaign::campaign_bytes;
 use lvdc_command_resume::resume_statuses;
 use lvdc_command_run::{Job, headline_told, run_job, statuses_caused};
 use lvdc_command_save::{save_bytes, save_statuses};
@@ -41,7 +41,7 @@ fn join(
         Command::Debug => debug_bytes(alloc, bytes, devices),
         Command::Save(times) => save_bytes(alloc, times, bytes, devices),
         Command::Resume => resume_saved(alloc, bytes, devices),
-        Command::Campaign => study_bytes(alloc, bytes, devices),
+        Command::Campaign => campaign_bytes(alloc, bytes, devices),
         Command::Uplink => patch_bytes(alloc, bytes),
         Command::Expand(form) => expand_bytes(alloc, form, bytes),
     }

@@ -3,10 +3,11 @@ use Rattle.std.proofs.Common.{◌≡◌, ℕ, ◌≤◌, List, [], ◌∷◌, le
 use Rattle.std.proofs.lemmas.List.Elements.{All-head, All-tail, All-cons}
 use Rattle.lvdc_plain.specs.Run.{Opening}
 use Rattle.lvdc_fault.specs.declared.named.Named.{Named}
-use Rattle.lvdc_campaign.specs.Campaign.{row_of, rows_of, IsScript}
+use Rattle.lvdc_runs.specs.Scripts.{IsScript}
+use Rattle.lvdc_campaign.specs.Campaign.{row_of, rows_of}
 use Rattle.lvdc_campaign.specs.declared.row.Row.{Row}
 use Rattle.lvdc_campaign_deck.specs.Scripts.{CanRun}
-use Rattle.lvdc_campaign_deck.specs.declared.TheConstants.{MOST_EVENTS}
+use Rattle.lvdc_fault.specs.declared.TheConstants.{MOST_EVENTS}
 
 pub scripts-run : (scripts : List Named) → All (CanRun MOST_EVENTS) scripts → All IsScript scripts
 scripts-run scripts h = λ k d l. let can = h k d l in record { few = can.few; events = can.events }

@@ -33,8 +33,8 @@ text_of (Ok deck) = campaign_text (rows_in deck)
 text_of (Err fault) = refusal_text (name_of fault) (line_of fault)
 
 -- the answer to a campaign; the devices stay as they are
-abbrev pub study_answer : List ℕ → List Device → Answer
-study_answer bytes devices = answer_with (status_of (campaign_of bytes devices)) (text_of (campaign_of bytes devices)) devices
+abbrev pub campaign_answer : List ℕ → List Device → Answer
+campaign_answer bytes devices = answer_with (status_of (campaign_of bytes devices)) (text_of (campaign_of bytes devices)) devices
 
 -- each admissible row comes to the same
 abbrev pub AreSame : List Row → Type 0

@@ -17,9 +17,13 @@ abbrev pub outcome_text : Bool → List ℕ
 outcome_text true = codes " SAME\n"
 outcome_text false = codes " DIFFERS\n"
 
+-- how the line of a script begins, in a campaign and in a study
+abbrev pub script_text : List ℕ → Verdict → List ℕ
+script_text name verdict = codes "SCRIPT " ++ name ++ codes " " ++ verdict_text verdict
+
 -- the line of a script
 abbrev pub row_line : Row → List ℕ
-row_line row = codes "SCRIPT " ++ row.name ++ codes " " ++ verdict_text row.verdict ++ outcome_text row.same
+row_line row = script_text row.name row.verdict ++ outcome_text row.same
 
 -- a verdict is Admissible
 abbrev pub admits : Verdict → Bool
@@ -30,11 +34,15 @@ admits _ = false
 abbrev pub count_in : {A : Type 0} → (A → Bool) → List A → ℕ
 count_in is items = length (filter is items)
 
+-- how the last line begins, in a campaign and in a study
+abbrev pub counts_text : List ℕ → ℕ → ℕ → ℕ → List ℕ
+counts_text title scripts admissible same =
+    title ++ codes " " ++ decimal scripts ++ codes " ADMISSIBLE " ++ decimal admissible ++ codes " SAME " ++ decimal same
+
 -- the last line
 abbrev pub total_line : List Row → List ℕ
 total_line rows =
-    codes "CAMPAIGN " ++ decimal (length rows) ++ codes " ADMISSIBLE " ++ decimal (count_in (λ row. admits row.verdict) rows) ++ codes " SAME "
-    ++ decimal (count_in (λ row. row.same) rows) ++ codes "\n"
+    counts_text (codes "CAMPAIGN") (length rows) (count_in (λ row. admits row.verdict) rows) (count_in (λ row. row.same) rows) ++ codes "\n"
 
 -- the whole, in the order of the scripts
 abbrev pub campaign_text : List Row → List ℕ

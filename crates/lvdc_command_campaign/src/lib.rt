@@ -4,5 +4,5 @@
 mod reply;
 mod text;
 
-pub use reply::{refuse, study_bytes};
-pub use text::put_verdict;
+pub use reply::{campaign_bytes, refuse};
+pub use text::{admits, put_counts, put_script};

@@ -70,7 +70,7 @@ pub fn refuse(alloc: Global, fault: CampaignFault) -> Result<Reply, NoMemory>
 }
 
 /// The reply to a campaign. These devices are those of its deck, and stay as they are: no run has any.
-pub fn study_bytes(
+pub fn campaign_bytes(
     alloc: Global,
     bytes: &[u8],
     devices: &Vec<Box<dyn PortDevice>>,

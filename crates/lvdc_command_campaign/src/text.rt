@@ -2,36 +2,41 @@
 
 ghost use Rattle.std.specs.Prelude.{◌≡◌, ◌+◌, ◌*◌, ◌≤◌, ◌++◌, length, All, OnOk, IfOk};
 ghost use Rattle.lvdc_lines.specs.Noted.{lines_of};
-ghost use Rattle.lvdc_command_campaign.specs.Texts.{verdict_text, outcome_text, row_line, admits, count_in, total_line, campaign_text};
+ghost use Rattle.lvdc_command_campaign.specs.Texts.{verdict_text, outcome_text, script_text, row_line, counts_text, admits, count_in, total_line, campaign_text};
 
 use lvdc_campaign::Row;
 use lvdc_fault::Verdict;
-use lvdc_image::put_address;
-use lvdc_text::put_decimal;
+use lvdc_text::{Piece, put};
 use lvdc_word::NoMemory;
 use std::alloc::Global;
 
 /// Adds a verdict; its step and its module are decimal.
-pub fn put_verdict(out: &mut Vec<u8>, verdict: Verdict) -> Result<(), NoMemory>
+fn put_verdict(out: &mut Vec<u8>, verdict: Verdict) -> Result<(), NoMemory>
     ensures text { OnOk result (out.new.items ≡ out.old.items ++ verdict_text verdict) }
     ensures short { OnOk result (length out.new.items ≤ length out.old.items + 36) }
 {
+    let blank = Piece::Bytes(b" ");
     match verdict {
-        Verdict::Admissible => out.extend_from_slice(b"ADMISSIBLE")?,
+        Verdict::Admissible => put(out, &[Piece::Bytes(b"ADMISSIBLE")]),
         Verdict::Logic { step, module } => {
-            out.extend_from_slice(b"LOGIC ")?;
-            put_decimal(out, step)?;
-            out.extend_from_slice(b" ")?;
-            put_decimal(out, u64::from(module))?;
+            let (word, step) = (Piece::Bytes(b"LOGIC "), Piece::Decimal(step));
+            put(out, &[word, step, blank, Piece::Small(module)])
         }
         Verdict::Memory { step, address } => {
-            out.extend_from_slice(b"MEMORY ")?;
-            put_decimal(out, step)?;
-            out.extend_from_slice(b" ")?;
-            put_address(out, address)?;
+            let (word, step) = (Piece::Bytes(b"MEMORY "), Piece::Decimal(step));
+            put(out, &[word, step, blank, Piece::Address(address)])
         }
     }
-    Ok(())
+}
+
+/// Adds SCRIPT, the name and the verdict: the line of a script begins so, in a campaign and in a study.
+pub fn put_script(out: &mut Vec<u8>, name: &[u8], verdict: Verdict) -> Result<(), NoMemory>
+    ensures text { OnOk result (out.new.items ≡ out.old.items ++ script_text name.now verdict) }
+    ensures short { OnOk result (length out.new.items ≤ length out.old.items + (length name.now + 44)) }
+{
+    let (word, blank) = (Piece::Bytes(b"SCRIPT "), Piece::Bytes(b" "));
+    put(out, &[word, Piece::Bytes(name), blank])?;
+    put_verdict(out, verdict)
 }
 
 /// What follows the verdict.
@@ -47,10 +52,7 @@ fn put_row(out: &mut Vec<u8>, row: &Row) -> Result<(), NoMemory>
     ensures line { OnOk result (out.new.items ≡ out.old.items ++ row_line row.now) }
     ensures short { OnOk result (length row.now.name ≤ 8 → length out.new.items ≤ length out.old.items + 61) }
 {
-    out.extend_from_slice(b"SCRIPT ")?;
-    out.extend_from_slice(row.name.items())?;
-    out.extend_from_slice(b" ")?;
-    put_verdict(out, row.verdict)?;
+    put_script(out, row.name.items(), row.verdict)?;
     out.extend_from_slice(outcome_text(row.same))?;
     Ok(())
 }
@@ -67,18 +69,41 @@ fn put_rows(out: &mut Vec<u8>, rows: &[Row]) -> Result<(), NoMemory>
     Ok(())
 }
 
-/// Is the script admissible?
-fn is_admissible(row: &Row) -> bool
-    ensures { result ≡ admits row.now.verdict }
+/// Adds a title, how many scripts there are, how many are admissible and how many come to the same: the last line of a campaign and of a
+/// study begins so.
+pub fn put_counts(
+    out: &mut Vec<u8>,
+    title: &[u8],
+    scripts: usize,
+    admissible: usize,
+    same: usize,
+) -> Result<(), NoMemory>
+    ensures text { OnOk result (out.new.items ≡ out.old.items ++ counts_text title.now scripts admissible same) }
+    ensures short { OnOk result (length out.new.items ≤ length out.old.items + (length title.now + 79)) }
 {
-    matches!(row.verdict, Verdict::Admissible)
+    let scripts = Piece::Decimal(scripts as u64);
+    let admissible = Piece::Decimal(admissible as u64);
+    let same = Piece::Decimal(same as u64);
+    let (first, second) = (Piece::Bytes(b" ADMISSIBLE "), Piece::Bytes(b" SAME "));
+    let (title, blank) = (Piece::Bytes(title), Piece::Bytes(b" "));
+    put(
+        out,
+        &[title, blank, scripts, first, admissible, second, same],
+    )
+}
+
+/// Is it admissible?
+pub fn admits(verdict: &Verdict) -> bool
+    ensures { result ≡ admits verdict.now }
+{
+    matches!(verdict, Verdict::Admissible)
 }
 
 /// How many scripts are admissible.
 fn admissible_in(rows: &[Row]) -> usize
     ensures { result ≡ count_in (λ row. admits row.verdict) rows.now }
 {
-    rows.iter().filter(|&row| is_admissible(row)).count()
+    rows.iter().filter(|&row| admits(&row.verdict)).count()
 }
 
 /// How many come to the same.
@@ -93,12 +118,13 @@ fn put_total(out: &mut Vec<u8>, rows: &[Row]) -> Result<(), NoMemory>
     ensures line { OnOk result (out.new.items ≡ out.old.items ++ total_line rows.now) }
     ensures short { OnOk result (length out.new.items ≤ length out.old.items + 88) }
 {
-    out.extend_from_slice(b"CAMPAIGN ")?;
-    put_decimal(out, rows.len() as u64)?;
-    out.extend_from_slice(b" ADMISSIBLE ")?;
-    put_decimal(out, admissible_in(rows) as u64)?;
-    out.extend_from_slice(b" SAME ")?;
-    put_decimal(out, same_in(rows) as u64)?;
+    put_counts(
+        out,
+        b"CAMPAIGN",
+        rows.len(),
+        admissible_in(rows),
+        same_in(rows),
+    )?;
     out.extend_from_slice(b"\n")?;
     Ok(())
 }

@@ -22,7 +22,7 @@ use Rattle.lvdc_report.specs.Report.{title_line, end_text, registers_text, visib
 use Rattle.lvdc_report.specs.Voted.{wrong_text}
 use Rattle.lvdc_report.specs.declared.title.Title.TheVariants as title
 use Rattle.lvdc_command_run.specs.Accounts.{Account, end_by, whole_account, begun_account, account_by, account, end_status}
-use Rattle.lvdc_command_run.specs.Answers.{account_answer, plain_answer, run_answer, failed_answer}
+use Rattle.lvdc_command_run.specs.Answers.{account_answer, plain_end_by, plain_answer, run_answer, failed_answer}
 use Rattle.lvdc_command_run.specs.declared.job.Engine.TheVariants as engines
 use Rattle.lvdc_command_run.specs.declared.job.Job.TheVariants as jobs
 use Rattle.lvdc_command_run.proofs.Told.{memory-same}
@@ -57,10 +57,15 @@ alike o v a end ends banks known =
     words : memory_text o.opening.banks a.plain.memory a.recoverable ≡ memory_text a.plain.banks a.plain.memory all_known
     words = memory-same o.opening.banks a.plain.memory a.plain.memory a.recoverable all_known refl known ∙ ap (λ (banks : ℕ). memory_text banks a.plain.memory all_known) (sym banks)
 
+-- the plain run ends as it is told
+ends-alike : (stop : Option Stop) (times : ℕ) → end_by stop times ≡ outcome_of (plain_end_by stop times)
+ends-alike None times = refl
+ends-alike (Some stop) times = refl
+
 pub whole-alike : PortLaw → (o : Trial) (n : ℕ) → Masked o n → TellsPlain (guarded o (3 * n)) (run_answer (jobs.Deck engines.Guarded) o n) (run_answer (jobs.Deck engines.Plain) o n)
 whole-alike law o n m =
     subst (λ (verdict : Verdict). TellsPlain v (account_answer o (account_by verdict o n) v) (run_answer (jobs.Deck engines.Plain) o n)) (sym m.verdict)
-    (alike o v (whole_account o n) (end_by (plain_at o n).stop (plain_at o n).times) refl (banks-stay law o.opening n)
+    (alike o v (whole_account o n) (plain_end_by (plain_at o n).stop (plain_at o n).times) (ends-alike (plain_at o n).stop (plain_at o n).times) (banks-stay law o.opening n)
     (λ at bank. m.words_after (3 * (plain_at o n).times) at (let few : (plain_at o n).times ≤ n = few-times law o.opening n in omega arith) bank))
   where
     v : Voted

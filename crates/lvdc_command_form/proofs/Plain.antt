@@ -9,15 +9,15 @@ use Rattle.lvdc_model.specs.Runs.{guarded}
 use Rattle.lvdc_model.specs.Trial.{Trial, plain_at}
 use Rattle.lvdc_report.specs.Report.{title_line, visible_in, outcome_of}
 use Rattle.lvdc_report.specs.declared.title.Title.TheVariants as titles
-use Rattle.lvdc_command_run.specs.Accounts.{end_by, end_status}
-use Rattle.lvdc_command_run.specs.Answers.{run_answer}
+use Rattle.lvdc_command_run.specs.Accounts.{end_status}
+use Rattle.lvdc_command_run.specs.Answers.{plain_end_by, run_answer}
 use Rattle.lvdc_command_run.specs.declared.job.Engine.TheVariants as engines
 use Rattle.lvdc_command_run.specs.declared.job.Job.TheVariants as jobs
 use Rattle.lvdc_command_form.specs.Texts.{TellsPlain}
 use Rattle.lvdc_command_form.specs.Plainly.{has_question_mark, IsAsPlain}
 use Rattle.lvdc_command_form.proofs.Clear.{Clear, ◌&◌, fixed, report-clear, counts-clear, repairs-clear}
 
-not_five : (stop : Option Stop) (times : ℕ) → end_status (outcome_of (end_by stop times)) ≢ 5
+not_five : (stop : Option Stop) (times : ℕ) → end_status (outcome_of (plain_end_by stop times)) ≢ 5
 not_five None times e = absurd (omega (arith, e))
 not_five (Some why) times e = absurd (omega (arith, e))
 
@@ -34,7 +34,7 @@ module _ (o : Trial) (n : ℕ) where
   plain-clear : Clear (run_answer (jobs.Deck engines.Plain) o n).text
   plain-clear =
       fixed (title_line titles.Plain) refl
-      & report-clear (end_by (plain_at o n).stop (plain_at o n).times) (visible_in (plain_at o n)) (plain_at o n).log (plain_at o n).banks (plain_at o n).memory
+      & report-clear (plain_end_by (plain_at o n).stop (plain_at o n).times) (visible_in (plain_at o n)) (plain_at o n).log (plain_at o n).banks (plain_at o n).memory
 
   pub as-plain : TellsPlain (guarded o (3 * n)) (run_answer (jobs.Deck engines.Guarded) o n) (run_answer (jobs.Deck engines.Plain) o n)
       → IsAsPlain (run_answer (jobs.Deck engines.Guarded) o n) (run_answer (jobs.Deck engines.Plain) o n)

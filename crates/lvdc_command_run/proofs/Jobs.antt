@@ -120,7 +120,9 @@ account-headline : (o : Trial) (n : ℕ) → Headline o n (run_answer (job.Deck 
 account-headline o n =
     record {
       status = refl;
-      report = record { counts = (guarded o (3 * n)).counts; repairs = (guarded o (3 * n)).repairs; is = refl };
+      counts = (guarded o (3 * n)).counts;
+      repairs = (guarded o (3 * n)).repairs;
+      report = refl;
       left = refl;
     }
 

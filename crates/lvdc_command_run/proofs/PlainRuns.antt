@@ -5,7 +5,7 @@ use Rattle.lvdc_port.specs.Device as device
 use Rattle.lvdc_plain.specs.Calls as plain_calls
 use Rattle.lvdc_plain.specs.Plain.{PlainState}
 use Rattle.lvdc_plain.specs.Run.{run}
-use Rattle.lvdc_plain.specs.Stands.{Shows, HasFailed, EndsAs}
+use Rattle.lvdc_plain.specs.Stands.{Names, request_at, Shows, HasFailed, EndsAs}
 use Rattle.lvdc_plain.specs.View.{View, answer_of_end}
 use Rattle.lvdc_plain.specs.declared.records.PlainEnd.{PlainEnd}
 use Rattle.lvdc_plain.specs.declared.records.PlainEnd.TheVariants.{Done, Stopped, Device}
@@ -15,10 +15,10 @@ use Rattle.lvdc_report.specs.Report.{report_text, outcome_of}
 use Rattle.lvdc_report.specs.declared.title.Title.TheVariants as title
 use Rattle.lvdc_command_run.specs.declared.job.Job.TheVariants as job
 use Rattle.lvdc_command_run.specs.declared.job.Engine.TheVariants as engine
-use Rattle.lvdc_command_run.specs.Accounts.{end_by, end_status}
+use Rattle.lvdc_command_run.specs.Accounts.{end_status}
 use Rattle.lvdc_deck.specs.declared.deck.Deck.{Deck}
 use Rattle.lvdc_reply.specs.Answer.{Answer, answer_with}
-use Rattle.lvdc_command_run.specs.Answers.{begun_world, run_answer, failed_answer}
+use Rattle.lvdc_command_run.specs.Answers.{begun_world, plain_end_by, run_answer, failed_answer}
 use Rattle.lvdc_command_run.specs.Trials.{trial_of}
 use Rattle.lvdc_command_run.specs.Finished.{HasRunPlainly}
 use Rattle.lvdc_command_run.specs.Runs.{ExchangesPlainly}
@@ -26,7 +26,7 @@ use Rattle.lvdc_reply.specs.Replies.{Quiet}
 use Rattle.lvdc_command_run.specs.Replies.{IsRun, made, failed, IsUnreported, reporting}
 
 -- a stop falls into the last step of the last time
-stop_step : (times step : ℕ) (stop : Stop) → step + 1 ≡ 3 * times → end_by (Some stop) times ≡ Stopped step stop
+stop_step : (times step : ℕ) (stop : Stop) → step + 1 ≡ 3 * times → plain_end_by (Some stop) times ≡ Stopped step stop
 stop_step times step stop e = let is : 3 * times - 1 ≡ step = omega (arith, e) in ap (λ (n : ℕ). Stopped n stop) is
 
 -- a third of the last step of a time
@@ -37,15 +37,16 @@ last_third step times e = omega (arith, e)
 exchanged : (o : Trial) (n step port : ℕ) (m : View) (ds : List device.Device) → HasFailed o.opening n m ds step port → ExchangesPlainly o n step port
 exchanged o n step port m ds f =
     let time : step / 3 ≡ m.times = last_third step m.times f.step in
+    let there : (run o.opening m.times).plain ≡ (run o.opening (step / 3)).plain = ap (λ (k : ℕ). (run o.opening k).plain) (sym time) in
     let early = f.early in
     let is = f.step in
     record {
       early = omega (arith, early, is);
       exchanged = record {
         last = omega (arith, is);
-        running = rw time f.stop;
-        free = rw time f.hold;
-        asked = rw time f.asked;
+        running = subst (λ (p : PlainState). p.stop ≡ None) there f.stop;
+        free = subst (λ (p : PlainState). p.hold ≡ 0) there f.hold;
+        asked = subst (λ (p : PlainState). Names (request_at p) port) there f.asked;
       };
     }
 
@@ -61,7 +62,7 @@ record Comes {B : Type 0} (device_of : B → device.Device) (faults : B → ℕ)
 
 module _ {B : Type 0} (device_of : B → device.Device) (faults : B → ℕ) (o : Trial) (n : ℕ) (old new : List B) (m : View) where
   -- a run of all times, or up to a stop
-  by_run : (end : PlainEnd) → end_by (run o.opening n).plain.stop (run o.opening n).plain.times ≡ end → Shows m (run o.opening n).plain
+  by_run : (end : PlainEnd) → plain_end_by (run o.opening n).plain.stop (run o.opening n).plain.times ≡ end → Shows m (run o.opening n).plain
       → map device_of new ≡ (run o.opening n).devices → Quiet device_of faults old new → Comes device_of faults o n old new m end
   by_run end is shows left quiet =
       record {
@@ -78,10 +79,10 @@ module _ {B : Type 0} (device_of : B → device.Device) (faults : B → ℕ) (o 
   by_kept : (kept : Option PlainEnd) → EndsAs o.opening n m (map device_of new) kept
       → plain_calls.PlainEndHasCause device_of faults (answer_of_end kept) old new
       → Comes device_of faults o n old new m (answer_of_end kept)
-  by_kept None r quiet = by_run Done (ap (λ (stop : Option Stop). end_by stop (run o.opening n).plain.times) r.stop) r.shows r.left quiet
+  by_kept None r quiet = by_run Done (ap (λ (stop : Option Stop). plain_end_by stop (run o.opening n).plain.times) r.stop) r.shows r.left quiet
   by_kept (Some (Stopped step stop)) r quiet =
       by_run (Stopped step stop)
-      (ap (λ (x : Option Stop). end_by x (run o.opening n).plain.times) r.stop ∙ stop_step (run o.opening n).plain.times step stop (r.step ∙ ap (λ (k : ℕ). 3 * k) r.shows.times))
+      (ap (λ (x : Option Stop). plain_end_by x (run o.opening n).plain.times) r.stop ∙ stop_step (run o.opening n).plain.times step stop (r.step ∙ ap (λ (k : ℕ). 3 * k) r.shows.times))
       r.shows r.left quiet
   by_kept (Some (Device step port)) r alone =
       let time : step / 3 ≡ m.times = last_third step m.times r.step in

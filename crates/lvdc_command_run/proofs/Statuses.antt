@@ -1,6 +1,6 @@
 -- The status of a run: 5 exactly where the job judges and finds a step that isn't admissible, 6 exactly where it stops, else 0;
 -- and 10 where a device fails. And that of a refused deck.
-use Rattle.std.proofs.Common.{◌≡◌, ◌≢◌, ℕ, ◌*◌, IsSome, None, Some, refl, inl, inr, ◌⊎◌, arith}
+use Rattle.std.proofs.Common.{◌≡◌, ◌≢◌, ℕ, ◌*◌, IsSome, None, Some, refl, sym, ◌∙◌, inl, inr, ◌⊎◌, arith}
 use Rattle.std.specs.declared.option.Option.{Option}
 use Rattle.lvdc_plain.specs.declared.records.Stop.{Stop}
 use Rattle.lvdc_fault.specs.declared.verdict.Verdict.{Verdict}
@@ -22,7 +22,7 @@ use Rattle.lvdc_command_run.specs.declared.job.Job.{Job}
 use Rattle.lvdc_command_run.specs.declared.job.Job.TheVariants as job
 use Rattle.lvdc_command_run.specs.declared.job.Engine.TheVariants.{Guarded, Through, Plain}
 use Rattle.lvdc_command_run.specs.Accounts.{end_by, account_by, end_status}
-use Rattle.lvdc_command_run.specs.Answers.{run_answer, failed_answer}
+use Rattle.lvdc_command_run.specs.Answers.{plain_end_by, run_answer, failed_answer}
 use Rattle.lvdc_command_run.specs.Refusals.{refusal_status}
 use Rattle.lvdc_command_run.proofs.Endings.{IsEndOf, run-end, run-status}
 use Rattle.lvdc_command_run.specs.Runs.{Judges, IsStop, StopsAdmitted, Stops}
@@ -42,15 +42,20 @@ refusal_is (Asm fault) = inr (inl refl)
 
 -- ---- statuses of ends
 
-plain-status : (stop : Option Stop) (times : ℕ) → (end_status (outcome_of (end_by stop times)) ≡ 0) ⊎ (end_status (outcome_of (end_by stop times)) ≡ 6)
+-- the plain run ends as it is told
+ends-alike : (stop : Option Stop) (times : ℕ) → end_status (outcome_of (plain_end_by stop times)) ≡ end_status (end_by stop times)
+ends-alike None times = refl
+ends-alike (Some stop) times = refl
+
+plain-status : (stop : Option Stop) (times : ℕ) → (end_status (end_by stop times) ≡ 0) ⊎ (end_status (end_by stop times) ≡ 6)
 plain-status None times = inl refl
 plain-status (Some stop) times = inr refl
 
-plain-stops : (stop : Option Stop) (times : ℕ) → end_status (outcome_of (end_by stop times)) ≡ 6 → IsSome stop
+plain-stops : (stop : Option Stop) (times : ℕ) → end_status (end_by stop times) ≡ 6 → IsSome stop
 plain-stops None times e = absurd (omega (arith, e))
 plain-stops (Some stop) times e = refl
 
-stops-plain : (stop : Option Stop) (times : ℕ) → IsSome stop → end_status (outcome_of (end_by stop times)) ≡ 6
+stops-plain : (stop : Option Stop) (times : ℕ) → IsSome stop → end_status (end_by stop times) ≡ 6
 stops-plain None times s = absurd (cc)
 stops-plain (Some stop) times s = refl
 
@@ -62,7 +67,9 @@ account-status (Memory step at) o n = record { is = inr (inl refl) }
 pub made-status : (j : Job) (o : Trial) (n : ℕ) → IsMadeStatus (run_answer j o n).status
 made-status (job.Deck Guarded) o n = account-status (first_bad o n) o n
 made-status (job.Deck Through) o n = run-status modes.Through o (voted_start o) (3 * n) refl
-made-status (job.Deck Plain) o n = record { is = elim (plain-status (plain_at o n).stop (plain_at o n).times) [ inl e ↦ inl e | inr e ↦ inr (inr e) ] }
+made-status (job.Deck Plain) o n =
+    let same = ends-alike (plain_at o n).stop (plain_at o n).times in
+    record { is = elim (plain-status (plain_at o n).stop (plain_at o n).times) [ inl e ↦ inl (same ∙ e) | inr e ↦ inr (inr (same ∙ e)) ] }
 made-status (job.Soak number) o n = account-status (first_bad o n) o n
 
 pub failed-status : (j : Job) (o : Trial) (step port : ℕ) → (failed_answer j o step port).status ≡ 10
@@ -93,7 +100,7 @@ through-unjudged (Some (Device step port)) h e = h
 pub status-judges : (j : Job) (o : Trial) (n : ℕ) → (run_answer j o n).status ≡ 5 → Judges j o n
 status-judges (job.Deck Guarded) o n e = account-bad (first_bad o n) o n e
 status-judges (job.Deck Through) o n e = through-unjudged (through o (3 * n)).end (run-end modes.Through o (voted_start o) (3 * n) refl) e
-status-judges (job.Deck Plain) o n e = omega (arith, e, plain-status (plain_at o n).stop (plain_at o n).times)
+status-judges (job.Deck Plain) o n e = omega (arith, e, ends-alike (plain_at o n).stop (plain_at o n).times, plain-status (plain_at o n).stop (plain_at o n).times)
 status-judges (job.Soak number) o n e = account-bad (first_bad o n) o n e
 
 pub judges-status : (j : Job) (o : Trial) (n : ℕ) → Judges j o n → (run_answer j o n).status ≡ 5
@@ -129,11 +136,11 @@ stops-through (Some (Device step port)) h = absurd h
 pub status-stops : (j : Job) (o : Trial) (n : ℕ) → (run_answer j o n).status ≡ 6 → Stops j o n
 status-stops (job.Deck Guarded) o n e = account-stops (first_bad o n) o n refl e
 status-stops (job.Deck Through) o n e = through-stops (through o (3 * n)).end e
-status-stops (job.Deck Plain) o n e = plain-stops (plain_at o n).stop (plain_at o n).times e
+status-stops (job.Deck Plain) o n e = plain-stops (plain_at o n).stop (plain_at o n).times (sym (ends-alike (plain_at o n).stop (plain_at o n).times) ∙ e)
 status-stops (job.Soak number) o n e = account-stops (first_bad o n) o n refl e
 
 pub stops-status : (j : Job) (o : Trial) (n : ℕ) → Stops j o n → (run_answer j o n).status ≡ 6
 stops-status (job.Deck Guarded) o n h = stops-account o n h
 stops-status (job.Deck Through) o n h = stops-through (through o (3 * n)).end h
-stops-status (job.Deck Plain) o n h = stops-plain (plain_at o n).stop (plain_at o n).times h
+stops-status (job.Deck Plain) o n h = ends-alike (plain_at o n).stop (plain_at o n).times ∙ stops-plain (plain_at o n).stop (plain_at o n).times h
 stops-status (job.Soak number) o n h = stops-account o n h

@@ -24,7 +24,7 @@ use Rattle.lvdc_laws_voted.specs.Ends.{ShowsTimes, IsBegun, EndsAt, Comes, Good,
 use Rattle.lvdc_laws_voted.specs.Relation.{Goes, Halts}
 use Rattle.lvdc_machine.specs.View.{answer_of_end}
 use Rattle.lvdc_lines.specs.Noted.{lines_below, log_text, repairs_text}
-use Rattle.lvdc_report.specs.Report.{line_at, told_line, memory_text, visible_in, outcome_of, title_line, end_text, registers_text, times_line, word_line}
+use Rattle.lvdc_report.specs.Report.{line_at, told_line, memory_text, visible_in, title_line, end_text, registers_text, times_line, word_line}
 use Rattle.lvdc_report.specs.Voted.{voted_text, visible_of, wrong_text, soak_text, number_line, all_counts}
 use Rattle.lvdc_report.specs.declared.title.Title.TheVariants as title
 use Rattle.lvdc_command_run.specs.Accounts.{Account, end_by, whole_account, begun_account, account_by, account}
@@ -93,7 +93,7 @@ pub record KnownLaw (o : Trial) : Type 0 where
 
 -- ---- a run of all its times, or up to a stop
 
-ends-same : (stop : Option Stop) (times : ℕ) → answer_of_end (stop_end stop times) ≡ outcome_of (end_by stop times)
+ends-same : (stop : Option Stop) (times : ℕ) → answer_of_end (stop_end stop times) ≡ end_by stop times
 ends-same None times = refl
 ends-same (Some why) times = refl
 

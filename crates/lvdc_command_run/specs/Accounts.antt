@@ -6,16 +6,13 @@ use Rattle.lvdc_map.specs.Address.{Spot}
 use Rattle.lvdc_port.specs.Device as device
 use Rattle.lvdc_plain.specs.Plain.{PlainState}
 use Rattle.lvdc_plain.specs.Run.{run}
-use Rattle.lvdc_plain.specs.declared.records.PlainEnd.{PlainEnd}
-use Rattle.lvdc_plain.specs.declared.records.PlainEnd.TheVariants as plain
 use Rattle.lvdc_plain.specs.declared.records.Stop.{Stop}
 use Rattle.lvdc_fault.specs.declared.verdict.Verdict.{Verdict}
 use Rattle.lvdc_fault.specs.declared.verdict.Verdict.TheVariants.{Admissible, Logic, Memory}
 use Rattle.lvdc_model.specs.declared.outcome.Outcome.{Outcome}
 use Rattle.lvdc_model.specs.declared.outcome.Outcome.TheVariants.{Done, Stopped, Inadmissible, Device}
 use Rattle.lvdc_model.specs.Judging.{first_bad, is_recoverable, is_recoverable_after}
-use Rattle.lvdc_model.specs.Trial.{Trial, plain_at, plain_in, plugged_in}
-use Rattle.lvdc_report.specs.Report.{outcome_of}
+use Rattle.lvdc_model.specs.Trial.{Trial, plain_in, plugged_in}
 
 -- the end of a run, the plain state that its report shows, the devices that it leaves, and which words can be recovered
 pub record Account : Type 0 where
@@ -25,30 +22,20 @@ pub record Account : Type 0 where
   pub recoverable : Spot → Bool
 
 -- a stop falls into the last step of the last time made
-abbrev pub end_by : Option Stop → ℕ → PlainEnd
-end_by None times = plain.Done
-end_by (Some stop) times = plain.Stopped (3 * times - 1) stop
+abbrev pub end_by : Option Stop → ℕ → Outcome
+end_by None times = Done
+end_by (Some stop) times = Stopped (3 * times - 1) stop
 
 -- after so many times, or fewer up to a stop
 abbrev pub whole_account : Trial → ℕ → Account
 whole_account o n =
-    record {
-      end = outcome_of (end_by (plain_at o n).stop (plain_at o n).times);
-      plain = plain_at o n;
-      devices = (run o.opening n).devices;
-      recoverable = is_recoverable_after o (3 * (plain_at o n).times);
-    }
+    let p = (run o.opening n).plain in
+    record { end = end_by p.stop p.times; plain = p; devices = (run o.opening n).devices; recoverable = is_recoverable_after o (3 * p.times) }
 
--- in a step that was begun and isn't made: the state is that after the whole times before it, and the devices are gone that
--- are taken away at its time
+-- in a step that was begun and isn't made: after the whole times before it, without the devices that are taken away at its time
 abbrev pub begun_account : Trial → ℕ → Outcome → Account
 begun_account o step end =
-    record {
-      end = end;
-      plain = plain_in o step;
-      devices = plugged_in o step;
-      recoverable = is_recoverable o step;
-    }
+    record { end = end; plain = plain_in o step; devices = plugged_in o step; recoverable = is_recoverable o step }
 
 -- by what is said of the first step that isn't admissible, Admissible where there is none: it ends the run
 abbrev pub account_by : Verdict → Trial → ℕ → Account

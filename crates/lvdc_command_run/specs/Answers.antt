@@ -1,10 +1,13 @@
 -- The answer to a job over bytes and devices: a status, the text that is written, and what the devices are then.
-use Rattle.std.specs.Prelude.{ℕ, ◌*◌, false, List, ◌++◌, codes, length, Result, Ok, Err}
+use Rattle.std.specs.Prelude.{ℕ, ◌-◌, ◌*◌, false, List, ◌++◌, codes, length, Result, Ok, Err}
+use Rattle.std.specs.declared.option.Option.{Option}
+use Rattle.std.specs.declared.option.Option.TheVariants.{None, Some}
 use Rattle.lvdc_port.specs.Device as device
 use Rattle.lvdc_plain.specs.Plain.{World}
 use Rattle.lvdc_plain.specs.Run.{run}
 use Rattle.lvdc_plain.specs.declared.records.PlainEnd.{PlainEnd}
 use Rattle.lvdc_plain.specs.declared.records.PlainEnd.TheVariants as plain
+use Rattle.lvdc_plain.specs.declared.records.Stop.{Stop}
 use Rattle.lvdc_model.specs.declared.outcome.Outcome.TheVariants.{Device}
 use Rattle.lvdc_model.specs.Exchanges.{begin_step, with_end}
 use Rattle.lvdc_model.specs.Runs.{guarded, through}
@@ -25,7 +28,7 @@ use Rattle.lvdc_command_run.specs.declared.job.Engine.TheVariants.{Guarded, Thro
 use Rattle.lvdc_command_run.specs.declared.job.Job.{Job}
 use Rattle.lvdc_command_run.specs.declared.job.Job.TheVariants as job
 use Rattle.lvdc_command_run.specs.Trials.{trial_of}
-use Rattle.lvdc_command_run.specs.Accounts.{Account, end_by, begun_account, account, end_status}
+use Rattle.lvdc_command_run.specs.Accounts.{Account, begun_account, account, end_status}
 use Rattle.lvdc_command_run.specs.Headline.{account_front}
 use Rattle.lvdc_command_run.specs.Refusals.{refused_answer}
 
@@ -47,7 +50,12 @@ guarded_answer o v = answer_with (end_status (answer_of_end v.end)) (voted_text 
 abbrev pub through_answer : Trial → Voted → Answer
 through_answer o v = answer_with (end_status (answer_of_end v.end)) (voted_text title.Through o v) v.devices
 
--- that of `run --plain`
+-- the end of a plain run: a stop falls into the last step of the last time made
+abbrev pub plain_end_by : Option Stop → ℕ → PlainEnd
+plain_end_by None times = plain.Done
+plain_end_by (Some stop) times = plain.Stopped (3 * times - 1) stop
+
+-- the answer of `run --plain`
 abbrev pub plain_answer : PlainEnd → World → Answer
 plain_answer end w = answer_with (end_status (outcome_of end)) (report_text title.Plain end w.plain) w.devices
 
@@ -65,7 +73,7 @@ soak_answer number told v = answer_with (end_status told.end) (soak_account_text
 abbrev pub run_answer : Job → Trial → ℕ → Answer
 run_answer (job.Deck Guarded) o n = account_answer o (account o n) (guarded o (3 * n))
 run_answer (job.Deck Through) o n = through_answer o (through o (3 * n))
-run_answer (job.Deck Plain) o n = plain_answer (end_by (run o.opening n).plain.stop (run o.opening n).plain.times) (run o.opening n)
+run_answer (job.Deck Plain) o n = plain_answer (plain_end_by (run o.opening n).plain.stop (run o.opening n).plain.times) (run o.opening n)
 run_answer (job.Soak number) o n = soak_answer number (account o n) (guarded o (3 * n))
 
 -- the plain run in a step that was begun: its state after the whole times before, and the devices that are left

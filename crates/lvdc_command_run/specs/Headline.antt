@@ -12,23 +12,17 @@ use Rattle.lvdc_report.specs.declared.title.Title.TheVariants.{Run}
 use Rattle.lvdc_reply.specs.Answer.{Answer}
 use Rattle.lvdc_command_run.specs.Accounts.{Account, account, end_status}
 
--- the report of an account, but for what the redundancy did at its end: its end, its registers, its port exchanges, and of each
--- address that is there the word where it can be recovered and isn't 0, or that it can't be recovered
+-- the report of an account: its end, its registers, its port exchanges, and the words that aren't 0, or that they can't be recovered
 abbrev pub account_front : Trial → Account → List ℕ
 account_front o told =
     title_line Run ++ end_text told.end ++ registers_text (visible_in told.plain) ++ log_text told.plain.log
     ++ memory_text o.opening.banks told.plain.memory told.recoverable
 
--- the text reports an account, and behind it stand the lines of some counts and of some repairs and no others: how often each copy
--- differed and which cells were repaired is left open here, and is said by the clause `answer`
-pub record Reports (o : Trial) (told : Account) (text : List ℕ) : Type 0 where
-  pub counts : List (List ℕ)
-  pub repairs : List Repair
-  pub is : text ≡ account_front o told ++ wrong_text counts ++ repairs_text repairs
-
--- the headline of a trial of so many times: the status is that of the end of the account of the plain run and the script, the text
--- reports this account, and the devices that are left are those of it
+-- the headline of a trial of so many times: status, text and devices are those of the account of plain run and script; behind its
+-- report stand some counts and repairs, which are left open here and said by the clause `answer`
 pub record Headline (o : Trial) (n : ℕ) (answer : Answer) : Type 0 where
   pub status : answer.status ≡ end_status (account o n).end
-  pub report : Reports o (account o n) answer.text
+  pub counts : List (List ℕ)
+  pub repairs : List Repair
+  pub report : answer.text ≡ account_front o (account o n) ++ wrong_text counts ++ repairs_text repairs
   pub left : answer.devices ≡ (account o n).devices

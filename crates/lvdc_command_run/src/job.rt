@@ -1,6 +1,5 @@
-#[derive(Debug)]
 /// Which machine runs a deck.
-#[derive(Clone, Copy, PartialEq, Eq)]
+#[derive(Clone, Copy, Debug, PartialEq, Eq)]
 pub enum Engine {
     /// The voted machine, up to the first inadmissible step.
     Guarded,

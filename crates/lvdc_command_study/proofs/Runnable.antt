@@ -3,9 +3,9 @@ use Rattle.std.proofs.Common.{◌≡◌, ℕ, ◌≤◌, List, [], ◌∷◌, le
 use Rattle.std.proofs.lemmas.List.Elements.{All-map}
 use Rattle.lvdc_plain.specs.Run.{Opening}
 use Rattle.lvdc_fault.specs.declared.named.Named.{Named}
-use Rattle.lvdc_campaign.specs.Campaign.{IsScript}
+use Rattle.lvdc_runs.specs.Scripts.{IsScript}
 use Rattle.lvdc_campaign_deck.specs.Scripts.{CanRun}
-use Rattle.lvdc_campaign_deck.specs.declared.TheConstants.{MOST_EVENTS}
+use Rattle.lvdc_fault.specs.declared.TheConstants.{MOST_EVENTS}
 use Rattle.lvdc_study.specs.Failures.{FailsInRuns}
 use Rattle.lvdc_study.specs.Study.{row_of, rows_of}
 use Rattle.lvdc_study.specs.declared.fault.Unstudied.{Unstudied}

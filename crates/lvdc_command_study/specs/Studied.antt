@@ -4,7 +4,7 @@ use Rattle.lvdc_map.specs.Memory.{are_rising, AllThere}
 use Rattle.lvdc_port.specs.Device.{Device}
 use Rattle.lvdc_reply.specs.declared.reply.Reply.{Reply}
 use Rattle.lvdc_campaign_deck.specs.Scripts.{CanRun}
-use Rattle.lvdc_campaign_deck.specs.declared.TheConstants.{MOST_EVENTS}
+use Rattle.lvdc_fault.specs.declared.TheConstants.{MOST_EVENTS}
 use Rattle.lvdc_campaign_deck.specs.declared.TheConstants.{MOST_STUDY_SCRIPTS}
 use Rattle.lvdc_campaign_deck.specs.declared.study.StudyDeck.{StudyDeck}
 use Rattle.lvdc_fault.specs.declared.TheConstants.{MOST_TIMES}

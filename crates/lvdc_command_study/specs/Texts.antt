@@ -4,7 +4,7 @@ use Rattle.std.specs.declared.option.Option.{Option}
 use Rattle.std.specs.declared.option.Option.TheVariants.{None, Some}
 use Rattle.lvdc_image.specs.Image.{spot_text}
 use Rattle.lvdc_lines.specs.Noted.{lines_of}
-use Rattle.lvdc_command_campaign.specs.Texts.{verdict_text, admits, count_in}
+use Rattle.lvdc_command_campaign.specs.Texts.{script_text, counts_text, admits, count_in}
 use Rattle.lvdc_study.specs.declared.difference.Difference.{Difference}
 use Rattle.lvdc_study.specs.declared.difference.Difference.TheVariants.{End, Port, Registers, Words}
 use Rattle.lvdc_study.specs.declared.row.Row.{Row}
@@ -32,31 +32,23 @@ step_text (Some step) = decimal step
 abbrev pub redundancy_text : Row → List ℕ
 redundancy_text row = codes " COPIES " ++ decimal row.copies ++ codes " REPAIRS " ++ decimal row.repairs ++ codes " " ++ step_text row.first_repair
 
--- whether the script masks by form, at the end of the line
+-- whether the script masks by form
 abbrev pub form_text : Bool → List ℕ
-form_text true = codes " FORM YES\n"
-form_text false = codes " FORM NO\n"
+form_text true = codes "YES"
+form_text false = codes "NO"
 
 -- the line of a script
 abbrev pub row_line : Row → List ℕ
 row_line row =
-    codes "SCRIPT " ++ row.name ++ codes " " ++ verdict_text row.verdict ++ codes " " ++ outcome_text row.difference ++ redundancy_text row ++ form_text row.masks
+    script_text row.name row.verdict ++ codes " " ++ outcome_text row.difference ++ redundancy_text row ++ codes " FORM " ++ form_text row.masks ++ codes "\n"
 
 -- ---- the line of the total
-
--- the script is admissible
-abbrev pub is_admissible : Row → Bool
-is_admissible row = admits row.verdict
-
--- the outcome is the same
-abbrev pub is_same : Row → Bool
-is_same row = is_none row.difference
 
 -- the last line
 abbrev pub total_line : List Row → List ℕ
 total_line rows =
-    codes "STUDY " ++ decimal (length rows) ++ codes " ADMISSIBLE " ++ decimal (count_in is_admissible rows) ++ codes " SAME "
-    ++ decimal (count_in is_same rows) ++ codes " FORM " ++ decimal (count_in (λ row. row.masks) rows) ++ codes "\n"
+    counts_text (codes "STUDY") (length rows) (count_in (λ row. admits row.verdict) rows) (count_in (λ row. is_none row.difference) rows)
+    ++ codes " FORM " ++ decimal (count_in (λ row. row.masks) rows) ++ codes "\n"
 
 -- the whole, in the order of the scripts
 abbrev pub study_text : List Row → List ℕ

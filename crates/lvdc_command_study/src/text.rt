@@ -1,15 +1,15 @@
 //! The text of a study.
 
-ghost use Rattle.std.specs.Prelude.{◌≡◌, ◌+◌, ◌*◌, ◌≤◌, ◌++◌, length, All, OnOk, IfOk};
+ghost use Rattle.std.specs.Prelude.{◌≡◌, ◌+◌, ◌*◌, ◌≤◌, ◌++◌, length, codes, is_none, All, OnOk, IfOk};
+ghost use Rattle.lvdc_text.specs.Pieces.{piece_text, piece_room, IsFit};
 ghost use Rattle.lvdc_lines.specs.Noted.{lines_of};
-ghost use Rattle.lvdc_command_campaign.specs.Texts.{count_in};
-ghost use Rattle.lvdc_command_study.specs.Texts.{difference_text, outcome_text, step_text, redundancy_text, form_text, row_line, is_admissible, is_same, total_line, study_text};
+ghost use Rattle.lvdc_command_campaign.specs.Texts.{admits, count_in};
+ghost use Rattle.lvdc_command_study.specs.Texts.{difference_text, outcome_text, step_text, redundancy_text, form_text, row_line, total_line, study_text};
 
-use lvdc_command_campaign::put_verdict;
-use lvdc_fault::Verdict;
+use lvdc_command_campaign::{admits, put_counts, put_script};
 use lvdc_image::put_address;
 use lvdc_study::{Difference, Row};
-use lvdc_text::put_decimal;
+use lvdc_text::{Piece, put, put_line};
 use lvdc_word::NoMemory;
 use std::alloc::Global;
 
@@ -19,18 +19,14 @@ fn put_difference(out: &mut Vec<u8>, difference: Difference) -> Result<(), NoMem
     ensures short { OnOk result (length out.new.items ≤ length out.old.items + 25) }
 {
     match difference {
-        Difference::End => out.extend_from_slice(b"END")?,
-        Difference::Port(time) => {
-            out.extend_from_slice(b"PORT ")?;
-            put_decimal(out, time)?;
-        }
-        Difference::Registers => out.extend_from_slice(b"REGISTERS")?,
+        Difference::End => put(out, &[Piece::Bytes(b"END")]),
+        Difference::Port(time) => put(out, &[Piece::Bytes(b"PORT "), Piece::Decimal(time)]),
+        Difference::Registers => put(out, &[Piece::Bytes(b"REGISTERS")]),
         Difference::Words(at) => {
             out.extend_from_slice(b"WORDS ")?;
-            put_address(out, at)?;
+            put_address(out, at)
         }
     }
-    Ok(())
 }
 
 /// Adds the outcome.
@@ -48,38 +44,40 @@ fn put_outcome(out: &mut Vec<u8>, difference: Option<Difference>) -> Result<(), 
     Ok(())
 }
 
-/// Adds the step of the first repair.
-fn put_step(out: &mut Vec<u8>, step: Option<u64>) -> Result<(), NoMemory>
-    ensures text { OnOk result (out.new.items ≡ out.old.items ++ step_text step) }
-    ensures short { OnOk result (length out.new.items ≤ length out.old.items + 20) }
+/// The step of the first repair.
+fn step_piece(step: Option<u64>) -> Piece<'static>
+    ensures text { piece_text result ≡ step_text step }
+    ensures short { piece_room result ≤ 20 }
+    ensures fit { IsFit result }
 {
     match step {
-        None => out.extend_from_slice(b"-")?,
-        Some(step) => put_decimal(out, step)?,
+        None => Piece::Bytes(b"-"),
+        Some(step) => Piece::Decimal(step),
     }
-    Ok(())
 }
 
-/// Adds what the redundancy did.
-fn put_redundancy(out: &mut Vec<u8>, row: &Row) -> Result<(), NoMemory>
-    ensures text { OnOk result (out.new.items ≡ out.old.items ++ redundancy_text row.now) }
-    ensures short { OnOk result (length out.new.items ≤ length out.old.items + 78) }
-{
-    out.extend_from_slice(b" COPIES ")?;
-    put_decimal(out, row.copies)?;
-    out.extend_from_slice(b" REPAIRS ")?;
-    put_decimal(out, row.repairs)?;
-    out.extend_from_slice(b" ")?;
-    put_step(out, row.first_repair)?;
-    Ok(())
-}
-
-/// The end of a line.
+/// Whether a script masks by form.
 fn form_text(masks: bool) -> &'static [u8]
     ensures text { result.now ≡ form_text masks }
-    ensures short { length result.now ≤ 10 }
+    ensures short { length result.now ≤ 3 }
 {
-    if masks { b" FORM YES\n" } else { b" FORM NO\n" }
+    if masks { b"YES" } else { b"NO" }
+}
+
+/// Adds the end of a line: what the redundancy did, and whether the script masks by form.
+fn put_end(out: &mut Vec<u8>, row: &Row) -> Result<(), NoMemory>
+    ensures text { OnOk result (out.new.items ≡ out.old.items ++ redundancy_text row.now ++ codes " FORM " ++ form_text row.now.masks ++ codes "\n") }
+    ensures short { OnOk result (length out.new.items ≤ length out.old.items + 88) }
+{
+    let copies = Piece::Decimal(row.copies);
+    let (second, repairs) = (Piece::Bytes(b"REPAIRS"), Piece::Decimal(row.repairs));
+    let step = step_piece(row.first_repair);
+    let (third, form) = (Piece::Bytes(b"FORM"), Piece::Bytes(form_text(row.masks)));
+    put_line(
+        out,
+        b" COPIES",
+        &[copies, second, repairs, step, third, form],
+    )
 }
 
 /// Adds the line of a script.
@@ -87,14 +85,10 @@ fn put_row(out: &mut Vec<u8>, row: &Row) -> Result<(), NoMemory>
     ensures line { OnOk result (out.new.items ≡ out.old.items ++ row_line row.now) }
     ensures short { OnOk result (length row.now.name ≤ 8 → length out.new.items ≤ length out.old.items + 174) }
 {
-    out.extend_from_slice(b"SCRIPT ")?;
-    out.extend_from_slice(row.name.items())?;
-    out.extend_from_slice(b" ")?;
-    put_verdict(out, row.verdict)?;
+    put_script(out, row.name.items(), row.verdict)?;
     out.extend_from_slice(b" ")?;
     put_outcome(out, row.difference)?;
-    put_redundancy(out, row)?;
-    out.extend_from_slice(form_text(row.masks))?;
+    put_end(out, row)?;
     Ok(())
 }
 
@@ -110,32 +104,18 @@ fn put_rows(out: &mut Vec<u8>, rows: &[Row]) -> Result<(), NoMemory>
     Ok(())
 }
 
-/// Is the script admissible?
-fn is_admissible(row: &Row) -> bool
-    ensures { result ≡ is_admissible row.now }
-{
-    matches!(row.verdict, Verdict::Admissible)
-}
-
-/// Is the outcome the same?
-fn is_same(row: &Row) -> bool
-    ensures { result ≡ is_same row.now }
-{
-    row.difference.is_none()
-}
-
 /// How many scripts are admissible.
 fn admissible_in(rows: &[Row]) -> usize
-    ensures { result ≡ count_in is_admissible rows.now }
+    ensures { result ≡ count_in (λ row. admits row.verdict) rows.now }
 {
-    rows.iter().filter(|&row| is_admissible(row)).count()
+    rows.iter().filter(|&row| admits(&row.verdict)).count()
 }
 
 /// How many come to the same.
 fn same_in(rows: &[Row]) -> usize
-    ensures { result ≡ count_in is_same rows.now }
+    ensures { result ≡ count_in (λ row. is_none row.difference) rows.now }
 {
-    rows.iter().filter(|&row| is_same(row)).count()
+    rows.iter().filter(|&row| row.difference.is_none()).count()
 }
 
 /// How many mask by form.
@@ -150,16 +130,15 @@ fn put_total(out: &mut Vec<u8>, rows: &[Row]) -> Result<(), NoMemory>
     ensures line { OnOk result (out.new.items ≡ out.old.items ++ total_line rows.now) }
     ensures short { OnOk result (length out.new.items ≤ length out.old.items + 111) }
 {
-    out.extend_from_slice(b"STUDY ")?;
-    put_decimal(out, rows.len() as u64)?;
-    out.extend_from_slice(b" ADMISSIBLE ")?;
-    put_decimal(out, admissible_in(rows) as u64)?;
-    out.extend_from_slice(b" SAME ")?;
-    put_decimal(out, same_in(rows) as u64)?;
-    out.extend_from_slice(b" FORM ")?;
-    put_decimal(out, masking_in(rows) as u64)?;
-    out.extend_from_slice(b"\n")?;
-    Ok(())
+    let masking = Piece::Decimal(masking_in(rows) as u64);
+    put_counts(
+        out,
+        b"STUDY",
+        rows.len(),
+        admissible_in(rows),
+        same_in(rows),
+    )?;
+    put_line(out, b" FORM", &[masking])
 }
 
 /// The text of the rows of a study.

@@ -1,8 +1,8 @@
 ghost use Rattle.std.specs.Prelude.{◌≡◌, List, All, IfOk, IfSome};
 ghost use Rattle.lvdc_port.specs.Device.{Device};
 ghost use Rattle.lvdc_snapshot.specs.Snapshot.{IsWhole};
-ghost use Rattle.lvdc_campaign.specs.Campaign.{IsScript};
-ghost use Rattle.lvdc_campaign.specs.Ran.{HasRunPlainly};
+ghost use Rattle.lvdc_runs.specs.Scripts.{IsScript};
+ghost use Rattle.lvdc_runs.specs.Ran.{HasRunPlainly};
 ghost use Rattle.lvdc_study.specs.Study.{opening_over, IsProgram, row_of};
 ghost use Rattle.lvdc_study.specs.Waypoints.{IsWaypoint};
 ghost use Rattle.lvdc_console.specs.Rack.{rack};

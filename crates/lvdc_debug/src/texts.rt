@@ -18,7 +18,7 @@ use lvdc_map::Address;
 use lvdc_modules::latches;
 use lvdc_plain::Visible;
 use lvdc_report::{put_end, put_memory_line, put_registers, put_unknown_line};
-use lvdc_text::{put_decimal, put_octal};
+use lvdc_text::{Piece, put, put_line, put_octal};
 use lvdc_word::{NoMemory, Syllable, Word};
 
 /// Adds pair or module, sector, syllable and location, as `p ss s lll`.
@@ -29,14 +29,22 @@ fn put_place(out: &mut Vec<u8>, pair: u8, sector: u8, syl: u8, loc: u8) -> Resul
     ensures place { OnOk result (out.new.items ≡ out.old.items ++ place_text pair sector syl loc) }
     ensures short { OnOk result (length out.new.items ≤ length out.old.items + 10) }
 {
-    put_octal(out, u64::from(pair), 1)?;
-    out.extend_from_slice(b" ")?;
-    put_octal(out, u64::from(sector), 2)?;
-    out.extend_from_slice(b" ")?;
-    put_octal(out, u64::from(syl), 1)?;
-    out.extend_from_slice(b" ")?;
-    put_octal(out, u64::from(loc), 3)?;
-    Ok(())
+    let pair = Piece::Octal(u64::from(pair), 1);
+    let sector = Piece::Octal(u64::from(sector), 2);
+    let syl = Piece::Octal(u64::from(syl), 1);
+    let loc = Piece::Octal(u64::from(loc), 3);
+    put(
+        out,
+        &[
+            pair,
+            Piece::Bytes(b" "),
+            sector,
+            Piece::Bytes(b" "),
+            syl,
+            Piece::Bytes(b" "),
+            loc,
+        ],
+    )
 }
 
 /// Adds where the run goes on, after how many times.
@@ -45,9 +53,8 @@ fn put_at_line(out: &mut Vec<u8>, visible: &Visible) -> Result<(), NoMemory>
     ensures short { OnOk result (length out.new.items ≤ length out.old.items + 35) }
 {
     let place = visible.place;
-    out.extend_from_slice(b"AT ")?;
-    put_decimal(out, visible.times)?;
-    out.extend_from_slice(b" ")?;
+    let times = Piece::Decimal(visible.times);
+    put(out, &[Piece::Bytes(b"AT "), times, Piece::Bytes(b" ")])?;
     put_place(out, place.imod, place.isec, place.syl, place.loc)?;
     out.extend_from_slice(b"\n")?;
     Ok(())
@@ -58,10 +65,7 @@ fn put_limit_line(out: &mut Vec<u8>, visible: &Visible) -> Result<(), NoMemory>
     ensures line { OnOk result (out.new.items ≡ out.old.items ++ limit_line visible.now) }
     ensures short { OnOk result (length out.new.items ≤ length out.old.items + 27) }
 {
-    out.extend_from_slice(b"LIMIT ")?;
-    put_decimal(out, visible.times)?;
-    out.extend_from_slice(b"\n")?;
-    Ok(())
+    put_line(out, b"LIMIT", &[Piece::Decimal(visible.times)])
 }
 
 /// Adds how far the run has come: its end, or where it is, or that the limit came before all was done.
@@ -83,14 +87,11 @@ fn put_breaks(out: &mut Vec<u8>, all: bool, count: usize) -> Result<(), NoMemory
     ensures text { OnOk result (out.new.items ≡ out.old.items ++ breaks_text all count) }
     ensures short { OnOk result (length out.new.items ≤ length out.old.items + 28) }
 {
-    if !all {
-        out.extend_from_slice(b"BREAKS FULL\n")?;
-        return Ok(());
+    if all {
+        put_line(out, b"BREAKS", &[Piece::Decimal(count as u64)])
+    } else {
+        put_line(out, b"BREAKS", &[Piece::Bytes(b"FULL")])
     }
-    out.extend_from_slice(b"BREAKS ")?;
-    put_decimal(out, count as u64)?;
-    out.extend_from_slice(b"\n")?;
-    Ok(())
 }
 
 /// The place so many locations further on in the sector.
@@ -110,10 +111,9 @@ fn put_word_line(out: &mut Vec<u8>, at: Address, shown: Shown) -> Result<(), NoM
     ensures short { OnOk result (length out.new.items ≤ length out.old.items + 23) }
 {
     match shown {
-        Shown::Known(word) => put_memory_line(out, at, word)?,
-        Shown::Unknown => put_unknown_line(out, at)?,
+        Shown::Known(word) => put_memory_line(out, at, word),
+        Shown::Unknown => put_unknown_line(out, at),
     }
-    Ok(())
 }
 
 /// Adds the line of a word as the machine shows it.
@@ -224,9 +224,7 @@ pub fn put_latch(out: &mut Vec<u8>, word: Word) -> Result<(), NoMemory>
     ensures text { OnOk result (out.new.items ≡ out.old.items ++ latch_text word) }
     ensures short { OnOk result (length out.new.items ≤ length out.old.items + 10) }
 {
-    out.extend_from_slice(b" ")?;
-    put_octal(out, u64::from(word.value()), 9)?;
-    Ok(())
+    put(out, &[Piece::Bytes(b" "), Piece::Word(word)])
 }
 
 /// Adds the latches of a copy in order.
@@ -247,10 +245,11 @@ pub fn put_copy(out: &mut Vec<u8>, machine: &Machine, number: u8, copy: u8) -> R
     ensures line { OnOk result (out.new.items ≡ out.old.items ++ copy_line machine.now.copies number copy) }
     ensures short { OnOk result (length out.new.items ≤ length out.old.items + 100) }
 {
-    out.extend_from_slice(b"COPY ")?;
-    put_decimal(out, u64::from(number))?;
-    out.extend_from_slice(b" ")?;
-    put_decimal(out, u64::from(copy))?;
+    let (name, blank) = (Piece::Bytes(b"COPY "), Piece::Bytes(b" "));
+    put(
+        out,
+        &[name, Piece::Small(number), blank, Piece::Small(copy)],
+    )?;
     put_latches(out, machine, number, copy)?;
     out.extend_from_slice(b"\n")?;
     Ok(())
@@ -265,8 +264,7 @@ fn put_copies(out: &mut Vec<u8>, machine: &Machine, number: u8) -> Result<(), No
 {
     put_copy(out, machine, number, 1)?;
     put_copy(out, machine, number, 2)?;
-    put_copy(out, machine, number, 3)?;
-    Ok(())
+    put_copy(out, machine, number, 3)
 }
 
 /// Adds the answer to a command that was carried out: it did all that it was asked, or it didn't, and there are so many
@@ -284,13 +282,12 @@ pub(crate) fn put_answer(
     ensures short { OnOk result (length out.new.items ≤ length out.old.items + most_answer command.now) }
 {
     match command {
-        Command::Step(_) => put_came(out, machine, all)?,
-        Command::Go => put_came(out, machine, all)?,
-        Command::Break(_) => put_breaks(out, all, breaks.count())?,
-        Command::Regs => put_registers(out, &machine.visible())?,
-        Command::Mem { at, count } => put_mem(out, machine, *at, *count)?,
-        Command::Dis { at, syl, count } => put_dis(out, machine, *at, *syl, *count)?,
-        Command::Copies(number) => put_copies(out, machine, *number)?,
+        Command::Step(_) => put_came(out, machine, all),
+        Command::Go => put_came(out, machine, all),
+        Command::Break(_) => put_breaks(out, all, breaks.count()),
+        Command::Regs => put_registers(out, &machine.visible()),
+        Command::Mem { at, count } => put_mem(out, machine, *at, *count),
+        Command::Dis { at, syl, count } => put_dis(out, machine, *at, *syl, *count),
+        Command::Copies(number) => put_copies(out, machine, *number),
     }
-    Ok(())
 }

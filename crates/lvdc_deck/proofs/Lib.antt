@@ -1,5 +1,6 @@
 pub mod Tokens
 pub mod Left
+pub mod PortLines
 pub mod TapeLines
 pub mod Steps
 pub mod Loaded

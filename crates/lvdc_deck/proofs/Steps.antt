@@ -1,5 +1,5 @@
 -- Lines one after the other: what they tell, the commands among them, and the deck from a line on.
-use Rattle.std.proofs.Common.{◌≡◌, ℕ, ◌+◌, ◌<◌, ◌≤◌, Bool, true, false, Option, Some, List, [], ◌∷◌, ◌++◌, map, length, get_or, drop, Result, Ok, Err, refl, sym, ap, ◌∙◌, append_assoc, append-nil, arith}
+use Rattle.std.proofs.Common.{◌≡◌, ℕ, ◌+◌, ◌<◌, ◌≤◌, Bool, true, false, Option, Some, List, [], ◌∷◌, ◌++◌, map, length, get_or, take, drop, Result, Ok, Err, refl, sym, ap, ◌∙◌, append_assoc, append-nil, arith}
 use Rattle.std.specs.Bool.{if◌then◌else◌}
 use Rattle.std.proofs.lemmas.List.{drop_more, drop_all}
 use Rattle.lvdc_text.specs.declared.cutting.Line.{Line}
@@ -12,8 +12,8 @@ use Rattle.lvdc_deck.specs.declared.section.Section.{Section}
 use Rattle.lvdc_deck.specs.declared.section.Opening.{Opening}
 use Rattle.lvdc_deck.specs.declared.section.Opening.TheVariants as opening
 use Rattle.lvdc_deck.specs.declared.section.ProgramKind.{ProgramKind}
-use Rattle.lvdc_deck.specs.Sections.{Sections, section_of, is_debug, in_order, by_word, by_tokens, after_line}
-use Rattle.lvdc_deck.specs.Deck.{and_then, Told, with_command, commands_from, with_commands, by_debug, told_from, end_of, by_end, opening_of, by_opening, deck_from}
+use Rattle.lvdc_deck.specs.Sections.{Sections, nothing_said, section_of, is_debug, in_order, by_word, by_tokens, after_line}
+use Rattle.lvdc_deck.specs.Deck.{and_then, Told, with_command, commands_from, with_commands, by_debug, told_from, end_of, with_program, by_end, opening_of, by_opening, deck_from}
 
 -- a section word opens its section in its order
 pub in_order-word : (devices : List Device) (s : Sections) (number : ℕ) (text_of : Line → List ℕ) (tokens : List Line) (section : Section) (d : Line) →
@@ -114,6 +114,18 @@ module _ (devices : List Device) (bytes : List ℕ) (s : Sections) (lines : List
       sym so_far ∙ ap (told_from devices bytes s) (drop_all i lines all) ∙ ap (λ (cs : List Line). Ok (record { sections = s; commands = cs })) (sym is)
 
 -- ---- the deck
+
+-- a program that ends, and lines after it that tell something
+pub end-told : (kind : ProgramKind) (devices : List Device) (debugging : Bool) (bytes : List ℕ) (next number : ℕ) (lines : List Line) (at : ℕ) →
+    end_of bytes lines ≡ Some at → (text rest : List Line) → text ≡ take (at + 1) lines → rest ≡ drop (at + 1) lines → (s : Sections) → s ≡ nothing_said kind →
+    (told : Told) → told_from devices bytes s rest ≡ Ok told →
+    by_end kind devices debugging bytes next number lines (end_of bytes lines) ≡ with_program kind bytes text debugging next told
+end-told kind devices debugging bytes next number lines at ends text rest front back s begins told is =
+    ap (by_end kind devices debugging bytes next number lines) ends
+    ∙ ap (λ (ls : List Line). and_then (told_from devices bytes (nothing_said kind) ls) (with_program kind bytes (take (at + 1) lines) debugging next)) (sym back)
+    ∙ ap (λ (t : Sections). and_then (told_from devices bytes t rest) (with_program kind bytes (take (at + 1) lines) debugging next)) (sym begins)
+    ∙ ap (λ (r : Result Told DeckFault). and_then r (with_program kind bytes (take (at + 1) lines) debugging next)) is
+    ∙ ap (λ (ls : List Line). with_program kind bytes ls debugging next told) (sym front)
 
 module _ (devices : List Device) (debugging : Bool) (bytes : List ℕ) (next : ℕ) (lines : List Line) (i : ℕ) (d : Line) (total : Result Deck DeckFault)
     (so_far : deck_from devices debugging bytes next (drop i lines) ≡ total) where

@@ -1,4 +1,5 @@
 ghost use Rattle.std.specs.Prelude.{◌≡◌, ◌<◌, ◌-◌, ◌^◌, length, map, All};
+ghost use Rattle.std.specs.Str.{bytes_eq};
 ghost use Rattle.lvdc_text.specs.Lines.{IsWithin, part_of};
 ghost use Rattle.lvdc_deck.specs.Sections.{section_of};
 ghost use Rattle.lvdc_deck.specs.Deck.{opened_by, opening_of, end_of, after_program};
@@ -6,23 +7,30 @@ ghost use Rattle.lvdc_deck.specs.Deck.{opened_by, opening_of, end_of, after_prog
 use crate::section::{Opening, ProgramKind, Section};
 use lvdc_text::{Line, few_tokens, is_comment, is_long, is_word, place_of};
 
+/// Does the text spell this word?
+pub(crate) fn spells(text: &[u8], word: &[u8]) -> bool
+    ensures { result ≡ bytes_eq text.now word.now }
+{
+    text == word
+}
+
 /// The section that a first word opens.
 pub(crate) fn section_of(word: &[u8]) -> Option<Section>
     ensures { result ≡ section_of word.now }
 {
-    if word == b"START".as_slice() {
+    if spells(word, b"START") {
         Some(Section::Start)
-    } else if word == b"SIMPLEX".as_slice() {
+    } else if spells(word, b"SIMPLEX") {
         Some(Section::Simplex)
-    } else if word == b"PORTS".as_slice() {
+    } else if spells(word, b"PORTS") {
         Some(Section::Ports)
-    } else if word == b"FAULTS".as_slice() {
+    } else if spells(word, b"FAULTS") {
         Some(Section::Faults)
-    } else if word == b"ORDER".as_slice() {
+    } else if spells(word, b"ORDER") {
         Some(Section::Order)
-    } else if word == b"RUN".as_slice() {
+    } else if spells(word, b"RUN") {
         Some(Section::Run)
-    } else if word == b"DEBUG".as_slice() {
+    } else if spells(word, b"DEBUG") {
         Some(Section::Debug)
     } else {
         None

@@ -6,6 +6,7 @@ ghost use Rattle.lvdc_deck.specs.Sections.{is_unplugged, kind_left, tape_line, u
 
 use crate::DeckFault;
 use crate::fields::{port_in, supplies_in, time_in};
+use crate::layout::spells;
 use crate::said::Said;
 use lvdc_plain::Unplug;
 use lvdc_port::{Kind, PortDevice, kind_at};
@@ -104,9 +105,9 @@ impl Said {
             return Err(DeckFault::BadLine(number));
         };
         let word = part(text, first);
-        if word == b"TAPE".as_slice() {
+        if spells(word, b"TAPE") {
             self.tape_line(alloc, devices, number, text, rest)
-        } else if word == b"UNPLUG".as_slice() {
+        } else if spells(word, b"UNPLUG") {
             self.unplug_line(devices, number, text, rest)
         } else {
             Err(DeckFault::BadLine(number))

@@ -2,7 +2,7 @@ ghost use Rattle.std.specs.Prelude.{◌≡◌};
 ghost use Rattle.lvdc_deck.specs.Sections.{rank, is_debug};
 
 /// The sections of a deck, in the order in which they stand.
-#[derive(Clone, Copy, PartialEq, Eq)]
+#[derive(Clone, Copy)]
 pub(crate) enum Section {
     Program,
     Start,
@@ -22,7 +22,7 @@ pub(crate) enum ProgramKind {
 }
 
 /// What a line says that may be a deck's first.
-#[derive(Clone, Copy, PartialEq, Eq)]
+#[derive(Clone, Copy)]
 pub(crate) enum Opening {
     /// Above 120 bytes.
     Long,

@@ -4,7 +4,6 @@ use Rattle.std.specs.List.{list_any}
 use Rattle.lvdc_word.specs.Cell.{with_stuck}
 use Rattle.lvdc_map.specs.Address.{Spot, is_same}
 use Rattle.lvdc_twin.specs.declared.stuck.Stuck.{Stuck}
-use Rattle.lvdc_twin.specs.Store.{nothing}
 use Rattle.lvdc_fault.specs.declared.event.Event.{Event}
 use Rattle.lvdc_fault.specs.declared.event.Event.TheVariants.{Damage, Stick, Dead}
 use Rattle.lvdc_fault.specs.Script.{is_within}
@@ -36,7 +35,7 @@ stuck_after step twin place (e ∷ es) s = stuck_after step twin place es (stuck
 
 -- what is stuck at a place of a twin during a step
 abbrev pub stuck : List Event → ℕ → ℕ → Spot → Stuck
-stuck script step twin place = stuck_after step twin place script nothing
+stuck script step twin place = stuck_after step twin place script (record { mask = 0; value = 0 })
 
 -- does an event make a twin of a pair dead at a step?
 abbrev pub kills : ℕ → ℕ → ℕ → Event → Bool

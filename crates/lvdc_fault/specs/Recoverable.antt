@@ -5,8 +5,7 @@ use Rattle.lvdc_map.specs.Address.{Spot}
 use Rattle.lvdc_map.specs.Banks.{is_simplex}
 use Rattle.lvdc_twin.specs.Store.{survives}
 
--- in a simplex pair the twin with the bank shows the cell; in a duplex pair the cell survives in what the two twins show (the
--- field `pair` of an address is its bank, whose pair is bank % 4)
+-- in a simplex pair the twin with the bank shows the cell; in a duplex pair the cell survives in what the two twins show
 abbrev pub recovers_by : Bool → ℕ → ℕ → (ℕ → ℕ) → Bool
 recovers_by true bank cell shown = shown (bank / 4) == cell
 recovers_by false bank cell shown = survives cell (shown 0) (shown 1)

@@ -1,8 +1,9 @@
 -- The fault script: what is active at a step, which copies are wrong then, and which are deaf.
-use Rattle.std.specs.Prelude.{◌≡◌, ◌≤◌, ℕ, Bool, false, ◌==◌, ◌&&◌, ◌||◌, nat_le, List, [], ◌∷◌, Option, None, Some, find, filter}
+use Rattle.std.specs.Prelude.{◌≡◌, ◌≤◌, ℕ, Bool, true, false, ◌==◌, ◌&&◌, ◌||◌, nat_le, List, [], ◌∷◌, Option, None, Some, find, filter}
 use Rattle.std.specs.List.{list_any}
 use Rattle.lvdc_fault.specs.declared.event.Event.{Event}
 use Rattle.lvdc_fault.specs.declared.event.Event.TheVariants.{Flip, Force, Lag, Deaf, Damage, Stick, Dead}
+use Rattle.lvdc_fault.specs.declared.span.Span.{Span}
 
 -- does a step lie from the first to the last?
 abbrev pub is_within : ℕ → ℕ → ℕ → Bool
@@ -36,7 +37,7 @@ two_wrong script step m = are_two (is_wrong script step m)
 
 -- the lowest module with two wrong copies
 abbrev pub wrong_module : List Event → ℕ → Option ℕ
-wrong_module script step = find (two_wrong script step) (1 ∷ 2 ∷ 3 ∷ 4 ∷ 5 ∷ 6 ∷ 7 ∷ [])
+wrong_module script step = find (λ m. are_two (is_wrong script step m)) (1 ∷ 2 ∷ 3 ∷ 4 ∷ 5 ∷ 6 ∷ 7 ∷ [])
 
 -- is a number, if there is one, this one?
 abbrev pub is_number : ℕ → Option ℕ → Bool
@@ -58,11 +59,6 @@ is_deaf script step m c = list_any (deafens step m c) script
 
 -- ---- what is active
 
--- the steps from the first to the last
-pub record Span : Type 0 where
-  pub first : ℕ
-  pub last : ℕ
-
 -- the steps of an event: damage is at its step alone
 abbrev pub span_of : Event → Span
 span_of (Flip number copy first last index mask) = record { first = first; last = last }
@@ -72,6 +68,13 @@ span_of (Deaf number copy first last) = record { first = first; last = last }
 span_of (Damage twin at t mask) = record { first = t; last = t }
 span_of (Stick twin at first last mask value) = record { first = first; last = last }
 span_of (Dead twin pair first last) = record { first = first; last = last }
+
+-- is an event on memory, and not on a copy?
+abbrev pub is_on_memory : Event → Bool
+is_on_memory (Damage twin at step mask) = true
+is_on_memory (Stick twin at first last mask value) = true
+is_on_memory (Dead twin pair first last) = true
+is_on_memory _ = false
 
 -- is an event active at a step?
 abbrev pub is_active : ℕ → Event → Bool

@@ -40,7 +40,7 @@ pub fn number_of_copy(event: &Event, step: u64) -> Option<usize>
             first,
             last,
         } => number_within(module, copy, first, last, step),
-        Event::Damage { .. } | Event::Stick { .. } | Event::Dead { .. } => None,
+        _ => None,
     }
 }
 

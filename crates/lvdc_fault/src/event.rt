@@ -1,11 +1,10 @@
 use lvdc_map::Address;
 use lvdc_word::{Cell, Word};
 
-#[derive(Debug)]
 /// A line of the fault script (this project's profile). Modules are 1 to 7, copies 1 to 3, twins 0 and 1; `index` is a latch of the
 /// module, from 0; an event acts at the steps from `first` to `last`. The events on memory name the physical place, with its pair
 /// below 4.
-#[derive(Clone, Copy, PartialEq, Eq)]
+#[derive(Clone, Copy, Debug, PartialEq, Eq)]
 pub enum Event {
     /// FLIP: the bits under the mask are turned over in the latch that the copy takes.
     Flip {

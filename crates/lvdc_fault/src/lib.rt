@@ -9,6 +9,7 @@ mod laws;
 mod ledger;
 mod named;
 mod script;
+mod span;
 mod verdict;
 
 pub use copies::number_of_copy;
@@ -17,6 +18,7 @@ pub use laws::none_wrong;
 pub use ledger::Ledger;
 pub use named::Named;
 pub use script::Script;
+pub use span::Span;
 pub use verdict::Verdict;
 
 /// The most instruction times of a run.

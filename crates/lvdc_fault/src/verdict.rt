@@ -1,8 +1,7 @@
 use lvdc_map::Address;
 
-#[derive(Debug)]
 /// What is said of a step (this project's profile).
-#[derive(Clone, Copy, PartialEq, Eq)]
+#[derive(Clone, Copy, Debug, PartialEq, Eq)]
 pub enum Verdict {
     /// The vote and the twins withstand it.
     Admissible,

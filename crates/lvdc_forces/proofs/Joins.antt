@@ -215,9 +215,7 @@ idle step m c (ev.Flip number copy first last index mask) h = (refl, rw h refl)
 idle step m c (ev.Force number copy first last index mask value) h = (refl, rw h refl)
 idle step m c (ev.Lag number copy first last) h = (refl, rw h refl)
 idle step m c (ev.Deaf number copy first last) h = (h, refl)
-idle step m c (ev.Damage twin at t mask) h = (refl, refl)
-idle step m c (ev.Stick twin at first last mask value) h = (refl, refl)
-idle step m c (ev.Dead twin pair first last) h = (refl, refl)
+idle step m c _ h = (refl, refl)
 
 pub idle_next : (step m c : ℕ) (s : Share) (e : Event) → makes_wrong step m c e ≡ false → share_next step m c s e ≡ s
 idle_next step m c s e h =

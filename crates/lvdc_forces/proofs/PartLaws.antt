@@ -1,5 +1,5 @@
 -- What is told of the parts of a script is what the script does.
-use Rattle.std.proofs.Common.{◌≡◌, ℕ, zero, suc, ◌+◌, ◌-◌, ◌*◌, ◌/◌, ◌%◌, ◌<◌, ◌≤◌, Bool, true, false, cond, ◌&&◌, ◌||◌, ◌==◌, List, [], ◌∷◌, ◌++◌, length, take, drop, min, refl, sym, ◌∙◌, ap, subst, arith, Some, find, length-drop, get_or, get_or-drop, set, replicate}
+use Rattle.std.proofs.Common.{◌≡◌, ℕ, zero, suc, ◌+◌, ◌-◌, ◌*◌, ◌/◌, ◌%◌, ◌<◌, ◌≤◌, Bool, true, false, cond, ◌&&◌, ◌||◌, ◌==◌, List, [], ◌∷◌, ◌++◌, length, take, drop, min, refl, sym, ◌∙◌, ap, subst, arith, Some, None, find, length-drop, get_or, get_or-drop, set, replicate}
 use Rattle.std.specs.List.{list_any}
 use Rattle.std.specs.Prelude.{All, slice_get}
 use Rattle.std.proofs.Math.Bool.{or-false}
@@ -12,11 +12,11 @@ use Rattle.std.proofs.lemmas.Option.{slice_get_within, slice_get-get_or, get_or_
 use Rattle.lvdc_vote.specs.Harms.{harm_of}
 use Rattle.lvdc_fault.specs.Script.{is_within, makes_wrong, is_wrong, deafens, is_deaf, are_two, two_wrong}
 use Rattle.lvdc_fault.specs.declared.event.Event.{Event}
-use Rattle.lvdc_fault.specs.declared.event.Event.TheVariants.{Flip, Force, Lag, Deaf, Damage, Stick, Dead}
+use Rattle.lvdc_fault.specs.declared.event.Event.TheVariants.{Flip, Force, Lag, Deaf}
 use Rattle.lvdc_fault.proofs.Lowest.{find_same}
 use Rattle.lvdc_fault.specs.Hurts.{hurts_by, hurts_on}
 use Rattle.lvdc_forces.specs.Untouched.{IsUntouched}
-use Rattle.lvdc_forces.specs.InForce.{faults_at, mark_at, no_faults}
+use Rattle.lvdc_forces.specs.InForce.{faults_at, mark_at, no_faults, nothing_in_force}
 use Rattle.lvdc_forces.specs.Parts.{StaysUntil, faults_in, no_part, part_of_script, events_of_part, IsRightUntil, total_of, share_then, IsRightAt}
 use Rattle.lvdc_forces.specs.Shares.{no_share, share_at, share_with, share_on, share_of, share_next, share_join}
 use Rattle.lvdc_forces.specs.declared.in_force.Faults.{Faults}
@@ -28,22 +28,14 @@ use Rattle.lvdc_forces.proofs.Joins.{idle, idle_next, joined_none, join_shares}
 -- ---- the same at two steps
 
 same_deafens : (s t m c : ℕ) (e : Event) → makes_wrong t m c e ≡ makes_wrong s m c e → deafens t m c e ≡ deafens s m c e
-same_deafens s t m c (Flip number copy first last index mask) h = refl
-same_deafens s t m c (Force number copy first last index mask value) h = refl
-same_deafens s t m c (Lag number copy first last) h = refl
 same_deafens s t m c (Deaf number copy first last) h = h
-same_deafens s t m c (Damage twin at d mask) h = refl
-same_deafens s t m c (Stick twin at first last mask value) h = refl
-same_deafens s t m c (Dead twin pair first last) h = refl
+same_deafens s t m c _ h = refl
 
 same_hurts : (s t m c : ℕ) (e : Event) → makes_wrong t m c e ≡ makes_wrong s m c e → hurts_by t m c e ≡ hurts_by s m c e
 same_hurts s t m c (Flip number copy first last index mask) h = rw h refl
 same_hurts s t m c (Force number copy first last index mask value) h = rw h refl
 same_hurts s t m c (Lag number copy first last) h = rw h refl
-same_hurts s t m c (Deaf number copy first last) h = refl
-same_hurts s t m c (Damage twin at d mask) h = refl
-same_hurts s t m c (Stick twin at first last mask value) h = refl
-same_hurts s t m c (Dead twin pair first last) h = refl
+same_hurts s t m c _ h = refl
 
 module _ (s t m c : ℕ) where
   abbrev Same : Event → Type 0
@@ -204,19 +196,6 @@ totals_right parts script t n whole h =
 
 -- ---- as the code goes
 
--- what holds of the items so far, and of one more that is set
-pub set_next : {X : Type 0} (P : ℕ → X → Type 0) (xs : List X) (k i : ℕ) (x d : X) → k ≡ i → i < length xs
-    → ((n : ℕ) → n < i → P n (get_or xs n d)) → P i x → (n : ℕ) → n < i + 1 → P n (get_or (set xs k x) n d)
-set_next P xs k i x d same within before here n below = by (n == i) refl where
-  by : (b : Bool) → (n == i) ≡ b → P n (get_or (set xs k x) n d)
-  by true e =
-      let is : n ≡ i = eqb-true n i e in
-      subst (λ j. P n (get_or (set xs j x) n d)) (is ∙ sym same)
-      (subst (P n) (sym (get_or-set_same xs n x d (omega (arith, within, is)))) (subst (λ j. P j x) (sym is) here))
-  by false e =
-      let other = eqb-false n i e in
-      subst (P n) (sym (get_or-set_other xs k n x d (λ (z : n ≡ k). other (z ∙ same)))) (before n (omega (arith, below, other)))
-
 -- the events from a position on stay so, and one more
 pub stays_more : (script : List Event) (from position step until change next : ℕ) (e : Event) → from ≤ position → slice_get script position ≡ Some e
     → next ≡ min until change → All (StaysUntil step until) (take (position - from) (drop from script)) → StaysUntil step change e
@@ -271,3 +250,37 @@ added step n k old e x r long within acts did = by (k == n) refl where
   by false other =
       get_or-set_other old k n x no_share (λ (z : n ≡ k). eqb-false k n other (sym z))
       ∙ sym (idle_next step (n / 3 + 1) (n % 3 + 1) (share_at old n) e (acts ∙ other))
+
+-- ---- parts that name no copy
+
+-- where none of a list holds, one of it doesn't
+none-holds : {X : Type 0} (p : X → Bool) (xs : List X) (d : X) → p d ≡ false → list_any p xs ≡ false → (n : ℕ) → p (get_or xs n d) ≡ false
+none-holds p [] d none h n = none
+none-holds p (x ∷ xs) d none h zero = (neither (p x) (list_any p xs) h).0
+none-holds p (x ∷ xs) d none h (suc n) = none-holds p xs d none (neither (p x) (list_any p xs) h).1 n
+
+-- what doesn't name a copy leaves what was done to it
+unnamed-then : (a b : Share) → b.named ≡ false → share_then a b ≡ a
+unnamed-then a b h = ap (λ (named : Bool). cond named (share_join a b) a) h
+
+-- a part that names no copy names none
+part-unnamed : (p : Part) → p.names_any ≡ false → (n : ℕ) → (share_at p.shares n).named ≡ false
+part-unnamed p h n = none-holds (λ (s : Share). s.named) p.shares no_share refl (sym p.told ∙ h) n
+
+-- so such parts do nothing
+total-none : (parts : List Part) → list_any (λ (p : Part). p.names_any) parts ≡ false → (n count : ℕ) → total_of parts n count ≡ no_share
+total-none parts h n zero = refl
+total-none parts h n (suc k) =
+    let p = part_of_script parts k in
+    unnamed-then (total_of parts n k) (share_at p.shares n) (part-unnamed p (none-holds (λ (p : Part). p.names_any) parts no_part refl h k) n)
+    ∙ total-none parts h n k
+
+-- and nothing is in force
+pub known_none : (script : List Event) (t : ℕ) (parts : List Part) → list_any (λ (p : Part). p.names_any) parts ≡ false
+    → ((n : ℕ) → n < 21 → total_of parts n (length parts) ≡ share_of script t n) → IsRightAt script t (record { force = nothing_in_force; wrong = None })
+known_none script t parts h right =
+    known_by script t (record { force = nothing_in_force; wrong = None }) (replicate 21 no_share)
+    (λ n below. get_or-replicate 21 n no_share no_share below ∙ sym (total-none parts h n (length parts)) ∙ right n below)
+    (λ n below. get_or-replicate 21 n false false below ∙ sym (ap (λ (s : Share). s.named) (get_or-replicate 21 n no_share no_share below)))
+    (λ n below. get_or-replicate 21 n no_faults no_faults below ∙ sym (ap faults_in (get_or-replicate 21 n no_share no_share below)))
+    refl refl refl

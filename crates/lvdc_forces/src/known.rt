@@ -1,11 +1,11 @@
 //! What is known of all copies by what the parts of a script do to them.
 
-ghost use Rattle.std.specs.Prelude.{◌≡◌, ℕ, ◌+◌, ◌-◌, ◌*◌, ◌≤◌, ◌<◌, ◌||◌, ◌&&◌, length, All, List, find, [], ◌∷◌};
+ghost use Rattle.std.specs.Prelude.{◌≡◌, ℕ, ◌+◌, ◌-◌, ◌*◌, ◌≤◌, ◌<◌, ◌||◌, ◌&&◌, length, All, List, find, [], ◌∷◌, None};
 ghost use Rattle.std.specs.List.{list_any};
 ghost use Rattle.lvdc_fault.specs.Events.{IsEvent};
 ghost use Rattle.lvdc_fault.specs.Script.{are_two};
 ghost use Rattle.lvdc_fault.specs.declared.event.Event.{Event};
-ghost use Rattle.lvdc_forces.specs.InForce.{faults_at, mark_at};
+ghost use Rattle.lvdc_forces.specs.InForce.{faults_at, mark_at, nothing_in_force};
 ghost use Rattle.lvdc_forces.specs.Parts.{faults_in, total_of, IsRightAt};
 ghost use Rattle.lvdc_forces.specs.Shares.{share_at, share_of};
 
@@ -23,7 +23,9 @@ pub struct Known {
 
 impl Known {
     /// Nothing is in force.
-    pub(crate) fn none() -> Known {
+    pub(crate) fn none() -> Known
+        ensures { result ≡ record { force = nothing_in_force; wrong = None } }
+    {
         Known {
             force: InForce::none(),
             wrong: None,
@@ -35,6 +37,9 @@ impl Known {
         ensures { (script : List Event) (step : ℕ) → All IsEvent script
             → ((n : ℕ) → n < 21 → total_of parts.now n (length parts.now) ≡ share_of script step n) → IsRightAt script step result }
     {
+        if !name_any(parts) {
+            return Known::none();
+        }
         let shares = totals(parts);
         let marks = marks_of(&shares);
         let copies = copies_of(&shares);
@@ -48,6 +53,13 @@ impl Known {
             wrong: lowest_of(&marks),
         }
     }
+}
+
+/// Does any part name a copy?
+fn name_any(parts: &[Part]) -> bool
+    ensures { result ≡ list_any (λ part. part.names_any) parts.now }
+{
+    parts.iter().any(|part| part.names_any)
 }
 
 /// What all parts do to each copy.

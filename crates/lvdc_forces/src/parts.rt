@@ -65,26 +65,10 @@ fn change_of(event: &Event, step: u64) -> u64
     ensures stays { StaysUntil step result event.now }
 {
     match *event {
-        Event::Flip { first, last, .. }
-        | Event::Force { first, last, .. }
-        | Event::Lag { first, last, .. }
-        | Event::Deaf { first, last, .. } => change_in(first, last, step),
-        Event::Damage { .. } | Event::Stick { .. } | Event::Dead { .. } => u64::MAX,
-    }
-}
-
-/// The first step after this one at which what lasts from a step to another begins or has ended.
-fn change_in(first: u64, last: u64, step: u64) -> u64
-    requires { step < 2 ^ 63 }
-    ensures later { step < result }
-    ensures stays { (t : ℕ) → step ≤ t → t < result → is_within first last t ≡ is_within first last step }
-{
-    if step < first {
-        first
-    } else if step <= last {
-        last.saturating_add(1)
-    } else {
-        u64::MAX
+        Event::Flip { .. } | Event::Force { .. } | Event::Lag { .. } | Event::Deaf { .. } => {
+            event.span().change_after(step)
+        }
+        _ => u64::MAX,
     }
 }
 

@@ -60,7 +60,7 @@ impl Share {
                 deaf: true,
                 ..self
             },
-            Event::Damage { .. } | Event::Stick { .. } | Event::Dead { .. } => self,
+            _ => self,
         }
     }
 

@@ -28,7 +28,7 @@ words_from says index zero = []
 words_from says index (suc n) = says index ∷ words_from says (suc index) n
 
 -- what copy c of module m will tell after a step: where it fails in it what the adversary says, else its row over the bus that it
--- hears, with these words from memory and port
+-- hears, with these words from memory and port. Lines of the script on copies aren't asked: the adversary stands for them
 abbrev pub next_teller : Adversary → Run → ℕ → ℕ → (Bus → List ℕ) → ℕ → ℕ → Teller
 next_teller a run m c row memory port =
     if a.fails run m c then Failed (λ listener. words_from (a.says run m c listener) 0 (latches_of m))

@@ -1,7 +1,7 @@
 -- The law of the three phases over a bus, by the exchange that is wished for.
 use Rattle.std.proofs.Common.{◌≡◌, ℕ, ◌%◌, ◌^◌, true, List, refl, ap, ◌∙◌, arith, subst}
 use Rattle.std.proofs.lemmas.Bool.{cond-true, false≢true}
-use Rattle.std.specs.declared.option.Option.TheVariants.{None}
+use Rattle.std.specs.declared.option.Option.TheVariants.{None, Some}
 use Rattle.lvdc_map.specs.declared.place.Place.{Place}
 use Rattle.lvdc_map.specs.declared.place.Place.TheVariants.{Memory, Pq, Saver}
 use Rattle.lvdc_isa.specs.Instr.{takes_operand}
@@ -12,7 +12,8 @@ use Rattle.lvdc_port.specs.Devices.{exchange_word}
 use Rattle.lvdc_port.specs.declared.requests.PortRequest.TheVariants.{Read}
 use Rattle.lvdc_plain.specs.Plain.{PlainState}
 use Rattle.lvdc_plain.specs.Table.{fetched_instr, operand_place, device_time}
-use Rattle.lvdc_plain.specs.Accesses.{fetched_by, operand_by, address_of_place}
+use Rattle.lvdc_map.specs.Hop.{fetch_of}
+use Rattle.lvdc_plain.specs.Accesses.{address_of_place, accessed, operand_of}
 use Rattle.lvdc_modules.specs.declared.bus.Bus.{Bus}
 use Rattle.lvdc_modules.specs.declared.wanted.Wanted.{Wanted}
 use Rattle.lvdc_modules.specs.declared.wanted.Wanted.TheVariants.{Fetch, Operand}
@@ -33,8 +34,8 @@ answers x y b p devices e = subst (λ (w : Wanted). IsAnswered w b p devices) e
 pub first_law : UnitIsRight → FirstLaw
 first_law right b p devices memory port stop s words answered =
     first_by right p.hold b p memory port refl s words
-    (λ z. answers (wish b p.banks) (read_wish Fetch (fetched_by None 0 p)) b p devices
-    (wishes 0 b p (omega arith) stop s ∙ (λ i. read_wish Fetch (fetched_by (stop i) (z i) p))) answered)
+    (λ z. answers (wish b p.banks) (read_wish Fetch (accessed None 0 (Some (fetch_of p.banks p.place)))) b p devices
+    (wishes 0 b p (omega arith) stop s ∙ (λ i. read_wish Fetch (accessed (stop i) (z i) (Some (fetch_of p.banks p.place))))) answered)
 
 -- the operand that is answered is found
 found : (place : Place) (b : Bus) (p : PlainState) (devices : List Device) → IsAnswered (read_wish Operand (address_of_place place)) b p devices → IsFound place b p
@@ -48,7 +49,7 @@ second_law right b p devices memory port stop s answered =
     second_by right p.hold b p memory port refl s
     (λ z t. found (operand_place p (fetched_instr p).address) b p devices
     (answers (wish b p.banks) (read_wish Operand (address_of_place (operand_place p (fetched_instr p).address))) b p devices
-    (wishes 1 b p (omega arith) stop s ∙ (λ i. read_wish Operand (operand_by (stop i) (z i) p))
+    (wishes 1 b p (omega arith) stop s ∙ (λ i. read_wish Operand (accessed (stop i) (z i) (operand_of p (fetched_instr p))))
     ∙ ap (read_wish Operand) (cond-true (takes_operand (fetched_instr p).op) (address_of_place (operand_place p (fetched_instr p).address)) None t)) answered))
 
 -- what a port read answers

@@ -1,7 +1,7 @@
 -- The modules wish for the exchanges of the plain machine's time.
 use Rattle.std.proofs.Common.{rules, ◌≡◌, ℕ, zero, suc, ◌+◌, ◌%◌, ◌^◌, ◌<◌, ◌==◌, ◌≢◌, Bool, true, false, if◌then◌else◌, refl, ap, sym, ◌∙◌, arith}
 use Rattle.std.proofs.lemmas.Bool.{cond_both, cond-true, cond-false, ne_eqb, eq-eqb}
-use Rattle.std.specs.declared.option.Option.TheVariants.{None}
+use Rattle.std.specs.declared.option.Option.TheVariants.{None, Some}
 use Rattle.lvdc_map.specs.Hop.{HopConstant, IsHopConstant, fetch_of}
 use Rattle.lvdc_map.specs.Place.{a9, operand_kind, place_of}
 use Rattle.lvdc_map.specs.declared.operand.OperandKind.{OperandKind}
@@ -14,7 +14,7 @@ use Rattle.lvdc_isa.specs.declared.op.Op.{Op}
 use Rattle.lvdc_isa.specs.declared.op.Op.TheVariants.{Pio, Sto}
 use Rattle.lvdc_plain.specs.Plain.{PlainState}
 use Rattle.lvdc_plain.specs.Table.{fetched_instr, operand_place}
-use Rattle.lvdc_plain.specs.Accesses.{fetched_by, operand_by, address_of_place}
+use Rattle.lvdc_plain.specs.Accesses.{address_of_place, accessed, operand_of}
 use Rattle.lvdc_modules.specs.declared.bus.Bus.{Bus}
 use Rattle.lvdc_modules.specs.declared.request.Request.{Request}
 use Rattle.lvdc_modules.specs.declared.request.Request.TheVariants as requests
@@ -119,11 +119,11 @@ wish_first zero b p z stop s =
     (λ i. wish_in (phase_of (s.phase_is i)) b p.banks)
     ∙ goes_for b p (Fetch (fetch_of p.banks (here b))) z s.hold
     ∙ ap (λ (x : HopConstant). Fetch (fetch_of p.banks x)) (here-is b p.place s.in_range s.place s.data_place)
-    ∙ (λ i. read_wish Fetch (fetched_by (sym stop i) (sym z i) p))
+    ∙ (λ i. read_wish Fetch (accessed (sym stop i) (sym z i) (Some (fetch_of p.banks p.place))))
 wish_first (suc n) b p e stop s =
     (λ i. wish_in (phase_of (s.phase_is i)) b p.banks)
     ∙ waits_for n b p (Fetch (fetch_of p.banks (here b))) e s.few s.hold
-    ∙ (λ i. read_wish Fetch (fetched_by (sym stop i) (sym e i) p))
+    ∙ (λ i. read_wish Fetch (accessed (sym stop i) (sym e i) (Some (fetch_of p.banks p.place))))
 
 wish_second : (h : ℕ) (b : Bus) (p : PlainState) → p.hold ≡ h → p.stop ≡ None → IsPhase 1 b p → wish b p.banks ≡ exchange_in 1 p
 wish_second zero b p z stop s =
@@ -133,11 +133,11 @@ wish_second zero b p z stop s =
     ∙ goes_for b p (instruction_wish (instruction b) b p.banks) z s.hold
     ∙ (λ j. if takes_operand (i j).op then operand_wish (place_of p.banks (h j) (i j).address) else Nothing)
     ∙ wish_operand (takes_operand (fetched_instr p).op) (operand_place p (fetched_instr p).address)
-    ∙ (λ j. read_wish Operand (operand_by (sym stop j) (sym z j) p))
+    ∙ (λ j. read_wish Operand (accessed (sym stop j) (sym z j) (operand_of p (fetched_instr p))))
 wish_second (suc n) b p e stop s =
     (λ i. wish_in (phase_of (s.phase_is i)) b p.banks)
     ∙ waits_for n b p (instruction_wish (instruction b) b p.banks) e s.few s.hold
-    ∙ (λ i. read_wish Operand (operand_by (sym stop i) (sym e i) p))
+    ∙ (λ i. read_wish Operand (accessed (sym stop i) (sym e i) (operand_of p (fetched_instr p))))
 
 wish_third : (h : ℕ) (b : Bus) (p : PlainState) → p.hold ≡ h → p.stop ≡ None → IsPhase 2 b p → wish b p.banks ≡ exchange_in 2 p
 wish_third zero b p z stop s =

@@ -5,7 +5,7 @@ use Rattle.std.specs.declared.option.Option.{Option}
 use Rattle.std.specs.declared.option.Option.TheVariants.{None, Some}
 use Rattle.std.proofs.lemmas.Bool.{ne_eqb}
 use Rattle.lvdc_map.specs.Address.{Spot}
-use Rattle.lvdc_map.specs.Hop.{HopConstant, IsHopConstant}
+use Rattle.lvdc_map.specs.Hop.{HopConstant, IsHopConstant, fetch_of}
 use Rattle.lvdc_map.specs.Place.{operand_kind, data_spot, place_at}
 use Rattle.lvdc_map.specs.declared.operand.OperandKind.{OperandKind}
 use Rattle.lvdc_map.specs.declared.operand.OperandKind.TheVariants as kinds
@@ -16,7 +16,7 @@ use Rattle.lvdc_port.specs.declared.requests.PortRequest.TheVariants as requests
 use Rattle.lvdc_modules.specs.Rows.{bus_of}
 use Rattle.lvdc_modules.specs.Wish.{wish}
 use Rattle.lvdc_modules.specs.declared.wanted.Wanted.{Wanted}
-use Rattle.lvdc_plain.specs.Accesses.{fetched, fetched_by, operand, operand_by, address_of_place}
+use Rattle.lvdc_plain.specs.Accesses.{fetched, operand, address_of_place, accessed, operand_of}
 use Rattle.lvdc_plain.specs.Plain.{PlainState, World}
 use Rattle.lvdc_plain.specs.Run.{plugged, run}
 use Rattle.lvdc_plain.specs.Table.{fetched_instr, operand_place, device_time, step}
@@ -87,12 +87,12 @@ place-bank law banks h address ok kinds.Memory = law banks h.dmod (data_spot ban
 place-bank law banks h address ok kinds.Pq = tt
 place-bank law banks h address ok kinds.Saver = law banks h.dmod (data_spot banks h address) ok.dmod refl
 
-fetch-bank : BankLaw → (stop : Option Stop) (hold : ℕ) (p : PlainState) → IsHopConstant p.place → HasBanks p.banks (fetched_by stop hold p)
+fetch-bank : BankLaw → (stop : Option Stop) (hold : ℕ) (p : PlainState) → IsHopConstant p.place → HasBanks p.banks (accessed stop hold (Some (fetch_of p.banks p.place)))
 fetch-bank law None zero p ok = law p.banks p.place.imod _ ok.imod refl
 fetch-bank law None (suc hold) p ok = tt
 fetch-bank law (Some s) hold p ok = tt
 
-operand-bank : BankLaw → (stop : Option Stop) (hold : ℕ) (p : PlainState) → IsHopConstant p.place → HasBanks p.banks (operand_by stop hold p)
+operand-bank : BankLaw → (stop : Option Stop) (hold : ℕ) (p : PlainState) → IsHopConstant p.place → HasBanks p.banks (accessed stop hold (operand_of p (fetched_instr p)))
 operand-bank law None zero p ok = by_takes (takes_operand (fetched_instr p).op)
   where
     address : ℕ
@@ -140,12 +140,13 @@ kept-read : (Stands : ℕ → List (List ℕ) → PlainState → Type 0) (o : Tr
     → Stands (suc n) (after_phase k.states (word_read (plain_in o v.steps) r) 0) (plain_in o v.steps)
     → Follows Stands o (suc v.steps) next
 kept-read Stands o v next r n law k a same later stands =
+    let kept : plain_in o v.steps ≡ plain_in o (suc v.steps) = ap (plain_at o) (sym same) in
     Goes a.steps (record {
       going = a.ended ∙ ap (λ (s : ℕ). stop_of (s % 4) v.steps) (law.phases.goes (suc n) _ _ k.running stands);
-      running = rw same k.running;
+      running = subst (λ (p : PlainState). p.stop ≡ None) kept k.running;
       states = after_phase k.states (word_read (plain_in o v.steps) r) 0;
-      stands = rw (later, same) stands;
-      shows = record { agree = a.agree; registers = rw same (law.phases.registers (suc n) _ _ stands) };
+      stands = subst (λ (p : PlainState). Stands (suc v.steps % 3) (after_phase k.states (word_read (plain_in o v.steps) r) 0) p) kept (rw later stands);
+      shows = record { agree = a.agree; registers = subst (ShowsRegisters (after_phase k.states (word_read (plain_in o v.steps) r) 0)) kept (law.phases.registers (suc n) _ _ stands) };
       matches = record {
         stores = a.stores;
         intended = a.intended ∙ k.matches.intended ∙ sym (ap (λ (i : ℕ). (plain_at o i).memory) same);

@@ -14,7 +14,7 @@ use Rattle.lvdc_port.specs.Devices.{exchange_word, after_exchange, HoldWords}
 use Rattle.lvdc_port.specs.declared.requests.PortRequest.TheVariants.{Read, Write}
 use Rattle.lvdc_modules.specs.declared.wanted.Wanted.{Wanted}
 use Rattle.lvdc_modules.specs.declared.wanted.Wanted.TheVariants as wanted
-use Rattle.lvdc_plain.specs.Accesses.{Store, store_of, store_to, store_by}
+use Rattle.lvdc_plain.specs.Accesses.{Store, store_of, store_to, accessed}
 use Rattle.lvdc_plain.specs.Plain.{PlainState}
 use Rattle.lvdc_plain.specs.Table.{fetched_instr, operand_place, request_by, exchanged, word_taken, goes_on, takes, transfers, stores, effect, logged, step, step_by}
 use Rattle.lvdc_plain.specs.declared.records.Exchange.{Exchange}
@@ -152,7 +152,7 @@ made_by-store Pio p address = by_port (a9 address) (address % 2 ^ 8) p.a
     by_port false port w = refl
 made_by-store _ p address = refl
 
-pub made-store : (stop : Option Stop) (hold : ℕ) (p : PlainState) → store_by stop hold p ≡ store_of_wish (made stop hold p)
+pub made-store : (stop : Option Stop) (hold : ℕ) (p : PlainState) → accessed stop hold (store_of p (fetched_instr p).op (fetched_instr p).address) ≡ store_of_wish (made stop hold p)
 made-store None zero p = made_by-store (fetched_instr p).op p (fetched_instr p).address
 made-store None (suc hold) p = refl
 made-store (Some s) hold p = refl

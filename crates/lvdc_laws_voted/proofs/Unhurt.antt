@@ -8,7 +8,8 @@ use Rattle.lvdc_map.specs.Banks.{holds}
 use Rattle.lvdc_map.specs.Memory as memory
 use Rattle.lvdc_modules.specs.declared.wanted.Wanted.{Wanted}
 use Rattle.lvdc_modules.specs.declared.wanted.Wanted.TheVariants as wanted
-use Rattle.lvdc_plain.specs.Accesses.{Store, store, store_by}
+use Rattle.lvdc_plain.specs.Table.{fetched_instr}
+use Rattle.lvdc_plain.specs.Accesses.{Store, store, accessed, store_of}
 use Rattle.lvdc_plain.specs.Plain.{PlainState, World}
 use Rattle.lvdc_plain.specs.Run.{Opening, plugged, time_by, run}
 use Rattle.lvdc_plain.specs.declared.records.Stop.{Stop}
@@ -52,7 +53,7 @@ wish-memory (wanted.PortWrite port word) m = refl
 
 -- one time changes it by the store that it makes
 time-memory : PortLaw → (stop : Option Stop) (o : Opening) (w : World) → w.plain.stop ≡ stop
-    → (time_by stop o.unplugs w).plain.memory ≡ after_stores (store_by stop w.plain.hold w.plain) w.plain.memory
+    → (time_by stop o.unplugs w).plain.memory ≡ after_stores (accessed stop w.plain.hold (store_of w.plain (fetched_instr w.plain).op (fetched_instr w.plain).address)) w.plain.memory
 time-memory law (Some s) o w e = refl
 time-memory law None o w e =
     let p = w.plain in

@@ -8,7 +8,7 @@ use Rattle.lvdc_vote.specs.declared.hurt.Hurt.{Hurt}
 use Rattle.lvdc_vote.specs.Numbers.{latches_of}
 use Rattle.lvdc_fault.specs.Script.{acts_on, is_within}
 use Rattle.lvdc_fault.specs.declared.event.Event.{Event}
-use Rattle.lvdc_fault.specs.declared.event.Event.TheVariants.{Flip, Force, Lag, Deaf, Damage, Stick, Dead}
+use Rattle.lvdc_fault.specs.declared.event.Event.TheVariants.{Flip, Force, Lag}
 use Rattle.lvdc_fault.specs.Events.{IsEvent}
 use Rattle.lvdc_fault.specs.Hurts.{hurts_by, hurts_on}
 
@@ -36,10 +36,7 @@ hurt_fits step m c (Force number copy first last index mask value) is =
     fits_one (acts_on number copy first last step m c) (latches_of m) _
     (λ h. subst (λ n. index < latches_of n) (its_module number copy first last step m c h) is.2)
 hurt_fits step m c (Lag number copy first last) is = fits_one (acts_on number copy first last step m c) (latches_of m) _ (λ h. tt)
-hurt_fits step m c (Deaf number copy first last) is = All-nil _
-hurt_fits step m c (Damage twin at t mask) is = All-nil _
-hurt_fits step m c (Stick twin at first last mask value) is = All-nil _
-hurt_fits step m c (Dead twin pair first last) is = All-nil _
+hurt_fits step m c _ is = All-nil _
 
 -- what a script does to a copy names latches of its module, where the events are in their ranges
 pub hurts_fit : (step m c : ℕ) (es : List Event) → All IsEvent es → All (FitsLatches (latches_of m)) (hurts_on step m c es)

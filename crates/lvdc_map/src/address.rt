@@ -29,7 +29,6 @@ impl Model for Address {
 }
 
 impl Address {
-    ghost use Rattle.std.specs.Prelude.{nat_lt};
     ghost use Rattle.lvdc_map.specs.Address.{number_of, spot_at};
     ghost use Rattle.lvdc_map.specs.Banks.{home, IsPlace};
 
@@ -57,13 +56,6 @@ impl Address {
         ensures small { result < 32768 }
     {
         usize::from(self.pair) * 4096 + usize::from(self.sector) * 256 + usize::from(self.loc)
-    }
-
-    /// Does it come before the other one in the order of all addresses?
-    pub fn is_before(self, other: Address) -> bool
-        ensures { result ≡ nat_lt (number_of self) (number_of other) }
-    {
-        self < other
     }
 
     /// The address at this place in the order of all addresses.

@@ -10,45 +10,31 @@ use Rattle.lvdc_map.specs.Memory.{Memory}
 use Rattle.lvdc_twin.specs.declared.stuck.Stuck.{Stuck}
 use Rattle.lvdc_fault.specs.Damage.{stuck_by, stuck_after, kills, is_dead}
 use Rattle.lvdc_fault.specs.declared.event.Event.{Event}
-use Rattle.lvdc_fault.specs.declared.event.Event.TheVariants.{Flip, Force, Lag, Deaf, Damage, Stick, Dead}
+use Rattle.lvdc_fault.specs.declared.event.Event.TheVariants.{Damage, Stick, Dead}
 use Rattle.lvdc_model.specs.Exchanges.{damages_by, damages}
 use Rattle.lvdc_model.specs.Trial.{Trial}
 use Rattle.lvdc_model.specs.Twins.{Twins}
 use Rattle.lvdc_memory.specs.Faults.{stuck_since, is_dead_since}
 use Rattle.lvdc_memory.specs.Holds.{MemoryState, IsMemoryOf}
-use Rattle.lvdc_memory.specs.OnMemory.{is_on_memory, on_memory}
+use Rattle.lvdc_fault.specs.Script.{is_on_memory}
+use Rattle.lvdc_memory.specs.OnMemory.{on_memory}
 
 -- ---- what the events on memory do is what all do
 
 pub stuck_only : (step twin : ℕ) (place : Spot) (es : List Event) (s : Stuck) → stuck_after step twin place (on_memory es) s ≡ stuck_after step twin place es s
 stuck_only step twin place [] s = refl
-stuck_only step twin place (Flip number copy first last index mask ∷ es) s = stuck_only step twin place es s
-stuck_only step twin place (Force number copy first last index mask value ∷ es) s = stuck_only step twin place es s
-stuck_only step twin place (Lag number copy first last ∷ es) s = stuck_only step twin place es s
-stuck_only step twin place (Deaf number copy first last ∷ es) s = stuck_only step twin place es s
-stuck_only step twin place (Damage w at t mask ∷ es) s = stuck_only step twin place es s
 stuck_only step twin place (Stick w at first last mask value ∷ es) s = stuck_only step twin place es (stuck_by step twin place (Stick w at first last mask value) s)
-stuck_only step twin place (Dead w pair first last ∷ es) s = stuck_only step twin place es s
+stuck_only step twin place (_ ∷ es) s = stuck_only step twin place es s
 
 pub dead_only : (step twin pair : ℕ) (es : List Event) → is_dead (on_memory es) step twin pair ≡ is_dead es step twin pair
 dead_only step twin pair [] = refl
-dead_only step twin pair (Flip number copy first last index mask ∷ es) = dead_only step twin pair es
-dead_only step twin pair (Force number copy first last index mask value ∷ es) = dead_only step twin pair es
-dead_only step twin pair (Lag number copy first last ∷ es) = dead_only step twin pair es
-dead_only step twin pair (Deaf number copy first last ∷ es) = dead_only step twin pair es
-dead_only step twin pair (Damage w at t mask ∷ es) = dead_only step twin pair es
-dead_only step twin pair (Stick w at first last mask value ∷ es) = dead_only step twin pair es
 dead_only step twin pair (Dead w p first last ∷ es) = ap (λ (b : Bool). kills step twin pair (Dead w p first last) || b) (dead_only step twin pair es)
+dead_only step twin pair (_ ∷ es) = dead_only step twin pair es
 
 pub damages_only : (step : ℕ) (es : List Event) (t : Twins) → damages step (on_memory es) t ≡ damages step es t
 damages_only step [] t = refl
-damages_only step (Flip number copy first last index mask ∷ es) t = damages_only step es t
-damages_only step (Force number copy first last index mask value ∷ es) t = damages_only step es t
-damages_only step (Lag number copy first last ∷ es) t = damages_only step es t
-damages_only step (Deaf number copy first last ∷ es) t = damages_only step es t
 damages_only step (Damage w at d mask ∷ es) t = damages_only step es (damages_by step (Damage w at d mask) t)
-damages_only step (Stick w at first last mask value ∷ es) t = damages_only step es t
-damages_only step (Dead w p first last ∷ es) t = damages_only step es t
+damages_only step (_ ∷ es) t = damages_only step es t
 
 -- ---- so it holds by them
 

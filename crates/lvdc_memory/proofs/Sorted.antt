@@ -9,8 +9,9 @@ use Rattle.std.proofs.lemmas.List.Elements.{All-filter, filter_agree}
 use Rattle.std.proofs.lemmas.List.Sorted.{All-permutation}
 use Rattle.lvdc_fault.specs.Events.{IsEvent}
 use Rattle.lvdc_fault.specs.declared.event.Event.{Event}
-use Rattle.lvdc_fault.specs.declared.event.Event.TheVariants.{Lag, Dead}
-use Rattle.lvdc_memory.specs.OnMemory.{is_on_memory, on_memory}
+use Rattle.lvdc_fault.specs.declared.event.Event.TheVariants.{Damage, Dead}
+use Rattle.lvdc_fault.specs.Script.{is_on_memory}
+use Rattle.lvdc_memory.specs.OnMemory.{on_memory}
 use Rattle.lvdc_memory.specs.Order.{number_of_event, has_number, AreOnMemory}
 
 -- two numbers of which neither is less are one
@@ -23,7 +24,7 @@ is_before a b = is_lt (nat_cmp (number_of_event a) (number_of_event b))
 
 -- each number is that of an event
 sample : ℕ → Event
-sample zero = Lag 0 0 0 0
+sample zero = Damage 0 (record { pair = 0; sector = 0; loc = 0 }) 0 0
 sample (suc n) = Dead 0 n 0 0
 
 number_of-sample : (number : ℕ) → number_of_event (sample number) ≡ number

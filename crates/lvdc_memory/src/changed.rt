@@ -2,7 +2,6 @@
 
 ghost use Rattle.std.specs.Prelude.{◌≡◌, ◌≢◌, ◌<◌, false, [], ◌∷◌, length, All};
 ghost use Rattle.lvdc_fault.specs.Events.{IsEvent};
-ghost use Rattle.lvdc_fault.specs.Script.{is_within};
 ghost use Rattle.lvdc_memory.specs.Changes.{Changes};
 ghost use Rattle.lvdc_memory.specs.Events.{AreOld};
 ghost use Rattle.lvdc_memory.specs.News.{is_new, new_events, was_within};
@@ -10,7 +9,7 @@ ghost use Rattle.lvdc_memory.specs.Parts.{part_at, AreParts, AreRight};
 
 use crate::VotedMemory;
 use crate::parts::{Part, is_dead_now, part_of, stuck_now};
-use lvdc_fault::Event;
+use lvdc_fault::{Event, Span};
 use lvdc_twin::changes_are_local;
 
 /// A step that begins: the events on memory, their parts, which are right at it, the last step before it, if there was one, and the
@@ -40,30 +39,19 @@ fn is_new(event: &Event, before: Option<u64>, step: u64) -> bool
 {
     match *event {
         Event::Damage { step: damaged, .. } => damaged == step,
-        Event::Flip { first, last, .. }
-        | Event::Force { first, last, .. }
-        | Event::Lag { first, last, .. }
-        | Event::Deaf { first, last, .. }
-        | Event::Stick { first, last, .. }
-        | Event::Dead { first, last, .. } => {
-            was_within(first, last, before) != is_within(first, last, step)
+        _ => {
+            let span = event.span();
+            was_within(span, before) != span.has(step)
         }
     }
 }
 
-/// Does a step lie from the first to the last?
-fn is_within(first: u64, last: u64, step: u64) -> bool
-    ensures { result ≡ is_within first last step }
-{
-    first <= step && step <= last
-}
-
-/// Does a step, if there is one, lie from the first to the last?
-fn was_within(first: u64, last: u64, step: Option<u64>) -> bool
-    ensures { result ≡ was_within first last step }
+/// Does a step, if there is one, lie in a span?
+fn was_within(span: Span, step: Option<u64>) -> bool
+    ensures { result ≡ was_within span.first span.last step }
 {
     match step {
-        Some(before) => is_within(first, last, before),
+        Some(before) => span.has(before),
         None => false,
     }
 }
@@ -133,7 +121,7 @@ impl VotedMemory {
                 let dead = is_dead_now(by.events, by.parts, by.step, twin, pair);
                 self.twins.dead(twin, pair, dead);
             }
-            Event::Flip { .. } | Event::Force { .. } | Event::Lag { .. } | Event::Deaf { .. } => {}
+            _ => {}
         }
     }
 }

@@ -2,7 +2,7 @@
 
 ghost use Rattle.std.specs.Prelude.{◌≡◌, ◌++◌, ◌∷◌, [], All, IfOk, OnOk};
 ghost use Rattle.lvdc_fault.specs.Events.{IsEvent};
-ghost use Rattle.lvdc_memory.specs.OnMemory.{is_on_memory, on_memory};
+ghost use Rattle.lvdc_memory.specs.OnMemory.{on_memory};
 ghost use Rattle.lvdc_memory.specs.Order.{number_of_event, number_of_pair, number_of_place, AreOnMemory};
 
 use lvdc_fault::{Event, Script};
@@ -35,20 +35,10 @@ fn events_on_memory(alloc: Global, script: &Script) -> Result<Vec<Event>, NoMemo
 fn add_on_memory(events: &mut Vec<Event>, event: &Event) -> Result<(), NoMemory>
     ensures { OnOk result (events.new.items ≡ events.old.items ++ on_memory (event.now ∷ [])) }
 {
-    if is_on_memory(event) {
+    if event.is_on_memory() {
         events.push(*event)?;
     }
     Ok(())
-}
-
-/// Is an event on memory?
-fn is_on_memory(event: &Event) -> bool
-    ensures { result ≡ is_on_memory event.now }
-{
-    match *event {
-        Event::Damage { .. } | Event::Stick { .. } | Event::Dead { .. } => true,
-        Event::Flip { .. } | Event::Force { .. } | Event::Lag { .. } | Event::Deaf { .. } => false,
-    }
 }
 
 /// The number of what an event sticks or kills; 0 where it does neither.

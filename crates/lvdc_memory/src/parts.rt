@@ -175,12 +175,7 @@ fn change_of(event: &Event, step: u64) -> u64
 {
     match *event {
         Event::Damage { step: damaged, .. } => damage_after(damaged, step),
-        Event::Stick { first, last, .. }
-        | Event::Dead { first, last, .. }
-        | Event::Flip { first, last, .. }
-        | Event::Force { first, last, .. }
-        | Event::Lag { first, last, .. }
-        | Event::Deaf { first, last, .. } => change_in(first, last, step),
+        _ => event.span().change_after(step),
     }
 }
 
@@ -189,19 +184,6 @@ fn damage_after(damaged: u64, step: u64) -> u64
     ensures { (t : ℕ) → step < t → t < result → damaged ≢ t }
 {
     if step < damaged { damaged } else { u64::MAX }
-}
-
-/// The first step after this one at which what lasts from a step to another begins or has ended.
-fn change_in(first: u64, last: u64, step: u64) -> u64
-    ensures { (t : ℕ) → step ≤ t → t < result → is_within first last t ≡ is_within first last step }
-{
-    if step < first {
-        first
-    } else if step <= last {
-        last.saturating_add(1)
-    } else {
-        u64::MAX
-    }
 }
 
 /// What events stick in a step at the place at which the first of them sticks bits.

@@ -21,7 +21,7 @@ plain_at o k = (run o.opening k).plain
 
 -- the plain state with which the time of a step begins: a time has three steps
 abbrev pub plain_in : Trial → ℕ → PlainState
-plain_in o step = plain_at o (step / 3)
+plain_in o step = (run o.opening (step / 3)).plain
 
 -- the devices without those that are taken away at the time of a step
 abbrev pub plugged_at : List Unplug → ℕ → List Device → List Device
@@ -31,10 +31,9 @@ plugged_at unplugs step devices = plugged unplugs (step / 3) devices
 abbrev pub devices_left : List Unplug → ℕ → List Device → List Device
 devices_left unplugs step devices = if step % 3 == 0 then plugged_at unplugs step devices else devices
 
--- the devices of the plain run in a step that is begun: those after the whole times before it, of which none was asked in its time
--- yet, without those that are taken away at its time
+-- the devices of the plain run in a step that is begun: those after the whole times before it, without those taken away at its time
 abbrev pub plugged_in : Trial → ℕ → List Device
-plugged_in o step = plugged_at o.opening.unplugs step (run o.opening (step / 3)).devices
+plugged_in o step = plugged o.opening.unplugs (step / 3) (run o.opening (step / 3)).devices
 
 -- what a plain state reads of memory in a phase of the time that it begins: in A the instruction, in B the operand
 abbrev pub read_in_phase : ℕ → PlainState → Option Spot
@@ -48,9 +47,8 @@ read_at o step = read_in_phase (step % 3) (plain_in o step)
 
 -- what it stores in a phase: only C stores
 abbrev pub store_in_phase : ℕ → PlainState → Option accesses.Store
-store_in_phase zero p = None
-store_in_phase (suc zero) p = None
 store_in_phase (suc (suc n)) p = accesses.store p
+store_in_phase _ p = None
 
 -- what it stores in a step
 abbrev pub store_at : Trial → ℕ → Option accesses.Store

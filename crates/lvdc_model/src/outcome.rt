@@ -1,10 +1,9 @@
 use lvdc_fault::Verdict;
 use lvdc_plain::Stop;
 
-#[derive(Debug)]
 /// How a call of the voted machine ended, or what is told of a run. The number of a step is 3t + phase, for the instruction time t
 /// and the phase 0 to 2.
-#[derive(Clone, Copy, PartialEq, Eq)]
+#[derive(Clone, Copy, Debug, PartialEq, Eq)]
 pub enum Outcome {
     /// All steps asked for were made.
     Done,

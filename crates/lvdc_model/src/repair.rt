@@ -1,13 +1,11 @@
 use lvdc_map::Address;
 
-/// A cell that a read found bad and rewrote. Of a dead twin it is noted too, though nothing is stored.
+/// A cell that a read found bad and rewrote: the step of the read, from 0, the address and the twin, 0 or 1, and whether the other
+/// twin was selected by it. Of a dead twin it is noted too, though nothing is stored.
 #[derive(Clone, Copy, PartialEq, Eq)]
 pub struct Repair {
-    /// The step of the read, from 0.
     pub step: u64,
     pub at: Address,
-    /// The twin rewritten, 0 or 1.
     pub twin: u8,
-    /// Whether the other twin was selected by it.
     pub switched: bool,
 }

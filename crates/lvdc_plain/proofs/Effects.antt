@@ -8,7 +8,7 @@ use Rattle.lvdc_map.specs.Place.{place_of, with_data}
 use Rattle.lvdc_map.specs.declared.place.Place.{Place}
 use Rattle.lvdc_plain.specs.Plain.{PlainState}
 use Rattle.lvdc_plain.specs.Processor.{Holds}
-use Rattle.lvdc_plain.specs.Table.{effect, operand_place, goes_on, takes, goes_to, stores}
+use Rattle.lvdc_plain.specs.Table.{effect, operand_place, goes_on, takes, stores}
 use Rattle.lvdc_plain.specs.declared.processor.Processor.{Processor}
 
 -- the row of an operation is what it does
@@ -29,9 +29,9 @@ takes_held {p = p} {w = w} h is same =
     (record { banks = h.banks; place = ap after h.place; a = same; pq = h.pq; saver = h.saver; pending = h.pending; hold = h.hold; memory = h.memory })
 
 pub goes_to_held : {old new : Processor} {p : PlainState} {place there : HopConstant} → Holds old p →
-    new ≡ record old { place = place; saver = word_of_hop (after old.place) } → place ≡ there → Holds new (goes_to p there)
+    new ≡ record old { place = place; saver = word_of_hop (after old.place) } → place ≡ there → Holds new (record p { place = there; saver = word_of_hop (after p.place) })
 goes_to_held {p = p} {there = there} h is same =
-    subst (λ r. Holds r (goes_to p there)) (sym is)
+    subst (λ r. Holds r (record p { place = there; saver = word_of_hop (after p.place) })) (sym is)
     (record {
       banks = h.banks;
       place = same;

@@ -1,5 +1,5 @@
 -- What an instruction time reads and stores in memory.
-use Rattle.std.specs.Prelude.{ℕ, zero, suc, if◌then◌else◌}
+use Rattle.std.specs.Prelude.{ℕ, zero, if◌then◌else◌}
 use Rattle.std.specs.declared.option.Option.{Option}
 use Rattle.std.specs.declared.option.Option.TheVariants.{None, Some}
 use Rattle.lvdc_map.specs.Address.{Spot}
@@ -14,15 +14,14 @@ use Rattle.lvdc_plain.specs.declared.records.Stop.{Stop}
 use Rattle.lvdc_plain.specs.Plain.{PlainState}
 use Rattle.lvdc_plain.specs.Table.{fetched_instr, operand_place}
 
--- the fetch address, where something is fetched: nothing is while a hold is left or after a stop
-abbrev pub fetched_by : Option Stop → ℕ → PlainState → Option Spot
-fetched_by None zero p = Some (fetch_of p.banks p.place)
-fetched_by None (suc hold) p = None
-fetched_by (Some s) hold p = None
+-- what is accessed in a time, by stop and hold: nothing after a stop or while a hold is left
+abbrev pub accessed : {B : Type 0} → Option Stop → ℕ → Option B → Option B
+accessed None zero access = access
+accessed _ _ access = None
 
 -- the address that is fetched in the next time of a plain state, if any
 abbrev pub fetched : PlainState → Option Spot
-fetched p = fetched_by p.stop p.hold p
+fetched p = accessed p.stop p.hold (Some (fetch_of p.banks p.place))
 
 -- the address in memory of a place
 abbrev pub address_of_place : Place → Option Spot
@@ -34,15 +33,9 @@ address_of_place (Saver at) = Some at
 abbrev pub operand_of : PlainState → Instr → Option Spot
 operand_of p i = if takes_operand i.op then address_of_place (operand_place p i.address) else None
 
--- the address of the operand in memory, where the instruction fetched takes one there
-abbrev pub operand_by : Option Stop → ℕ → PlainState → Option Spot
-operand_by None zero p = operand_of p (fetched_instr p)
-operand_by None (suc hold) p = None
-operand_by (Some s) hold p = None
-
 -- the address that is read as an operand in the next time, if any
 abbrev pub operand : PlainState → Option Spot
-operand p = operand_by p.stop p.hold p
+operand p = accessed p.stop p.hold (operand_of p (fetched_instr p))
 
 -- a store: its address and its word
 pub record Store : Type 0 where
@@ -60,12 +53,6 @@ abbrev pub store_of : PlainState → Op → ℕ → Option Store
 store_of p Sto address = store_to p (operand_place p address)
 store_of p _ address = None
 
--- what is stored in the next time: nothing where the machine has stopped or holds
-abbrev pub store_by : Option Stop → ℕ → PlainState → Option Store
-store_by None zero p = store_of p (fetched_instr p).op (fetched_instr p).address
-store_by None (suc hold) p = None
-store_by (Some s) hold p = None
-
 -- the store that a time makes, where it makes one
 abbrev pub store : PlainState → Option Store
-store p = store_by p.stop p.hold p
+store p = accessed p.stop p.hold (store_of p (fetched_instr p).op (fetched_instr p).address)

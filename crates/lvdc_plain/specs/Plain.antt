@@ -9,8 +9,7 @@ use Rattle.lvdc_plain.specs.declared.records.Exchange.{Exchange}
 use Rattle.lvdc_plain.specs.declared.records.Pending.{Pending}
 use Rattle.lvdc_plain.specs.declared.records.Stop.{Stop}
 
--- which pairs of banks are simplex, the place and data place, the registers, what is pending, the times left to hold, the memory,
--- the port log, the instruction times made, and why it stopped
+-- the simplex pairs, place and data place, registers, what is pending, times left to hold, memory, port log, times made, why it stopped
 pub record PlainState : Type 0 where
   pub banks : ℕ
   pub place : HopConstant

@@ -12,8 +12,7 @@ use Rattle.lvdc_plain.specs.declared.records.Unplug.{Unplug}
 use Rattle.lvdc_plain.specs.Plain.{World, started}
 use Rattle.lvdc_plain.specs.Table.{step}
 
--- what a run depends on, as plain data: the words of the image, the simplex pairs, the start constant, which devices are
--- taken away when, and the devices as they are handed in
+-- what a run depends on: the image, the simplex pairs, the start constant, which devices are taken away when, and the devices
 pub record Opening : Type 0 where
   pub image : List Placed
   pub banks : ℕ
@@ -51,10 +50,6 @@ abbrev pub run_from : List Unplug → ℕ → World → World
 run_from unplugs zero w = w
 run_from unplugs (suc n) w = time unplugs (run_from unplugs n w)
 
--- the world at the start
-abbrev pub opened : Opening → World
-opened o = record { plain = started o.banks o.start (memory.memory_of o.image); devices = o.devices }
-
 -- the world after so many times of the plain run
 abbrev pub run : Opening → ℕ → World
-run o n = run_from o.unplugs n (opened o)
+run o n = run_from o.unplugs n (record { plain = started o.banks o.start (memory.memory_of o.image); devices = o.devices })

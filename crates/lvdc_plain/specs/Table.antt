@@ -28,7 +28,7 @@ use Rattle.lvdc_plain.specs.Plain.{PlainState, World}
 
 -- the instruction at the fetch address
 abbrev pub fetched_instr : PlainState → Instr
-fetched_instr p = instr (syllable_at p.place (memory.word_at p.memory (fetch_of p.banks p.place)))
+fetched_instr p = instr (syllable_at p.place (p.memory (fetch_of p.banks p.place)))
 
 -- the place that an operand address names
 abbrev pub operand_place : PlainState → ℕ → Place
@@ -36,18 +36,14 @@ operand_place p address = place_of p.banks p.place address
 
 -- the word at a place; a word of the saver, one of the two at which STO keeps it, is read as memory
 abbrev pub word_of_place : PlainState → Place → ℕ
-word_of_place p (Memory at) = memory.word_at p.memory at
+word_of_place p (Memory at) = p.memory at
 word_of_place p Pq = p.pq
-word_of_place p (Saver at) = memory.word_at p.memory at
+word_of_place p (Saver at) = p.memory at
 
 -- what an instruction asks of the ports: only PIO does, and A9 tells a read from a write of A
 abbrev pub request_by : Op → PlainState → ℕ → Option PortRequest
 request_by Pio p address = Some (if a9 address then Read (low_bits address) else Write (low_bits address) p.a)
 request_by _ p address = None
-
--- the time as a device is told it
-abbrev pub device_time : PlainState → ℕ
-device_time p = word_of_time p.times
 
 -- the word that the ports answer
 abbrev pub answered : Option PortRequest → ℕ → List Device → ℕ
@@ -59,11 +55,11 @@ abbrev pub exchanged : Option PortRequest → List Device → List Device
 exchanged None devices = devices
 exchanged (Some request) devices = after_exchange request devices
 
--- the word that an instruction takes: that of its operand place where it has an operand, else what the ports answer
+-- the word that an instruction takes: of its operand place where it has an operand, else of the ports, with the time modulo 2 ^ 26
 abbrev pub word_taken : Instr → PlainState → List Device → ℕ
 word_taken i p devices =
     if takes_operand i.op then word_of_place p (operand_place p i.address)
-    else answered (request_by i.op p i.address) (device_time p) devices
+    else answered (request_by i.op p i.address) (p.times % 2 ^ 26) devices
 
 -- ---- the rows of the table: from the state, the address and the word taken, the state that the instruction leaves
 
@@ -75,13 +71,9 @@ goes_on p = record p { place = after p.place }
 abbrev pub takes : PlainState → ℕ → PlainState
 takes p w = record p { place = after p.place; a = w }
 
--- goes to a place, and saves the place after this instruction
-abbrev pub goes_to : PlainState → HopConstant → PlainState
-goes_to p place = record p { place = place; saver = word_of_hop (after p.place) }
-
--- goes to the syllable and location of an address in the same sector
+-- goes to the syllable and location of an address in the same sector, and saves the place after this instruction
 abbrev pub transfers : PlainState → ℕ → PlainState
-transfers p address = goes_to p (jumped p.place address)
+transfers p address = record p { place = jumped p.place address; saver = word_of_hop (after p.place) }
 
 -- stores by place; what is stored in PQ stands there after the landing
 abbrev pub stores : PlainState → Place → PlainState
@@ -91,7 +83,7 @@ stores p Pq = goes_on p
 
 -- what an instruction does to place, accumulator, saver, memory, hold and stop
 abbrev pub effect : Op → PlainState → ℕ → ℕ → PlainState
-effect Hop p address m = goes_to p (hop_of m)
+effect Hop p address m = record p { place = hop_of m; saver = word_of_hop (after p.place) }
 effect Mpy p address m = goes_on p
 effect Sub p address m = takes p (difference p.a m)
 effect Div p address m = goes_on p
@@ -128,33 +120,22 @@ abbrev pub later : Option Pending → Option Pending
 later None = None
 later (Some r) = if r.left == 1 then None else Some (record r { left = r.left - 1 })
 
--- a result that lands after this many times, and whether A takes it too
-abbrev pub issues : ℕ → ℕ → Bool → Option Pending
-issues left result to_a = Some (record { left = left; result = result; to_a = to_a })
-
--- PQ after a store by place, where the landing left it pq
-abbrev pub pq_stored : Place → ℕ → ℕ → ℕ
-pq_stored (Memory at) a pq = pq
-pq_stored (Saver at) a pq = pq
-pq_stored Pq a pq = a
+-- is a place PQ?
+abbrev pub is_pq : Place → Bool
+is_pq Pq = true
+is_pq _ = false
 
 -- PQ after an instruction made from p, where the landing left it pq
 abbrev pub pq_after : Op → PlainState → ℕ → ℕ → ℕ
-pq_after Sto p address pq = pq_stored (operand_place p address) p.a pq
+pq_after Sto p address pq = if is_pq (operand_place p address) then p.a else pq
 pq_after _ p address pq = pq
 
--- a store to PQ cancels what is pending
-abbrev pub pending_stored : Place → Option Pending → Option Pending
-pending_stored (Memory at) r = r
-pending_stored (Saver at) r = r
-pending_stored Pq r = None
-
--- what is pending after an instruction made from p, where the landing left r: a new result takes its place
+-- what is pending after an instruction made from p, where the landing left r: a new result takes its place, a store to PQ cancels it
 abbrev pub pending_after : Op → PlainState → ℕ → ℕ → Option Pending → Option Pending
-pending_after Mpy p address m r = issues 4 (product p.a m) false
-pending_after Mph p address m r = issues 4 (product p.a m) true
-pending_after Div p address m r = issues 8 (quotient p.a m) false
-pending_after Sto p address m r = pending_stored (operand_place p address) r
+pending_after Mpy p address m r = Some (record { left = 4; result = product p.a m; to_a = false })
+pending_after Mph p address m r = Some (record { left = 4; result = product p.a m; to_a = true })
+pending_after Div p address m r = Some (record { left = 8; result = quotient p.a m; to_a = false })
+pending_after Sto p address m r = if is_pq (operand_place p address) then None else r
 pending_after _ p address m r = r
 
 -- the log with the port exchange of an instruction
@@ -165,8 +146,7 @@ logged _ p address m = p.log
 
 -- ---- one instruction time
 
--- an instruction is made, which takes the word m: its effect, then the landing, then what it issues (a result for A
--- lands in a time that is held)
+-- an instruction is made, which takes the word m: its effect, then the landing (for A in a time that is held), then what it issues
 abbrev pub makes : Instr → PlainState → ℕ → PlainState
 makes i p m =
     record (effect i.op p i.address m) {
@@ -180,21 +160,12 @@ makes i p m =
 -- nothing is fetched, and this hold is left
 abbrev pub waits : ℕ → PlainState → PlainState
 waits hold p =
-    record p {
-      a = landed_a p.pending p.a;
-      pq = landed_pq p.pending p.pq;
-      pending = later p.pending;
-      hold = hold;
-      times = p.times + 1;
-    }
+    record p { a = landed_a p.pending p.a; pq = landed_pq p.pending p.pq; pending = later p.pending; hold = hold; times = p.times + 1 }
 
 -- an instruction is made with the devices there
 abbrev pub executes : Instr → PlainState → List Device → World
 executes i p devices =
-    record {
-      plain = makes i p (word_taken i p devices);
-      devices = exchanged (request_by i.op p i.address) devices;
-    }
+    record { plain = makes i p (word_taken i p devices); devices = exchanged (request_by i.op p i.address) devices }
 
 -- by stop and hold: a stopped machine stays, a held one waits
 abbrev pub step_by : Option Stop → ℕ → PlainState → List Device → World
@@ -205,3 +176,9 @@ step_by None zero p devices = executes (fetched_instr p) p devices
 -- one instruction time, which is three steps of a trial
 abbrev pub step : PlainState → List Device → World
 step p devices = step_by p.stop p.hold p devices
+
+-- ---- for the laws
+
+-- the time as a device is told it
+abbrev pub device_time : PlainState → ℕ
+device_time p = word_of_time p.times

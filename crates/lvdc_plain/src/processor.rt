@@ -7,7 +7,7 @@ ghost use Rattle.lvdc_map.specs.Memory.{Memory, IsMemory};
 ghost use Rattle.lvdc_map.specs.Place.{with_data};
 ghost use Rattle.lvdc_plain.specs.Plain.{PlainState, started};
 ghost use Rattle.lvdc_plain.specs.Processor.{Holds, LeavesResults};
-ghost use Rattle.lvdc_plain.specs.Table.{effect, fetched_instr, goes_on, issues, landed_a, landed_pq, later, makes, operand_place, pending_after, pq_after, request_by, stores, transfers, waits, word_of_place};
+ghost use Rattle.lvdc_plain.specs.Table.{effect, fetched_instr, goes_on, landed_a, landed_pq, later, makes, operand_place, pending_after, pq_after, request_by, stores, transfers, waits, word_of_place};
 ghost use Rattle.lvdc_plain.specs.View.{ByInstruction};
 
 use crate::records::{Pending, Stop};
@@ -245,7 +245,7 @@ impl Processor {
 
     /// Puts a finished result on its way.
     fn issue(&mut self, left: u8, word: Word, to_a: bool)
-        ensures { self.new ≡ record self.old { pending = issues left word to_a } }
+        ensures { self.new ≡ record self.old { pending = Some (record { left = left; result = word; to_a = to_a }) } }
     {
         self.pending = Some(Pending {
             left,

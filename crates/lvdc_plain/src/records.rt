@@ -20,17 +20,15 @@ pub struct Exchange {
     pub word: Word,
 }
 
-#[derive(Debug)]
 /// The device of this port is taken away before this instruction time.
-#[derive(Clone, Copy, PartialEq, Eq)]
+#[derive(Clone, Copy, Debug, PartialEq, Eq)]
 pub struct Unplug {
     pub port: u8,
     pub time: u64,
 }
 
-#[derive(Debug)]
 /// Why a machine stopped. The plain machine never answers `Memory`.
-#[derive(Clone, Copy, PartialEq, Eq)]
+#[derive(Clone, Copy, Debug, PartialEq, Eq)]
 pub enum Stop {
     /// A shift whose pattern means nothing.
     Shift,

@@ -1,5 +1,5 @@
 -- What a device is to the machine, and what a read, a write and a supplied word do to each kind of device.
-use Rattle.std.specs.Prelude.{ℕ, ◌<◌, ◌%◌, ◌^◌, List, [], ◌∷◌, ◌++◌, All, slice_index}
+use Rattle.std.specs.Prelude.{ℕ, ◌<◌, ◌%◌, ◌^◌, List, [], ◌∷◌, ◌++◌, drop, All, slice_index}
 use Rattle.lvdc_port.specs.declared.device.Kind.{Kind}
 use Rattle.lvdc_port.specs.declared.device.Kind.TheVariants.{Tape, Latch, Ticker, Recorder}
 
@@ -17,35 +17,27 @@ word_of_time times = times % 2 ^ 26
 abbrev pub AreWords : List ℕ → Type 0
 AreWords numbers = All (λ number. number < 2 ^ 26) numbers
 
--- the word that a read at this time answers
+-- the word that a read at this time answers: of a tape and of a latch the first one, 0 where there is none
 abbrev pub word_by_kind : Kind → List ℕ → ℕ → ℕ
-word_by_kind Tape [] time = 0
-word_by_kind Tape (word ∷ words) time = word
-word_by_kind Latch state time = slice_index state 0
 word_by_kind Ticker state time = time
 word_by_kind Recorder state time = 0
+word_by_kind _ state time = slice_index state 0
 
 -- the state after a read: only a tape gives its word away
 abbrev pub state_after_read : Kind → List ℕ → List ℕ
-state_after_read Tape [] = []
-state_after_read Tape (word ∷ words) = words
-state_after_read Latch state = state
-state_after_read Ticker state = state
-state_after_read Recorder state = state
+state_after_read Tape state = drop 1 state
+state_after_read _ state = state
 
 -- the state after a write of this word
 abbrev pub state_after_write : Kind → List ℕ → ℕ → List ℕ
-state_after_write Tape state word = state
 state_after_write Latch state word = word ∷ []
-state_after_write Ticker state word = state
 state_after_write Recorder state word = state ++ word ∷ []
+state_after_write _ state word = state
 
 -- the state after this word was supplied: only a tape takes it
 abbrev pub state_after_supply : Kind → List ℕ → ℕ → List ℕ
 state_after_supply Tape state word = state ++ word ∷ []
-state_after_supply Latch state word = state
-state_after_supply Ticker state word = state
-state_after_supply Recorder state word = state
+state_after_supply _ state word = state
 
 -- the word that the device answers to a read at this time
 abbrev pub read_word : Device → ℕ → ℕ

@@ -1,7 +1,7 @@
 -- Lists of devices. The definitions serve lists of boxes, each seen as a device by `device_of`, and lists of plain devices.
 use Rattle.std.specs.Prelude.{◌≡◌, ◌≢◌, ℕ, ◌≤◌, ◌<◌, ◌^◌, ◌==◌, if◌then◌else◌, List, [], ◌∷◌, All, Bool, true, false}
 use Rattle.lvdc_port.specs.Causes.{never}
-use Rattle.lvdc_port.specs.Device.{Device, AreWords, read_word, after_read, after_write}
+use Rattle.lvdc_port.specs.Device.{Device, AreWords, word_by_kind, state_after_read, state_after_write}
 use Rattle.lvdc_port.specs.declared.requests.PortRequest.{PortRequest}
 use Rattle.lvdc_port.specs.declared.requests.PortRequest.TheVariants.{Read, Write}
 
@@ -12,13 +12,13 @@ port_of (Write port word) = port
 
 -- what a device answers to a request: a write answers 0
 abbrev pub answer_of : PortRequest → ℕ → Device → ℕ
-answer_of (Read port) time device = read_word device time
+answer_of (Read port) time device = word_by_kind device.kind device.state time
 answer_of (Write port word) time device = 0
 
 -- a device after a request that it has answered
 abbrev pub after_request : PortRequest → Device → Device
-after_request (Read port) device = after_read device
-after_request (Write port word) device = after_write device word
+after_request (Read port) device = record device { state = state_after_read device.kind device.state }
+after_request (Write port word) device = record device { state = state_after_write device.kind device.state word }
 
 -- the answer of the device at the port of the request; 0 where there is none
 abbrev pub exchange_word : PortRequest → ℕ → List Device → ℕ

@@ -2,7 +2,7 @@
 use Rattle.std.specs.Prelude.{◌≡◌, ℕ, ◌==◌, if◌then◌else◌, List, [], ◌∷◌, take, map, slice_get, Contains}
 use Rattle.std.specs.declared.option.Option.{Option}
 use Rattle.std.specs.declared.option.Option.TheVariants.{None, Some}
-use Rattle.lvdc_port.specs.Device.{Device, after_supply}
+use Rattle.lvdc_port.specs.Device.{Device, state_after_supply}
 use Rattle.lvdc_port.specs.declared.device.Kind.{Kind}
 use Rattle.lvdc_port.specs.declared.device.Kind.TheVariants.{Tape, Recorder}
 use Rattle.lvdc_port.specs.declared.requests.Supply.{Supply}
@@ -17,7 +17,8 @@ kind_at device_of port (device ∷ devices) =
 abbrev pub after_supply_of : Supply → List Device → List Device
 after_supply_of supply [] = []
 after_supply_of supply (device ∷ devices) =
-    if device.port == supply.port then after_supply device supply.word ∷ devices else device ∷ after_supply_of supply devices
+    if device.port == supply.port then record device { state = state_after_supply device.kind device.state supply.word } ∷ devices
+    else device ∷ after_supply_of supply devices
 
 -- the devices after these words were supplied, in their order
 abbrev pub supplied : List Supply → List Device → List Device

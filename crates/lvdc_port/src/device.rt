@@ -12,9 +12,8 @@ use thiserror::Error;
 #[error("the device failed")]
 pub struct Failed;
 
-#[derive(Debug)]
 /// What a device does at a read and at a write (this project's profile, as are all kinds).
-#[derive(Clone, Copy, PartialEq, Eq)]
+#[derive(Clone, Copy, Debug, PartialEq, Eq)]
 pub enum Kind {
     /// Words that are read one by one; writes are ignored.
     Tape,

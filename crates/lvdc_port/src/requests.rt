@@ -13,9 +13,8 @@ use crate::device::{Failed, PortDevice};
 use lvdc_word::{NoMemory, Word};
 use thiserror::Error;
 
-#[derive(Debug)]
 /// A word to be put behind those that the tape at a port still has.
-#[derive(Clone, Copy, PartialEq, Eq)]
+#[derive(Clone, Copy, Debug, PartialEq, Eq)]
 pub struct Supply {
     pub port: u8,
     pub word: Word,

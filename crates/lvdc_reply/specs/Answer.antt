@@ -15,7 +15,7 @@ answer_with status text devices = record { status = status; text = text; devices
 
 -- the answer that a reply is, with the devices that are left
 abbrev pub answer_of : Reply → List Device → Answer
-answer_of reply devices = answer_with reply.status reply.text devices
+answer_of reply devices = record { status = reply.status; text = reply.text; devices = devices }
 
 -- the text of a refusal: its cause and its line
 abbrev pub refusal_text : List ℕ → ℕ → List ℕ

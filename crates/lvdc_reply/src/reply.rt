@@ -5,12 +5,10 @@ use lvdc_text::put_decimal;
 use lvdc_word::{NoMemory, Seq};
 use std::alloc::Global;
 
-/// What a command answers.
+/// What a command answers: the exit status, and the text that goes with it, of which each line ends with LF.
 #[derive(Drop)]
 pub struct Reply {
-    /// The exit status.
     pub status: u8,
-    /// The text that goes with it; each line ends with LF.
     pub text: Seq<u8>,
 }
 

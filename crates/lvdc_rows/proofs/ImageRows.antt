@@ -32,6 +32,18 @@ a_duplex_image : image (codes "LVDC 2\nSTART 377777776\n3 17 377 000000007\nEND\
 unfolding image lines_from entry_in words_from banks_named banks_in image_of
 a_duplex_image = refl
 
+-- a bank above 3 is there where its pair is simplex, and its addresses rise too; version 1 has none
+banks_above_3 : map image
+    (codes "LVDC 2\nSTART 000000016\nSIMPLEX 0\n4 00 000 000000005\n4 00 000 000000005\nEND\n" ∷ codes "LVDC 1\n4 00 000 000000005\nEND\n" ∷ [])
+    ≡ Err (AddressOrder 5) ∷ Err (BadImageLine 2) ∷ []
+unfolding image lines_from entry_in words_from banks_named banks_in image_of
+banks_above_3 = refl
+
+-- single blanks part the fields of a word line
+another_byte_between : entry_in 0 (codes "0 01 000.000000005") ≡ None
+unfolding entry_in
+another_byte_between = refl
+
 -- the spare bit, 27 bits, ten digits, and no START line
 starts : map image
     (codes "LVDC 2\nSTART 000000017\nEND\n" ∷ codes "LVDC 2\nSTART 400000000\nEND\n" ∷ codes "LVDC 2\nSTART 0000000016\nEND\n" ∷ codes "LVDC 2\nBEGIN 000000016\nEND\n" ∷ codes "LVDC 2\n" ∷ codes "LVDC 2\nSTART 000000016\n" ∷ [])

@@ -1,13 +1,15 @@
--- Worked sources with macros: what is answered of each.
-use Rattle.std.proofs.Common.{◌≡◌, [], refl}
+-- Worked sources with macros: what is answered of each; and lines of bodies, as calls write them.
+use Rattle.std.proofs.Common.{◌≡◌, ℕ, List, [], ◌∷◌, Result, Err, length, refl}
 use Rattle.std.specs.Prelude.{codes}
 use Rattle.lvdc_asm.specs.Locations.{nothing}
 use Rattle.lvdc_command_asm.specs.Expanded.{macro_answer}
 use Rattle.lvdc_command_asm.specs.declared.expand.Form.TheVariants.{Source, Image}
 use Rattle.lvdc_image.specs.Image.{image_text}
-use Rattle.lvdc_macro.specs.Expansion.{pieces, called, expanded_from, bytes_of}
+use Rattle.lvdc_macro.specs.Expansion.{Piece, pieces, unless_longer, called, start, expanded_from, bytes_of}
 use Rattle.lvdc_macro.specs.Macros.{body_of}
 use Rattle.lvdc_macro.specs.Substitution.{substituted}
+use Rattle.lvdc_macro.specs.declared.fault.MacroFault.{MacroFault}
+use Rattle.lvdc_macro.specs.declared.fault.MacroFault.TheVariants.{ExpansionTooLong}
 use Rattle.lvdc_place.specs.Placement.{placement}
 use Rattle.lvdc_place.specs.Slots.{least}
 use Rattle.lvdc_source.specs.Lines.{parts_of}
@@ -49,3 +51,21 @@ no_end : macro_answer Image (codes "M       MACRO\n        CLA   0\n        CLA 
     ≡ answer_with 3 (codes "REFUSED MissingEnd 8\n") []
 unfolding lines_from words_from octal_text word_in is_name parts_of signed_of octals_of address_in literal_in body_in operation_of meaning_of after_end items_from placement least nothing pieces called expanded_from bytes_of body_of substituted image_text digits
 no_end = refl
+
+-- ---- lines of bodies
+
+-- a colon stands behind the digits
+no_digit : substituted 1 (codes "X" ∷ []) (codes "&:&1") ≡ codes "&:X"
+unfolding substituted
+no_digit = refl
+
+-- a line of 1,048,575 bytes and its LF are as long as an expansion may be
+the_longest_line : (text : List ℕ) (piece : Result Piece MacroFault) → length text ≡ 1048575 → unless_longer 7 text piece ≡ piece
+the_longest_line text piece long = rw long refl
+
+a_longer_line : (text : List ℕ) (piece : Result Piece MacroFault) → length text ≡ 1048576 → unless_longer 7 text piece ≡ Err (ExpansionTooLong 7)
+a_longer_line text piece long = rw long refl
+
+-- nothing is written before the first line
+before_the_first_line : start.progress ≡ record { calls = 0; size = 0 }
+before_the_first_line = refl

@@ -2,7 +2,7 @@
 use Rattle.std.proofs.Common.{◌≡◌, ℕ, [], ◌∷◌, true, false, None, Some, refl}
 use Rattle.lvdc_map.specs.Address.{Spot}
 use Rattle.lvdc_fault.specs.declared.event.Event.TheVariants.{Damage, Stick, Dead}
-use Rattle.lvdc_withstands.specs.Form.{masks, first_unmet}
+use Rattle.lvdc_withstands.specs.Form.{is_odd, is_single, is_seen, none_twice, names_twin, masks, first_unmet}
 use Rattle.lvdc_withstands.specs.declared.condition.Condition.TheVariants.{Pairs, Places, Deaths}
 
 -- location 005 of a pair and a sector
@@ -55,3 +55,25 @@ pair_1_beside_simplex_0 = refl
 pair_3_simplex : first_unmet (Damage 0 (place 3 1) 4 1 ∷ []) 0b1000 4 ≡ Some Pairs
 unfolding place
 pair_3_simplex = refl
+
+-- ---- damage and stuck bits, as a reader of parity sees them
+
+three_bits : is_odd 7 ≡ true
+three_bits = refl
+
+no_half : is_single 16384 ≡ false
+no_half = refl
+
+-- three bits of the lower half, two of the upper one, and two stuck bits of the upper one
+seen_by_halves : is_seen (Damage 0 (place 0 1) 4 28) ∷ is_seen (Damage 0 (place 0 1) 4 49152) ∷ is_seen (Stick 0 (place 0 1) 4 9 49152 0) ∷ []
+    ≡ true ∷ false ∷ false ∷ []
+unfolding place
+seen_by_halves = refl
+
+the_last_two_places : none_twice (place 0 1 ∷ place 0 2 ∷ place 0 2 ∷ []) ≡ false
+unfolding place
+the_last_two_places = refl
+
+twins_of_pair_0 : names_twin 0 1 (Stick 1 (place 0 1) 4 9 1 0) ∷ names_twin 0 1 (Stick 0 (place 0 1) 4 9 1 0) ∷ [] ≡ true ∷ false ∷ []
+unfolding place
+twins_of_pair_0 = refl

@@ -1,7 +1,7 @@
 -- Worked ends: when a run through every fault has come to the end of the plain run.
 use Rattle.std.proofs.Common.{◌≡◌, ℕ, true, false, Some, None, refl}
 use Rattle.lvdc_map.specs.Address.{Spot}
-use Rattle.lvdc_campaign.specs.Same.{is_same_stop, is_same_end}
+use Rattle.lvdc_runs.specs.Same.{is_same_stop, is_same_end}
 use Rattle.lvdc_model.specs.declared.outcome.Outcome.TheVariants.{Stopped, Device}
 use Rattle.lvdc_plain.specs.declared.records.PlainEnd.TheVariants as plain
 use Rattle.lvdc_plain.specs.declared.records.Stop.TheVariants.{Shift, Exm, Memory}

@@ -1,6 +1,7 @@
--- Worked slots of the assembler: their order, their ranges, and literals that are the same.
-use Rattle.std.proofs.Common.{◌≡◌, ◌+◌, ◌*◌, [], ◌∷◌, true, false, map, refl}
-use Rattle.lvdc_place.specs.Slot.{is_slot, is_same, number_of, slot_at}
+-- Worked slots of the assembler: their order, their ranges, sets of them, and literals that are the same.
+use Rattle.std.proofs.Common.{◌≡◌, ℕ, ◌+◌, ◌*◌, [], ◌∷◌, true, false, not, ◌==◌, ◌&&◌, Some, map, refl}
+use Rattle.lvdc_place.specs.Slot.{Slot, is_slot, is_same, number_of, slot_at}
+use Rattle.lvdc_place.specs.Slots.{with_saver, least, pool_place, with_word}
 use Rattle.lvdc_asm.specs.Pool.{is_same_literal}
 
 -- ---- a pair has 8,192 syllables, a sector 512, and each half of it 256
@@ -26,6 +27,30 @@ the_greatest_and_no_slots = refl
 only_itself : map (is_same (record { pair = 3; sector = 9; syl = 1; loc = 5 })) (record { pair = 3; sector = 9; syl = 1; loc = 5 } ∷ record { pair = 2; sector = 9; syl = 1; loc = 5 } ∷ record { pair = 3; sector = 8; syl = 1; loc = 5 } ∷ record { pair = 3; sector = 9; syl = 0; loc = 5 } ∷ record { pair = 3; sector = 9; syl = 1; loc = 4 } ∷ [])
     ≡ true ∷ false ∷ false ∷ false ∷ false ∷ []
 only_itself = refl
+
+-- ---- sets of slots
+
+slot : ℕ → ℕ → Slot
+slot syl loc = record { pair = 0; sector = 1; syl = syl; loc = loc }
+
+-- STO fills locations 376 and 377 of sector 17
+the_saver : map (with_saver (λ it. false)) (record { pair = 2; sector = 15; syl = 0; loc = 253 } ∷ record { pair = 2; sector = 15; syl = 0; loc = 254 } ∷ record { pair = 2; sector = 15; syl = 1; loc = 255 } ∷ record { pair = 2; sector = 14; syl = 1; loc = 255 } ∷ [])
+    ≡ false ∷ true ∷ true ∷ false ∷ []
+the_saver = refl
+
+a_pooled_word_takes_both : map (with_word (λ it. false) (Some (record { pair = 0; sector = 1; loc = 7 }))) (slot 0 7 ∷ slot 1 7 ∷ slot 0 6 ∷ [])
+    ≡ true ∷ true ∷ false ∷ []
+unfolding slot
+a_pooled_word_takes_both = refl
+
+-- a word of the pool has one location, up to the last of its sector
+between_taken_ones : pool_place (λ it. not (it.pair == 0 && it.sector == 1 && it.loc == 7)) 0 1 ≡ Some (record { pair = 0; sector = 1; loc = 7 })
+unfolding least
+between_taken_ones = refl
+
+the_last_location : pool_place (λ it. not (it.pair == 0 && it.sector == 1 && it.loc == 255)) 0 1 ≡ Some (record { pair = 0; sector = 1; loc = 255 })
+unfolding least
+the_last_location = refl
 
 -- ---- a literal is pooled once for each data pair and sector
 

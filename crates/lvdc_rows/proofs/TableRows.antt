@@ -1,10 +1,11 @@
 -- Worked instructions of the plain machine, one instruction time each: A, the place, the saver, the log and the devices.
-use Rattle.std.proofs.Common.{◌≡◌, ℕ, List, [], ◌∷◌, true, false, refl}
+use Rattle.std.proofs.Common.{◌≡◌, ℕ, List, [], ◌∷◌, true, false, Some, refl}
 use Rattle.lvdc_map.specs.Hop.{hop_of, word_of_hop}
 use Rattle.lvdc_map.specs.Memory.{memory_of}
 use Rattle.lvdc_map.specs.declared.placed.Placed.{Placed}
 use Rattle.lvdc_plain.specs.Plain.{PlainState, World, started}
 use Rattle.lvdc_plain.specs.Table.{step}
+use Rattle.lvdc_plain.specs.declared.records.Stop.TheVariants.{Exm}
 use Rattle.lvdc_port.specs.Device.{Device}
 use Rattle.lvdc_port.specs.declared.device.Kind.TheVariants.{Latch, Recorder}
 
@@ -148,3 +149,12 @@ pio_writes_to_a_recorder = refl
 add_asks_no_port : ((ported 0o07000).plain.log ≡ []) × ((ported 0o07000).devices ≡ latch 0o7000 ∷ recorder (0o1 ∷ []) ∷ [])
 unfolding ported latch recorder before word_in
 add_asks_no_port = (refl, refl)
+
+-- ---- a machine that has stopped stays as it is, with a result on its way and times left to hold
+
+stopped : PlainState
+stopped = record (before 0o12414 0o14 0) { stop = Some Exm; hold = 2; pending = Some (record { left = 1; result = 0o77; to_a = true }) }
+
+stopped_stays : step stopped (latch 0o7000 ∷ []) ≡ record { plain = stopped; devices = latch 0o7000 ∷ [] }
+unfolding stopped latch before word_in
+stopped_stays = refl

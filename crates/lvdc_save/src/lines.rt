@@ -10,7 +10,7 @@ ghost use Rattle.lvdc_save.specs.Printed.{IsSupply, IsUnplug};
 
 use crate::Entry;
 use crate::events::put_fault;
-use crate::parts::{put_cell, put_number, put_spot, put_twins, put_word, put_words};
+use crate::parts::{put_cell, put_number, put_spot, put_text, put_twins, put_word, put_words};
 use lvdc_image::put_simplex;
 use lvdc_lines::{put_exchange_line, put_repair_line};
 use lvdc_map::{Banks, Placed};
@@ -25,20 +25,18 @@ use lvdc_word::{NoMemory, Word};
 pub(crate) fn put_steps(out: &mut Vec<u8>, steps: u64) -> Result<(), NoMemory>
     ensures { OnOk result (out.new.items ≡ out.old.items ++ entry_line (says.Steps steps)) }
 {
-    out.extend_from_slice(b"STEPS")?;
+    put_text(out, b"STEPS")?;
     put_number(out, steps)?;
-    out.extend_from_slice(b"\n")?;
-    Ok(())
+    put_text(out, b"\n")
 }
 
 /// Adds the COUNT line.
 pub(crate) fn put_count(out: &mut Vec<u8>, count: u64) -> Result<(), NoMemory>
     ensures { OnOk result (out.new.items ≡ out.old.items ++ entry_line (says.Count count)) }
 {
-    out.extend_from_slice(b"COUNT")?;
+    put_text(out, b"COUNT")?;
     put_number(out, count)?;
-    out.extend_from_slice(b"\n")?;
-    Ok(())
+    put_text(out, b"\n")
 }
 
 /// Adds the SIMPLEX line.
@@ -46,8 +44,7 @@ pub(crate) fn put_simplex_line(out: &mut Vec<u8>, banks: Banks) -> Result<(), No
     ensures { OnOk result (out.new.items ≡ out.old.items ++ entry_line (says.Simplex banks)) }
 {
     put_simplex(out, banks)?;
-    out.extend_from_slice(b"\n")?;
-    Ok(())
+    put_text(out, b"\n")
 }
 
 /// Adds the COPY line of the copy of a module.
@@ -62,23 +59,21 @@ pub(crate) fn put_copy(
         ++ copy_line (record { number = number; copy = copy; count = count; latches = latches.now })) }
     ensures latches { OnOk result (All (λ latch. latch < 2 ^ 26) latches.now) }
 {
-    out.extend_from_slice(b"COPY")?;
+    put_text(out, b"COPY")?;
     put_number(out, u64::from(number))?;
     put_number(out, u64::from(copy))?;
     put_number(out, count)?;
     put_words(out, latches)?;
-    out.extend_from_slice(b"\n")?;
-    Ok(())
+    put_text(out, b"\n")
 }
 
 /// Adds the SELECT line.
 pub(crate) fn put_select(out: &mut Vec<u8>, twins: &[u8]) -> Result<(), NoMemory>
     ensures { OnOk result (out.new.items ≡ out.old.items ++ select_line twins.now) }
 {
-    out.extend_from_slice(b"SELECT")?;
+    put_text(out, b"SELECT")?;
     put_twins(out, twins)?;
-    out.extend_from_slice(b"\n")?;
-    Ok(())
+    put_text(out, b"\n")
 }
 
 /// Adds a CELL line.
@@ -86,12 +81,11 @@ pub(crate) fn put_held(out: &mut Vec<u8>, held: &Held) -> Result<(), NoMemory>
     ensures line { OnOk result (out.new.items ≡ out.old.items ++ cell_line held.now) }
     ensures cell { OnOk result (held.now.cell < 2 ^ 28) }
 {
-    out.extend_from_slice(b"CELL")?;
+    put_text(out, b"CELL")?;
     put_number(out, u64::from(held.twin))?;
     put_spot(out, held.at)?;
     put_cell(out, held.cell)?;
-    out.extend_from_slice(b"\n")?;
-    Ok(())
+    put_text(out, b"\n")
 }
 
 /// Adds a WORD line.
@@ -99,11 +93,10 @@ pub(crate) fn put_placed(out: &mut Vec<u8>, placed: &Placed) -> Result<(), NoMem
     ensures line { OnOk result (out.new.items ≡ out.old.items ++ word_line placed.now) }
     ensures placed { OnOk result (IsPlaced placed.now) }
 {
-    out.extend_from_slice(b"WORD")?;
+    put_text(out, b"WORD")?;
     put_spot(out, placed.at)?;
     put_word(out, placed.word)?;
-    out.extend_from_slice(b"\n")?;
-    Ok(())
+    put_text(out, b"\n")
 }
 
 /// Adds a STATE line.
@@ -111,11 +104,10 @@ pub(crate) fn put_state(out: &mut Vec<u8>, state: &Supply) -> Result<(), NoMemor
     ensures line { OnOk result (out.new.items ≡ out.old.items ++ state_line state.now) }
     ensures printed { OnOk result (IsSupply state.now) }
 {
-    out.extend_from_slice(b"STATE ")?;
+    put_text(out, b"STATE ")?;
     put_octal(out, u64::from(state.port), 3)?;
     put_word(out, state.word)?;
-    out.extend_from_slice(b"\n")?;
-    Ok(())
+    put_text(out, b"\n")
 }
 
 /// Adds an UNPLUG line.
@@ -123,11 +115,10 @@ pub(crate) fn put_unplug(out: &mut Vec<u8>, unplug: &Unplug) -> Result<(), NoMem
     ensures line { OnOk result (out.new.items ≡ out.old.items ++ unplug_line unplug.now) }
     ensures printed { OnOk result (unplug.now.time ≤ TIMES → IsUnplug unplug.now) }
 {
-    out.extend_from_slice(b"UNPLUG ")?;
+    put_text(out, b"UNPLUG ")?;
     put_octal(out, u64::from(unplug.port), 3)?;
     put_number(out, unplug.time)?;
-    out.extend_from_slice(b"\n")?;
-    Ok(())
+    put_text(out, b"\n")
 }
 
 /// Adds the letters of copies, A the first.
@@ -148,8 +139,7 @@ pub(crate) fn put_order(out: &mut Vec<u8>, order: &Order) -> Result<(), NoMemory
     ensures full { OnOk result (IsFullOrder 21 order.now) }
 {
     put_letters(out, order.copies())?;
-    out.extend_from_slice(b"\n")?;
-    Ok(())
+    put_text(out, b"\n")
 }
 
 /// Adds the line of an entry. After a want of memory `out` may have grown by a part of the line.
@@ -157,27 +147,26 @@ pub fn put_entry(out: &mut Vec<u8>, entry: &Entry) -> Result<(), NoMemory>
     ensures { OnOk result (out.new.items ≡ out.old.items ++ entry_line entry.now) }
 {
     match entry {
-        Entry::Title => out.extend_from_slice(b"LVDC SAVE 1\n")?,
-        Entry::Steps(steps) => put_steps(out, *steps)?,
-        Entry::Count(count) => put_count(out, *count)?,
-        Entry::Simplex(banks) => put_simplex_line(out, *banks)?,
+        Entry::Title => put_text(out, b"LVDC SAVE 1\n"),
+        Entry::Steps(steps) => put_steps(out, *steps),
+        Entry::Count(count) => put_count(out, *count),
+        Entry::Simplex(banks) => put_simplex_line(out, *banks),
         Entry::Copy(copy) => put_copy(
             out,
             copy.number,
             copy.copy,
             copy.count,
             copy.latches.items(),
-        )?,
-        Entry::Select(twins) => put_select(out, twins)?,
-        Entry::Cell(held) => put_held(out, held)?,
-        Entry::Word(placed) => put_placed(out, placed)?,
-        Entry::Exchange(exchange) => put_exchange_line(out, exchange)?,
-        Entry::Repair(repair) => put_repair_line(out, repair)?,
-        Entry::State(state) => put_state(out, state)?,
-        Entry::Unplug(unplug) => put_unplug(out, unplug)?,
-        Entry::Fault(event) => put_fault(out, event)?,
-        Entry::Order(order) => put_order(out, order)?,
-        Entry::End => out.extend_from_slice(b"END\n")?,
+        ),
+        Entry::Select(twins) => put_select(out, twins),
+        Entry::Cell(held) => put_held(out, held),
+        Entry::Word(placed) => put_placed(out, placed),
+        Entry::Exchange(exchange) => put_exchange_line(out, exchange),
+        Entry::Repair(repair) => put_repair_line(out, repair),
+        Entry::State(state) => put_state(out, state),
+        Entry::Unplug(unplug) => put_unplug(out, unplug),
+        Entry::Fault(event) => put_fault(out, event),
+        Entry::Order(order) => put_order(out, order),
+        Entry::End => put_text(out, b"END\n"),
     }
-    Ok(())
 }

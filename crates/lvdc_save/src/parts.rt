@@ -10,13 +10,20 @@ use lvdc_map::Address;
 use lvdc_text::{put_decimal, put_octal};
 use lvdc_word::{Cell, NoMemory, Word};
 
+/// Adds a text.
+pub(crate) fn put_text(out: &mut Vec<u8>, text: &[u8]) -> Result<(), NoMemory>
+    ensures { OnOk result (out.new.items ≡ out.old.items ++ text.now) }
+{
+    out.extend_from_slice(text)?;
+    Ok(())
+}
+
 /// Adds a decimal number after a blank.
 pub(crate) fn put_number(out: &mut Vec<u8>, number: u64) -> Result<(), NoMemory>
     ensures { OnOk result (out.new.items ≡ out.old.items ++ number_after number) }
 {
-    out.extend_from_slice(b" ")?;
-    put_decimal(out, number)?;
-    Ok(())
+    put_text(out, b" ")?;
+    put_decimal(out, number)
 }
 
 /// Adds a word after a blank.
@@ -24,9 +31,8 @@ pub(crate) fn put_word(out: &mut Vec<u8>, word: Word) -> Result<(), NoMemory>
     ensures line { OnOk result (out.new.items ≡ out.old.items ++ word_after word) }
     ensures word { OnOk result (word < 2 ^ 26) }
 {
-    out.extend_from_slice(b" ")?;
-    put_octal(out, u64::from(word.value()), 9)?;
-    Ok(())
+    put_text(out, b" ")?;
+    put_octal(out, u64::from(word.value()), 9)
 }
 
 /// Adds the bits of a cell after a blank.
@@ -34,9 +40,8 @@ pub(crate) fn put_cell(out: &mut Vec<u8>, cell: Cell) -> Result<(), NoMemory>
     ensures line { OnOk result (out.new.items ≡ out.old.items ++ cell_after cell) }
     ensures cell { OnOk result (cell < 2 ^ 28) }
 {
-    out.extend_from_slice(b" ")?;
-    put_octal(out, u64::from(cell.bits()), 10)?;
-    Ok(())
+    put_text(out, b" ")?;
+    put_octal(out, u64::from(cell.bits()), 10)
 }
 
 /// Adds a bank, a sector and a location after a blank.
@@ -44,9 +49,8 @@ pub(crate) fn put_spot(out: &mut Vec<u8>, at: Address) -> Result<(), NoMemory>
     ensures line { OnOk result (out.new.items ≡ out.old.items ++ spot_after at) }
     ensures at { OnOk result (IsAddress at) }
 {
-    out.extend_from_slice(b" ")?;
-    put_address(out, at)?;
-    Ok(())
+    put_text(out, b" ")?;
+    put_address(out, at)
 }
 
 /// Adds the words, each after a blank.
@@ -83,6 +87,5 @@ pub(crate) fn put_acts_on(
     put_number(out, u64::from(number))?;
     put_number(out, u64::from(copy))?;
     put_number(out, first)?;
-    put_number(out, last)?;
-    Ok(())
+    put_number(out, last)
 }

@@ -1,4 +1,4 @@
-ghost use Rattle.std.specs.Prelude.{◌≡◌, ℕ, ◌+◌, ◌^◌, ◌<◌, ◌≤◌, ◌++◌, length, map, OnOk, IfOk, All};
+ghost use Rattle.std.specs.Prelude.{◌≡◌, ℕ, ◌+◌, ◌^◌, ◌<◌, ◌≤◌, ◌++◌, [], length, map, OnOk, IfOk, All};
 ghost use Rattle.lvdc_save.specs.Bounded.{IsBounded};
 ghost use Rattle.lvdc_fault.specs.Events.{TIMES};
 ghost use Rattle.lvdc_save.specs.declared.TheConstants.{MOST_WORDS, LONGEST_SAVED};
@@ -19,6 +19,7 @@ use crate::lines::{
     put_copy, put_count, put_held, put_order, put_placed, put_select, put_simplex_line, put_state,
     put_steps, put_unplug,
 };
+use crate::parts::put_text;
 use lvdc_fault::Script;
 use lvdc_lines::{put_log, put_repairs};
 use lvdc_map::{Banks, Placed};
@@ -40,8 +41,7 @@ fn put_banks(out: &mut Vec<u8>, banks: Banks) -> Result<(), NoMemory>
     if banks == Banks::DUPLEX {
         return Ok(());
     }
-    put_simplex_line(out, banks)?;
-    Ok(())
+    put_simplex_line(out, banks)
 }
 
 /// How many latches the copy of this index has; with those of the copies before it they are no more than all 45.
@@ -164,6 +164,33 @@ fn put_orders(out: &mut Vec<u8>, orders: &Orders) -> Result<(), NoMemory>
     Ok(())
 }
 
+/// Adds the saved text to an empty one.
+fn put_saved(out: &mut Vec<u8>, saved: &Saved) -> Result<(), NoMemory>
+    requires empty { out.old.items ≡ [] }
+    requires whole { IsWhole saved.now.snapshot }
+    ensures text { OnOk result (out.new.items ≡ saved_text saved.now) }
+    ensures short { OnOk result (IsBounded MOST_WORDS saved.now → length out.new.items ≤ LONGEST_SAVED) }
+    ensures printed { OnOk result (IsOfADeck saved.now → All IsPrinted (entries_of saved.now)) }
+{
+    let snapshot = &saved.snapshot;
+    put_text(out, b"LVDC SAVE 1\n")?;
+    put_steps(out, snapshot.steps)?;
+    put_count(out, saved.count)?;
+    put_banks(out, snapshot.banks)?;
+    put_copies(out, snapshot)?;
+    put_select(out, snapshot.selected.items())?;
+    put_cells(out, snapshot.cells.items())?;
+    put_words(out, snapshot.words.items())?;
+    put_log(out, snapshot.log.items())?;
+    put_repairs(out, snapshot.repairs.items())?;
+    put_states(out, saved.states.items())?;
+    put_unplugs(out, saved.unplugs.items())?;
+    put_script(out, &saved.script)?;
+    put_orders(out, &saved.orders)?;
+    put_text(out, b"END\n")?;
+    Ok(())
+}
+
 /// The saved text. Each line ends with LF.
 pub fn print_saved(alloc: Global, saved: &Saved) -> Result<Vec<u8>, NoMemory>
     requires whole { IsWhole saved.now.snapshot }
@@ -172,22 +199,7 @@ pub fn print_saved(alloc: Global, saved: &Saved) -> Result<Vec<u8>, NoMemory>
     // Each of its lines says its entry again.
     ensures printed { OnOk result (IsOfADeck saved.now → All IsPrinted (entries_of saved.now)) }
 {
-    let snapshot = &saved.snapshot;
     let mut out = Vec::new(alloc);
-    out.extend_from_slice(b"LVDC SAVE 1\n")?;
-    put_steps(&mut out, snapshot.steps)?;
-    put_count(&mut out, saved.count)?;
-    put_banks(&mut out, snapshot.banks)?;
-    put_copies(&mut out, snapshot)?;
-    put_select(&mut out, snapshot.selected.items())?;
-    put_cells(&mut out, snapshot.cells.items())?;
-    put_words(&mut out, snapshot.words.items())?;
-    put_log(&mut out, snapshot.log.items())?;
-    put_repairs(&mut out, snapshot.repairs.items())?;
-    put_states(&mut out, saved.states.items())?;
-    put_unplugs(&mut out, saved.unplugs.items())?;
-    put_script(&mut out, &saved.script)?;
-    put_orders(&mut out, &saved.orders)?;
-    out.extend_from_slice(b"END\n")?;
+    put_saved(&mut out, saved)?;
     Ok(out)
 }

@@ -25,11 +25,11 @@ use Rattle.lvdc_save.specs.declared.entry.CopyState.{CopyState}
 use Rattle.lvdc_save.specs.declared.entry.Entry.{Entry}
 use Rattle.lvdc_save.specs.declared.entry.Entry.TheVariants as says
 use Rattle.lvdc_save.specs.declared.fault.SaveFault.{SaveFault}
-use Rattle.lvdc_save.specs.declared.fault.SaveFault.TheVariants.{BadSave}
+use Rattle.lvdc_save.specs.declared.fault.SaveFault.TheVariants.{BadSave, NoDevice}
 use Rattle.lvdc_save.specs.declared.section.Section.{Section}
 use Rattle.lvdc_save.specs.declared.section.Section.TheVariants as section
 use Rattle.lvdc_save.specs.Saved.{module_at, copy_at, latches_before}
-use Rattle.lvdc_save.specs.Reading.{Progress, nothing_said, rank, section_of, earliest, latest, follows, place_of, least_in, is_at_rest, agrees, fits, lacking, adds, moved_on, by_lack, after_entry, saved_in, Makes}
+use Rattle.lvdc_save.specs.Reading.{Progress, nothing_said, rank, section_of, earliest, latest, follows, place_of, least_after, least_in, is_at_rest, agrees, fits, lacking, adds, moved_on, by_lack, after_entry, saved_in, Makes}
 use Rattle.lvdc_save.proofs.Below.{both}
 use Rattle.lvdc_save_read.specs.Sound.{IsEntry, AreCounted, AreCopies, AreSelected, AreCells, ArePlaced, AreLogged, AreMended, AreEvents, IsSoundProgress}
 
@@ -489,6 +489,20 @@ pub sound_made : {T : Type 0} (devices : List Device) (number : ℕ) (r t : Prog
     → Makes result t (after_entry devices number r e) → IsEntry e → IsSoundProgress r → OnOk result (IsSoundProgress t)
 sound_made devices number r t e (Ok done) made is h = made_by devices number r t e (fits r e) (lacking devices number r e) refl made is h
 sound_made devices number r t e (Err fault) made is h = tt
+
+-- an entry that fits and names no device that isn't there is taken
+pub taken : (devices : List Device) (number least : ℕ) (r s : Progress) (e : Entry) (next : Section) → fits r e ≡ true → lacking devices number r e ≡ None
+    → s ≡ adds number r e → next ≡ section_of e → least ≡ least_after devices e → after_entry devices number r e ≡ Ok (record s { section = next; least = least })
+taken devices number least r s e next fit lack made is after = rw (fit, lack, made, is, after) refl
+
+-- an entry that doesn't fit is refused
+pub unfit : (devices : List Device) (number : ℕ) (r : Progress) (e : Entry) → fits r e ≡ false → after_entry devices number r e ≡ Err (BadSave number)
+unfit devices number r e fit = rw fit refl
+
+-- an entry that names a device that isn't there is refused
+pub without : (devices : List Device) (number line : ℕ) (r : Progress) (e : Entry) → fits r e ≡ true → lacking devices number r e ≡ Some line
+    → after_entry devices number r e ≡ Err (NoDevice line)
+without devices number line r e fit lack = rw (fit, lack) refl
 
 -- before the first line
 pub sound_first : IsSoundProgress nothing_said

@@ -1,10 +1,11 @@
 -- Tokens one after the other: the latches of a COPY line, and the pairs of a SIMPLEX line.
-use Rattle.std.proofs.Common.{◌≡◌, ℕ, ◌+◌, ◌<◌, ◌≤◌, Bool, true, false, ◌||◌, List, [], ◌∷◌, ◌++◌, map, length, get_or, drop, Option, None, Some, refl, sym, ap, ◌∙◌, append_assoc, append-nil, ◌≢◌, arith}
+use Rattle.std.proofs.Common.{◌≡◌, ℕ, ◌+◌, ◌-◌, ◌<◌, ◌≤◌, Bool, true, false, ◌||◌, List, [], ◌∷◌, ◌++◌, map, length, get_or, take, drop, Option, None, Some, refl, sym, ap, ◌∙◌, append_assoc, append-nil, ◌≢◌, arith}
 use Rattle.std.specs.List.{list_any}
-use Rattle.std.proofs.lemmas.List.{drop_more, drop_all}
+use Rattle.std.proofs.lemmas.List.{drop_more, drop_all, take_all}
 use Rattle.lvdc_text.specs.declared.cutting.Line.{Line}
 use Rattle.lvdc_text.specs.Numbers.{word_in}
-use Rattle.lvdc_save.specs.Entries.{words_with, words_in, copy_line_in, select_line_in, cell_line_in, repair_line_in}
+use Rattle.lvdc_lines.specs.Fields.{decimal_in}
+use Rattle.lvdc_save.specs.Entries.{steps_in, twin_in, spot_in, switch_in, words_with, words_in, copy_of, repair_of, copy_line_in, select_line_in, cell_line_in, word_line_in, exchange_line_in, repair_line_in, unplug_line_in}
 
 -- the texts of the parts from an index on begin with that of the part there
 texts-more : (text_of : Line → List ℕ) (lines : List Line) (i : ℕ) (d : Line) → i < length lines →
@@ -98,6 +99,21 @@ select_other text_of (a ∷ b ∷ c ∷ []) other = refl
 select_other text_of (a ∷ b ∷ c ∷ d ∷ []) other = absurd (other refl)
 select_other text_of (a ∷ b ∷ c ∷ d ∷ e ∷ rest) other = refl
 
+pub word_other : {A : Type 0} (text_of : A → List ℕ) (fields : List A) → length fields ≢ 4 → word_line_in (map text_of fields) ≡ None
+word_other text_of [] other = refl
+word_other text_of (a ∷ []) other = refl
+word_other text_of (a ∷ b ∷ []) other = refl
+word_other text_of (a ∷ b ∷ c ∷ []) other = refl
+word_other text_of (a ∷ b ∷ c ∷ d ∷ []) other = absurd (other refl)
+word_other text_of (a ∷ b ∷ c ∷ d ∷ e ∷ rest) other = refl
+
+pub exchange_other : {A : Type 0} (reading : Bool) (text_of : A → List ℕ) (fields : List A) → length fields ≢ 3 → exchange_line_in reading (map text_of fields) ≡ None
+exchange_other reading text_of [] other = refl
+exchange_other reading text_of (a ∷ []) other = refl
+exchange_other reading text_of (a ∷ b ∷ []) other = refl
+exchange_other reading text_of (a ∷ b ∷ c ∷ []) other = absurd (other refl)
+exchange_other reading text_of (a ∷ b ∷ c ∷ d ∷ rest) other = refl
+
 pub repair_short : {A : Type 0} (text_of : A → List ℕ) (fields : List A) → length fields < 5 → repair_line_in (map text_of fields) ≡ None
 repair_short text_of [] few = refl
 repair_short text_of (a ∷ []) few = refl
@@ -105,3 +121,29 @@ repair_short text_of (a ∷ b ∷ []) few = refl
 repair_short text_of (a ∷ b ∷ c ∷ []) few = refl
 repair_short text_of (a ∷ b ∷ c ∷ d ∷ []) few = refl
 repair_short text_of (a ∷ b ∷ c ∷ d ∷ e ∷ rest) few = absurd (omega (arith, few))
+
+pub unplug_other : {A : Type 0} (text_of : A → List ℕ) (fields : List A) → length fields ≢ 2 → unplug_line_in (map text_of fields) ≡ None
+unplug_other text_of [] other = refl
+unplug_other text_of (a ∷ []) other = refl
+unplug_other text_of (a ∷ b ∷ []) other = absurd (other refl)
+unplug_other text_of (a ∷ b ∷ c ∷ rest) other = refl
+
+-- ---- lines with enough tokens
+
+pub copy_long : {A : Type 0} (text_of : A → List ℕ) (fields : List A) (d : A) → 3 ≤ length fields → copy_line_in (map text_of fields)
+    ≡ copy_of (decimal_in 1 8 (text_of (get_or fields 0 d))) (decimal_in 1 4 (text_of (get_or fields 1 d))) (steps_in (text_of (get_or fields 2 d)))
+    (words_in (map text_of (take (length fields - 3) (drop 3 fields))))
+copy_long text_of [] d many = absurd (omega (arith, many))
+copy_long text_of (a ∷ []) d many = absurd (omega (arith, many))
+copy_long text_of (a ∷ b ∷ []) d many = absurd (omega (arith, many))
+copy_long text_of (a ∷ b ∷ c ∷ rest) d many = rw (take_all (length (a ∷ b ∷ c ∷ rest) - 3) rest (omega arith)) refl
+
+pub repair_long : {A : Type 0} (text_of : A → List ℕ) (fields : List A) (d : A) → 5 ≤ length fields → repair_line_in (map text_of fields)
+    ≡ repair_of (switch_in (map text_of (take (length fields - 5) (drop 5 fields)))) (steps_in (text_of (get_or fields 0 d)))
+    (spot_in (text_of (get_or fields 1 d)) (text_of (get_or fields 2 d)) (text_of (get_or fields 3 d))) (twin_in (text_of (get_or fields 4 d)))
+repair_long text_of [] d many = absurd (omega (arith, many))
+repair_long text_of (a ∷ []) d many = absurd (omega (arith, many))
+repair_long text_of (a ∷ b ∷ []) d many = absurd (omega (arith, many))
+repair_long text_of (a ∷ b ∷ c ∷ []) d many = absurd (omega (arith, many))
+repair_long text_of (a ∷ b ∷ c ∷ e ∷ []) d many = absurd (omega (arith, many))
+repair_long text_of (a ∷ b ∷ c ∷ e ∷ f ∷ rest) d many = rw (take_all (length (a ∷ b ∷ c ∷ e ∷ f ∷ rest) - 5) rest (omega arith)) refl

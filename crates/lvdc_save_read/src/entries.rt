@@ -7,7 +7,7 @@ ghost use Rattle.lvdc_map.specs.Banks.{IsPlace};
 ghost use Rattle.lvdc_text.specs.Lines.{IsWithin, part_of};
 ghost use Rattle.lvdc_save_read.specs.Sound.{IsEntry};
 ghost use Rattle.lvdc_save.specs.Lines.{entry_line};
-ghost use Rattle.lvdc_save.specs.Entries.{title_in, steps_line_in, count_line_in, pair_bit, simplex_line_in, copy_of, copy_line_in, select_of, select_line_in, cell_of, cell_line_in, word_line_in, exchange_line_in, switch_in, repair_of, repair_line_in, state_line_in, unplug_line_in, script_of, end_in, list_line_in, head_line_in, entry_in, entry_of};
+ghost use Rattle.lvdc_save.specs.Entries.{title_in, steps_line_in, count_line_in, pair_bit, simplex_line_in, copy_of, copy_line_in, select_of, select_line_in, cell_of, cell_line_in, word_of, word_line_in, exchange_of, exchange_line_in, switch_in, repair_of, repair_line_in, state_line_in, unplug_line_in, script_of, end_in, list_line_in, head_line_in, entry_in, entry_of};
 ghost use Rattle.lvdc_lines.specs.Lines.{fault_in, order_in};
 
 use crate::fields::{cell_in, port_in, spot_in, steps_in, times_in, twin_in, words_in};
@@ -121,7 +121,6 @@ fn copy_of(
     }))
 }
 
-#[tactic(auto, using(crate::proofs::Tokens::copy_short))]
 fn copy_line_in(alloc: Global, text: &[u8], fields: &[Line]) -> Result<Option<Entry>, NoMemory>
     requires { All (IsWithin text.now) fields.now }
     ensures entry { IfOk result (λ found. found ≡ copy_line_in (map (part_of text.now) fields.now)) }
@@ -158,7 +157,6 @@ fn select_of(
     Some(Entry::Select([first?, second?, third?, fourth?]))
 }
 
-#[tactic(auto, using(crate::proofs::Tokens::select_other))]
 fn select_line_in(text: &[u8], fields: &[Line]) -> Option<Entry>
     requires { All (IsWithin text.now) fields.now }
     ensures entry { result ≡ select_line_in (map (part_of text.now) fields.now) }
@@ -189,7 +187,6 @@ fn cell_of(twin: Option<u8>, at: Option<Address>, cell: Option<Cell>) -> Option<
     }))
 }
 
-#[tactic(auto, using(crate::proofs::Tokens::cell_other))]
 fn cell_line_in(text: &[u8], fields: &[Line]) -> Option<Entry>
     requires { All (IsWithin text.now) fields.now }
     ensures entry { result ≡ cell_line_in (map (part_of text.now) fields.now) }
@@ -205,17 +202,47 @@ fn cell_line_in(text: &[u8], fields: &[Line]) -> Option<Entry>
     }
 }
 
+/// The word of these fields.
+fn word_of(at: Option<Address>, word: Option<Word>) -> Option<Entry>
+    ensures entry { result ≡ word_of at word }
+    ensures ranges { IfSome result IsEntry }
+{
+    Some(Entry::Word(Placed {
+        at: at?,
+        word: word?,
+    }))
+}
+
 fn word_line_in(text: &[u8], fields: &[Line]) -> Option<Entry>
     requires { All (IsWithin text.now) fields.now }
     ensures entry { result ≡ word_line_in (map (part_of text.now) fields.now) }
     ensures ranges { IfSome result IsEntry }
 {
-    let [pair, sector, loc, word] = fields else {
-        return None;
-    };
-    let at = spot_in(part(text, pair), part(text, sector), part(text, loc))?;
-    let word = octal_word(part(text, word))?;
-    Some(Entry::Word(Placed { at, word }))
+    match fields {
+        [pair, sector, loc, word] => word_of(
+            spot_in(part(text, pair), part(text, sector), part(text, loc)),
+            octal_word(part(text, word)),
+        ),
+        _ => None,
+    }
+}
+
+/// The port exchange of these fields.
+fn exchange_of(
+    reading: bool,
+    time: Option<u64>,
+    port: Option<u8>,
+    word: Option<Word>,
+) -> Option<Entry>
+    ensures entry { result ≡ exchange_of reading time port word }
+    ensures ranges { IfSome result IsEntry }
+{
+    Some(Entry::Exchange(Exchange {
+        time: time?,
+        port: port?,
+        reading,
+        word: word?,
+    }))
 }
 
 fn exchange_line_in(reading: bool, text: &[u8], fields: &[Line]) -> Option<Entry>
@@ -223,18 +250,15 @@ fn exchange_line_in(reading: bool, text: &[u8], fields: &[Line]) -> Option<Entry
     ensures entry { result ≡ exchange_line_in reading (map (part_of text.now) fields.now) }
     ensures ranges { IfSome result IsEntry }
 {
-    let [time, port, word] = fields else {
-        return None;
-    };
-    let time = times_in(part(text, time))?;
-    let port = port_in(part(text, port))?;
-    let word = octal_word(part(text, word))?;
-    Some(Entry::Exchange(Exchange {
-        time,
-        port,
-        reading,
-        word,
-    }))
+    match fields {
+        [time, port, word] => exchange_of(
+            reading,
+            times_in(part(text, time)),
+            port_in(part(text, port)),
+            octal_word(part(text, word)),
+        ),
+        _ => None,
+    }
 }
 
 /// Whether SWITCH stands at the end.
@@ -267,7 +291,6 @@ fn repair_of(
     }))
 }
 
-#[tactic(auto, using(crate::proofs::Tokens::repair_short))]
 fn repair_line_in(text: &[u8], fields: &[Line]) -> Option<Entry>
     requires { All (IsWithin text.now) fields.now }
     ensures entry { result ≡ repair_line_in (map (part_of text.now) fields.now) }
@@ -332,6 +355,13 @@ fn end_in(fields: &[Line]) -> Option<Entry>
     }
 }
 
+/// Does the text spell this word?
+fn spells(text: &[u8], word: &[u8]) -> bool
+    ensures { result ≡ bytes_eq text.now word.now }
+{
+    text == word
+}
+
 /// What a line of a list with these tokens says, of which the first has this text.
 fn list_line_in(text: &[u8], word: &[u8], tokens: &[Line], fields: &[Line]) -> Option<Entry>
     requires within { All (IsWithin text.now) tokens.now }
@@ -340,19 +370,19 @@ fn list_line_in(text: &[u8], word: &[u8], tokens: &[Line], fields: &[Line]) -> O
     ensures entry { result ≡ list_line_in word.now (map (part_of text.now) fields.now) }
     ensures ranges { IfSome result IsEntry }
 {
-    if word == b"CELL".as_slice() {
+    if spells(word, b"CELL") {
         cell_line_in(text, fields)
-    } else if word == b"WORD".as_slice() {
+    } else if spells(word, b"WORD") {
         word_line_in(text, fields)
-    } else if word == b"IN".as_slice() {
+    } else if spells(word, b"IN") {
         exchange_line_in(true, text, fields)
-    } else if word == b"OUT".as_slice() {
+    } else if spells(word, b"OUT") {
         exchange_line_in(false, text, fields)
-    } else if word == b"REPAIR".as_slice() {
+    } else if spells(word, b"REPAIR") {
         repair_line_in(text, fields)
-    } else if word == b"STATE".as_slice() {
+    } else if spells(word, b"STATE") {
         state_line_in(text, fields)
-    } else if word == b"UNPLUG".as_slice() {
+    } else if spells(word, b"UNPLUG") {
         unplug_line_in(text, fields)
     } else {
         script_line_in(text, tokens)
@@ -373,20 +403,20 @@ fn head_line_in(
     ensures entry { IfOk result (λ found. found ≡ head_line_in word.now (map (part_of text.now) fields.now)) }
     ensures ranges { IfOk result (λ found. IfSome found IsEntry) }
 {
-    if word == b"COPY".as_slice() {
+    if spells(word, b"COPY") {
         return copy_line_in(alloc, text, fields);
     }
-    Ok(if word == b"LVDC".as_slice() {
+    Ok(if spells(word, b"LVDC") {
         title_in(fields)
-    } else if word == b"STEPS".as_slice() {
+    } else if spells(word, b"STEPS") {
         steps_line_in(text, fields)
-    } else if word == b"COUNT".as_slice() {
+    } else if spells(word, b"COUNT") {
         count_line_in(text, fields)
-    } else if word == b"SIMPLEX".as_slice() {
+    } else if spells(word, b"SIMPLEX") {
         simplex_line_in(text, fields)
-    } else if word == b"SELECT".as_slice() {
+    } else if spells(word, b"SELECT") {
         select_line_in(text, fields)
-    } else if word == b"END".as_slice() {
+    } else if spells(word, b"END") {
         end_in(fields)
     } else {
         list_line_in(text, word, tokens, fields)

@@ -1,4 +1,4 @@
-ghost use Rattle.std.specs.Prelude.{◌≡◌, ◌+◌, ◌-◌, ◌^◌, ◌*◌, ◌++◌, ◌≤◌, ◌<◌, ◌==◌, ◌%◌, length, map, true, if◌then◌else◌, OnOk, IfOk, All};
+ghost use Rattle.std.specs.Prelude.{◌≡◌, ◌+◌, ◌-◌, ◌^◌, ◌*◌, ◌++◌, ◌∷◌, [], ◌≤◌, ◌<◌, ◌==◌, ◌%◌, length, map, true, if◌then◌else◌, OnOk, IfOk, All};
 ghost use Rattle.lvdc_twin.specs.Store.{slot_of};
 ghost use Rattle.lvdc_port.specs.Supplies.{kind_at};
 ghost use Rattle.std.specs.List.{list_any};
@@ -9,7 +9,7 @@ ghost use Rattle.lvdc_orders.specs.Orders.{ORDERS};
 ghost use Rattle.lvdc_save_read.specs.Sound.{IsSoundProgress};
 ghost use Rattle.lvdc_save.specs.declared.entry.Entry.TheVariants as says;
 ghost use Rattle.lvdc_save.specs.Entries.{entry_of};
-ghost use Rattle.lvdc_save.specs.Reading.{nothing_said, section_of, place_of, holds_one, HasNext, least_after, least_in, is_at_rest, is_next_copy, agrees, fits, is_unplugged, line_in, without_words, without_device, lacking, latch_at, adds, after_entry, by_entry, whole_of, Makes};
+ghost use Rattle.lvdc_save.specs.Reading.{nothing_said, section_of, place_of, holds_one, HasNext, least_after, least_in, is_at_rest, is_next_copy, agrees, fits, is_unplugged, line_in, without_words, without_device, lacking, latch_at, adds, after_entry, by_entry, saved_in, whole_of, Makes};
 
 use crate::entries::entry_of;
 use lvdc_fault::{MOST_EVENTS, Script};
@@ -191,6 +191,14 @@ fn votes_nothing(one: Word, two: Word, three: Word) -> bool
     ensures { result ≡ (majority one two three % 4 == 0) }
 {
     majority(one, two, three).value() % 4 == 0
+}
+
+/// Adds an item to a list.
+fn push<T: Copy>(list: &mut Vec<T>, item: T) -> Result<(), NoMemory>
+    ensures { OnOk result (list.new.items ≡ list.old.items ++ item ∷ []) }
+{
+    list.push(item)?;
+    Ok(())
 }
 
 /// The line that lacks a device with words, by the kind of the device there.
@@ -378,13 +386,13 @@ impl Reading {
         ensures { OnOk result (self.new ≡ adds number self.old (says.State state)) }
     {
         if !self.has_mark(state.port) {
-            self.marks.push(Mark {
+            let mark = Mark {
                 port: state.port,
                 line: number,
-            })?;
+            };
+            push(&mut self.marks, mark)?;
         }
-        self.states.push(state)?;
-        Ok(())
+        push(&mut self.states, state)
     }
 
     /// Adds a copy.
@@ -392,8 +400,7 @@ impl Reading {
         ensures { OnOk result (self.new ≡ adds 0 self.old (says.Copy copy)) }
     {
         self.latches.extend_from_slice(copy.latches.items())?;
-        self.differed.push(copy.count)?;
-        Ok(())
+        push(&mut self.differed, copy.count)
     }
 
     /// Adds the twins that are selected.
@@ -422,22 +429,30 @@ impl Reading {
         ensures { OnOk result (self.new ≡ adds number self.old entry) }
     {
         match entry {
-            Entry::Title | Entry::End => {}
-            Entry::Steps(steps) => self.steps = steps,
-            Entry::Count(count) => self.count = count,
-            Entry::Simplex(banks) => self.banks = banks,
-            Entry::Copy(copy) => self.add_copy(copy)?,
-            Entry::Select(twins) => self.add_selected(twins)?,
-            Entry::Cell(held) => self.cells.push(held)?,
-            Entry::Word(placed) => self.words.push(placed)?,
-            Entry::Exchange(exchange) => self.log.push(exchange)?,
-            Entry::Repair(repair) => self.repairs.push(repair)?,
-            Entry::State(state) => self.add_state(number, state)?,
-            Entry::Unplug(unplug) => self.unplugs.push(unplug)?,
-            Entry::Fault(event) => self.script.push(event)?,
-            Entry::Order(order) => self.add_order(order)?,
+            Entry::Copy(copy) => self.add_copy(copy),
+            Entry::Select(twins) => self.add_selected(twins),
+            Entry::Cell(held) => push(&mut self.cells, held),
+            Entry::Word(placed) => push(&mut self.words, placed),
+            Entry::Exchange(exchange) => push(&mut self.log, exchange),
+            Entry::Repair(repair) => push(&mut self.repairs, repair),
+            Entry::State(state) => self.add_state(number, state),
+            Entry::Unplug(unplug) => push(&mut self.unplugs, unplug),
+            Entry::Fault(event) => self.script.push(event),
+            Entry::Order(order) => self.add_order(order),
+            Entry::Title | Entry::End => Ok(()),
+            Entry::Steps(steps) => {
+                self.steps = steps;
+                Ok(())
+            }
+            Entry::Count(count) => {
+                self.count = count;
+                Ok(())
+            }
+            Entry::Simplex(banks) => {
+                self.banks = banks;
+                Ok(())
+            }
         }
-        Ok(())
     }
 
     /// Takes what a line says.
@@ -482,19 +497,10 @@ impl Reading {
         }
     }
 
-    /// What all lines have said, where END was the last; where it is missing, that is named at `next`.
-    pub(crate) fn into_saved(self, next: u32) -> Result<Saved, SaveFault>
-        requires { IsSoundProgress self }
-        ensures saved { result ≡ whole_of next self }
-        ensures whole { IfOk result (λ saved. IsWhole saved.snapshot) }
-        ensures steps { IfOk result (λ saved. saved.snapshot.steps ≤ 3 * saved.count) }
-        ensures count { IfOk result (λ saved. saved.count ≤ TIMES) }
-        ensures few { IfOk result (λ saved. length saved.script ≤ EVENTS) }
-        ensures events { IfOk result (λ saved. All IsEvent saved.script) }
+    /// What all lines have said.
+    fn into_whole(self) -> Saved
+        ensures { result ≡ saved_in self }
     {
-        if self.section.rank() != Section::End.rank() {
-            return Err(SaveFault::BadSave(next));
-        }
         let Reading {
             section: _,
             least: _,
@@ -514,7 +520,7 @@ impl Reading {
             script,
             orders,
         } = self;
-        Ok(Saved {
+        Saved {
             snapshot: Snapshot {
                 steps,
                 latches: Seq::from_vec(latches),
@@ -531,6 +537,22 @@ impl Reading {
             unplugs: Seq::from_vec(unplugs),
             script,
             orders,
-        })
+        }
+    }
+
+    /// What all lines have said, where END was the last; where it is missing, that is named at `next`.
+    pub(crate) fn into_saved(self, next: u32) -> Result<Saved, SaveFault>
+        requires { IsSoundProgress self }
+        ensures saved { result ≡ whole_of next self }
+        ensures whole { IfOk result (λ saved. IsWhole saved.snapshot) }
+        ensures steps { IfOk result (λ saved. saved.snapshot.steps ≤ 3 * saved.count) }
+        ensures count { IfOk result (λ saved. saved.count ≤ TIMES) }
+        ensures few { IfOk result (λ saved. length saved.script ≤ EVENTS) }
+        ensures events { IfOk result (λ saved. All IsEvent saved.script) }
+    {
+        if self.section.rank() != Section::End.rank() {
+            return Err(SaveFault::BadSave(next));
+        }
+        Ok(self.into_whole())
     }
 }

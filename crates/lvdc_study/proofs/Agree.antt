@@ -10,8 +10,8 @@ use Rattle.lvdc_model.specs.Runs.{through}
 use Rattle.lvdc_model.specs.Trial.{Trial, plain_at}
 use Rattle.lvdc_report.specs.Report.{visible_in}
 use Rattle.lvdc_report.specs.Voted.{visible_of}
-use Rattle.lvdc_campaign.specs.Campaign.{is_same}
-use Rattle.lvdc_campaign.specs.Same.{are_same_registers, is_same_exchange, is_same_log, end_in, is_same_end, is_same_word, are_same_below}
+use Rattle.lvdc_runs.specs.Same.{is_same}
+use Rattle.lvdc_runs.specs.Same.{are_same_registers, is_same_exchange, is_same_log, end_in, is_same_end, is_same_word, are_same_below}
 use Rattle.lvdc_study.specs.Outcomes.{time_of_difference, least_by, least_below, address_of_difference, difference_by, first_difference}
 
 pub none-is : {A : Type 0} (o : Option A) → is_none o ≡ true → o ≡ None

@@ -26,7 +26,7 @@ use Rattle.lvdc_laws_voted.specs.Relation.{Goes, Halts}
 use Rattle.lvdc_machine.specs.Resumed.{FailedFrom}
 use Rattle.lvdc_machine.specs.Steps.{NamesPort}
 use Rattle.lvdc_machine.specs.declared.mode.Mode.TheVariants.{Through}
-use Rattle.lvdc_campaign.specs.Campaign.{trial_under}
+use Rattle.lvdc_runs.specs.Scripts.{trial_under}
 use Rattle.lvdc_study.specs.Failures.{FailsUnder, FailsPlainly}
 use Rattle.lvdc_study.specs.declared.fault.Unstudied.{Unstudied}
 use Rattle.lvdc_study.specs.declared.fault.Unstudied.TheVariants.{NoMemory, Device as DeviceFailed}

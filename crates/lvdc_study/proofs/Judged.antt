@@ -13,7 +13,7 @@ use Rattle.lvdc_machine.specs.Stands.{state_by}
 use Rattle.lvdc_machine.specs.View.{View}
 use Rattle.lvdc_machine.specs.declared.mode.Mode.{Mode}
 use Rattle.lvdc_machine.specs.declared.mode.Mode.TheVariants.{Guarded}
-use Rattle.lvdc_campaign.specs.Ran.{HasRun, NoneFailed}
+use Rattle.lvdc_runs.specs.Ran.{HasRun, NoneFailed}
 
 -- where no device failed the state is that of the run
 by_end : (end : Option Outcome) → NoneFailed end → (o : Trial) (n : ℕ) → state_by end Guarded o n ≡ alone o n

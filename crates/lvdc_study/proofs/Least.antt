@@ -5,7 +5,7 @@ use Rattle.std.specs.declared.option.Option.{Option}
 use Rattle.std.specs.declared.option.Option.TheVariants.{None, Some}
 use Rattle.lvdc_map.specs.Address.{Spot, spot_at}
 use Rattle.lvdc_map.specs.Memory.{Memory}
-use Rattle.lvdc_campaign.specs.Same.{is_same_word}
+use Rattle.lvdc_runs.specs.Same.{is_same_word}
 use Rattle.lvdc_study.specs.Outcomes.{least_by, least_below}
 
 module _ (banks : ℕ) (one other : Memory) where

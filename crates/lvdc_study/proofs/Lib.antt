@@ -1,5 +1,6 @@
 mod Rows
 mod Agree
+mod Alone
 mod Early
 mod Least
 mod Judged

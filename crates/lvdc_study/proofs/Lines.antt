@@ -6,7 +6,7 @@ use Rattle.std.specs.declared.option.Option.{Option}
 use Rattle.std.specs.declared.option.Option.TheVariants.{None, Some}
 use lib.Pointwise.{pointwise}
 use Rattle.lvdc_plain.specs.declared.records.Exchange.{Exchange}
-use Rattle.lvdc_campaign.specs.Same.{is_same_bit, is_same_exchange}
+use Rattle.lvdc_runs.specs.Same.{is_same_bit, is_same_exchange}
 use Rattle.lvdc_study.specs.Waypoints.{IsPrefix}
 
 bit-equal : (a b : Bool) → is_same_bit a b ≡ true → a ≡ b

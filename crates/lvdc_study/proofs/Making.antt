@@ -31,10 +31,10 @@ use Rattle.lvdc_machine.specs.View.{View, answer_of_end}
 use Rattle.lvdc_machine.specs.declared.mode.Mode.{Mode}
 use Rattle.lvdc_snapshot.specs.declared.snapshot.Snapshot.{Snapshot}
 use Rattle.lvdc_machine.specs.declared.mode.Mode.TheVariants.{Guarded}
-use Rattle.lvdc_campaign.specs.Campaign.{trial_under}
-use Rattle.lvdc_campaign.specs.Ran.{HasRunWithin, HasRunPlainly, NoneFailed, NonePlainlyFailed}
-use Rattle.lvdc_campaign.specs.Stations.{IsUnderWay, IsStation}
-use Rattle.lvdc_campaign.proofs.Stationed.{under_way-start, all-left}
+use Rattle.lvdc_runs.specs.Scripts.{trial_under}
+use Rattle.lvdc_runs.specs.Ran.{HasRunWithin, HasRunPlainly, NoneFailed, NonePlainlyFailed}
+use Rattle.lvdc_runs.specs.Stations.{IsUnderWay, IsStation}
+use Rattle.lvdc_runs.proofs.Stationed.{under_way-start, all-left}
 use Rattle.lvdc_study.specs.Failures.{HasFailed, FailsUnder, EndsIn, EndsPlainlyIn, Exchanges, ExchangesPlainly}
 use Rattle.lvdc_study.specs.declared.fault.Unstudied.{Unstudied}
 use Rattle.lvdc_study.specs.declared.fault.Unstudied.TheVariants.{NoMemory, Device as DeviceFailed}

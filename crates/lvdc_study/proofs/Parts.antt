@@ -10,8 +10,8 @@ use Rattle.lvdc_machine.specs.View as view
 use Rattle.lvdc_machine.specs.declared.mode.Mode.TheVariants.{Through}
 use Rattle.lvdc_report.specs.Report.{visible_in}
 use Rattle.lvdc_report.specs.Voted as report
-use Rattle.lvdc_campaign.specs.Ran.{HasRun, HasRunPlainly}
-use Rattle.lvdc_campaign.specs.Same.{are_same_registers, end_in, is_same_end}
+use Rattle.lvdc_runs.specs.Ran.{HasRun, HasRunPlainly}
+use Rattle.lvdc_runs.specs.Same.{are_same_registers, end_in, is_same_end}
 use Rattle.lvdc_study.specs.Outcomes.{time_of_difference, address_of_difference, difference_by, first_difference}
 
 module _ (o : Trial) (times : ℕ) (m : view.View) (h : HasRun Through o times m) (shown : Shows o m h.left (through o (3 * times)))

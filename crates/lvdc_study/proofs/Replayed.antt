@@ -23,8 +23,8 @@ use Rattle.lvdc_machine.specs.View.{View}
 use Rattle.lvdc_machine.specs.declared.mode.Mode.{Mode}
 use Rattle.lvdc_machine.specs.declared.mode.Mode.TheVariants.{Guarded}
 use Rattle.lvdc_snapshot.specs.Snapshot.{IsWhole, Means}
-use Rattle.lvdc_campaign.specs.Campaign.{trial_under}
-use Rattle.lvdc_campaign.specs.Stations.{fault_free_at, IsUnderWay}
+use Rattle.lvdc_runs.specs.Scripts.{trial_under}
+use Rattle.lvdc_runs.specs.Stations.{fault_free_at, IsUnderWay}
 use Rattle.lvdc_study.specs.Waypoints.{apart, IsPrefix, IsWaypoint, HasReplayed}
 use Rattle.lvdc_study.specs.declared.waypoint.Waypoint.{Waypoint}
 use Rattle.lvdc_study.proofs.Alongside.{run-by, Alongside, alongside}

@@ -1,5 +1,5 @@
 -- A row, by what the runs of its script came to.
-use Rattle.std.proofs.Common.{◌≡◌, ℕ, ◌*◌, ◌≤◌, Bool, true, List, sym, ◌∙◌}
+use Rattle.std.proofs.Common.{◌≡◌, ℕ, ◌*◌, ◌≤◌, Bool, true, List, [], ◌∷◌, replicate, refl, sym, subst, ◌∙◌}
 use Rattle.std.specs.declared.option.Option.{Option}
 use Rattle.std.specs.declared.option.Option.TheVariants.{None}
 use Rattle.lvdc_port.specs.Device.{Device}
@@ -17,9 +17,9 @@ use Rattle.lvdc_withstands.specs.Withstood.{Masked}
 use Rattle.lvdc_machine.specs.Shows.{Shows}
 use Rattle.lvdc_machine.specs.View.{View}
 use Rattle.lvdc_machine.specs.declared.mode.Mode.TheVariants.{Guarded, Through}
-use Rattle.lvdc_campaign.specs.Campaign.{trial_under}
-use Rattle.lvdc_campaign.specs.Ran.{HasRun, HasRunPlainly}
-use Rattle.lvdc_campaign.specs.Window.{IsWindow, TellsAll}
+use Rattle.lvdc_runs.specs.Scripts.{trial_under}
+use Rattle.lvdc_runs.specs.Ran.{HasRun, HasRunPlainly}
+use Rattle.lvdc_runs.specs.Window.{IsWindow, TellsAll}
 use Rattle.lvdc_study.specs.declared.difference.Difference.{Difference}
 use Rattle.lvdc_study.specs.declared.program.Program.{Program}
 use Rattle.lvdc_study.specs.Outcomes.{first_difference}
@@ -49,6 +49,18 @@ admissible-row p devices named judged times window run verdict tells form is_for
     let counted = done o times judged run good in
     row-is (opening_over p devices) p.count named verdict None judged.counts judged.repairs form (admitted ∙ sym all.admissible)
     (sym (same o p.count run.opening all.admissible).difference) (counted.0 ∙ all.counts) (counted.1 ∙ all.repairs) is_form
+
+-- where no event is in the run
+pub idle-row : (p : Program) (devices : List Device) (named : Named) (form : Bool) (times : ℕ) → times ≡ 0 → IsWindow named.script times p.count
+    → IsOpening (opening_over p devices) → form ≡ masks named.script p.banks p.count
+    → ((o : Trial) (times : ℕ) → IsOpening o.opening → first_bad o times ≡ Admissible → IsSame o times)
+    → ((o : Trial) (times count : ℕ) → IsOpening o.opening → IsWindow o.script times count → first_bad o times ≡ Admissible → TellsAll o times count)
+    → row_with named.name Admissible None (replicate 7 (0 ∷ 0 ∷ 0 ∷ [])) [] form ≡ row_of (opening_over p devices) p.count named
+idle-row p devices named form times none window opens is_form same tells-all =
+    let o = trial_under (opening_over p devices) named.script in
+    let all = tells-all o 0 p.count opens (subst (λ (times : ℕ). IsWindow named.script times p.count) none window) refl in
+    row-is (opening_over p devices) p.count named Admissible None (replicate 7 (0 ∷ 0 ∷ 0 ∷ [])) [] form (sym all.admissible)
+    (sym (same o p.count opens all.admissible).difference) all.counts all.repairs is_form
 
 -- where a script masks by form, and a machine has replayed the times in which its events act
 pub replayed-row : (p : Program) (devices : List Device) (named : Named) (made : View) (times lines : ℕ) → IsWindow named.script times p.count

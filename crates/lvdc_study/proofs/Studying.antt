@@ -8,7 +8,7 @@ use Rattle.lvdc_withstands.specs.Form.{masks}
 use Rattle.lvdc_model.specs.Judging.{first_bad}
 use Rattle.lvdc_model.specs.Trial.{Trial}
 use Rattle.lvdc_withstands.specs.Withstood.{Masked}
-use Rattle.lvdc_campaign.specs.Campaign.{trial_under}
+use Rattle.lvdc_runs.specs.Scripts.{trial_under}
 use Rattle.lvdc_study.specs.Failures.{FailsUnder, FailsPlainly, plainly, under, FailsInRuns}
 use Rattle.lvdc_study.specs.Study.{row_of, rows_of, IsSame, KeepsLaws}
 use Rattle.lvdc_study.specs.declared.fault.Unstudied.{Unstudied}

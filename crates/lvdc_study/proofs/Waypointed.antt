@@ -1,5 +1,5 @@
 -- Snapshots without their logs, and the waypoint at which a script may begin.
-use Rattle.std.proofs.Common.{rules, ◌≡◌, ℕ, zero, suc, ◌/◌, ◌<◌, Bool, true, false, List, [], ◌∷◌, length, is_some, All, AllPairs, refl, sym, ap, ◌∙◌, subst, arith, IfSome, IsSomeAnd, slice_get, get_or}
+use Rattle.std.proofs.Common.{rules, ◌≡◌, ℕ, zero, suc, ◌/◌, ◌<◌, Bool, true, false, List, [], ◌∷◌, length, is_some, All, AllPairs, refl, sym, ap, ◌∙◌, subst, arith, IfSome, IsSomeAnd, IfOk, IsOkAnd, OnOk, Result, Ok, Err, slice_get, get_or}
 use Rattle.std.proofs.lemmas.List.Elements.{All-nil}
 use Rattle.std.specs.declared.option.Option.{Option}
 use Rattle.std.specs.declared.option.Option.TheVariants.{None, Some}
@@ -87,3 +87,22 @@ found-within P (y ∷ ys) (suc i) h = let within = found-within P ys i h in omeg
 -- so is what is so of all
 pub all-at : {A : Type 0} (P Q : A → Type 0) (xs : List A) (i : ℕ) (x : A) → x ≡ get_or xs i x → IsSomeAnd (slice_get xs i) P → All Q xs → Q x
 all-at P Q xs i x is h all = subst Q (sym is) (all i x (found-within P xs i h))
+
+-- what follows from what holds of a value if there is one holds of it too
+pub some-weaker : {A : Type 0} (o : Option A) (P Q : A → Type 0) → ((a : A) → P a → Q a) → IfSome o P → IfSome o Q
+some-weaker None P Q from h = tt
+some-weaker (Some a) P Q from h = from a h
+
+-- what follows from two things that hold of a value that was made holds
+pub by-ok : {A E : Type 0} (r : Result A E) (P Q : A → Type 0) (R : Type 0) → ((a : A) → P a → Q a → R) → IsOkAnd r P → IfOk r Q → R
+by-ok (Ok a) P Q R from one other = from a one other
+by-ok (Err e) P Q R from one other = absurd one
+
+-- what holds of a value that was made is so of what was made
+pub ok-and : {A E : Type 0} (P : A → Type 0) (r : Result A E) (a : A) → r ≡ Ok a → P a → IsOkAnd r P
+ok-and P r a is h = subst (λ (made : Result _ _). IsOkAnd made P) (sym is) h
+
+-- what follows from what holds once a call was right holds then
+pub on-ok : {A E : Type 0} (r : Result A E) (P Q : Type 0) → (P → Q) → OnOk r P → OnOk r Q
+on-ok (Ok a) P Q from h = from h
+on-ok (Err e) P Q from h = tt

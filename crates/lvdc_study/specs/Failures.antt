@@ -16,7 +16,7 @@ use Rattle.lvdc_model.specs.declared.outcome.Outcome.{Outcome}
 use Rattle.lvdc_model.specs.declared.outcome.Outcome.TheVariants as voted
 use Rattle.lvdc_machine.specs.Stands as voted_run
 use Rattle.lvdc_machine.specs.declared.mode.Mode.{Mode}
-use Rattle.lvdc_campaign.specs.Campaign.{trial_under}
+use Rattle.lvdc_runs.specs.Scripts.{trial_under}
 use Rattle.lvdc_study.specs.declared.fault.Unstudied.{Unstudied}
 use Rattle.lvdc_study.specs.declared.fault.Unstudied.TheVariants as unstudied
 

@@ -11,7 +11,7 @@ use Rattle.lvdc_model.specs.Trial.{Trial, plain_at}
 use Rattle.lvdc_model.specs.Voted.{Voted}
 use Rattle.lvdc_report.specs.Report.{visible_in}
 use Rattle.lvdc_report.specs.Voted.{visible_of}
-use Rattle.lvdc_campaign.specs.Same.{are_same_registers, is_same_exchange, end_in, is_same_end, is_same_word}
+use Rattle.lvdc_runs.specs.Same.{are_same_registers, is_same_exchange, end_in, is_same_end, is_same_word}
 use Rattle.lvdc_study.specs.declared.difference.Difference.{Difference}
 use Rattle.lvdc_study.specs.declared.difference.Difference.TheVariants.{End, Port, Registers, Words}
 

@@ -15,7 +15,7 @@ use Rattle.lvdc_model.specs.Judging.{first_bad}
 use Rattle.lvdc_model.specs.Runs.{through}
 use Rattle.lvdc_model.specs.Trial.{Trial, plain_at}
 use Rattle.lvdc_report.specs.Voted.{all_counts}
-use Rattle.lvdc_campaign.specs.Campaign.{trial_under}
+use Rattle.lvdc_runs.specs.Scripts.{trial_under}
 use Rattle.lvdc_fault.specs.declared.TheConstants.{MOST_TIMES}
 use Rattle.lvdc_study.specs.declared.difference.Difference.{Difference}
 use Rattle.lvdc_study.specs.declared.program.Program.{Program}

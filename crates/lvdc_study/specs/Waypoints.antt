@@ -1,9 +1,10 @@
 -- Waypoints: stations without their logs. A run may go on from one over whatever devices, as long as they answer what the plain run read.
-use Rattle.std.specs.Prelude.{◌≡◌, ℕ, ◌+◌, ◌*◌, ◌/◌, ◌≤◌, ◌<◌, nat_le, if◌then◌else◌, List, [], ◌∷◌, ◌++◌, length}
+use Rattle.std.specs.Prelude.{◌≡◌, ℕ, ◌+◌, ◌*◌, ◌/◌, ◌≤◌, ◌<◌, nat_le, if◌then◌else◌, List, [], ◌∷◌, ◌++◌, length, true, None}
 use Rattle.lvdc_port.specs.Device.{Device}
 use Rattle.lvdc_port.specs.declared.requests.Supply.{Supply}
 use Rattle.lvdc_plain.specs.declared.records.Exchange.{Exchange}
 use Rattle.lvdc_plain.specs.Run.{Opening, run, IsOpening}
+use Rattle.lvdc_fault.specs.declared.verdict.Verdict.TheVariants.{Admissible}
 use Rattle.lvdc_model.specs.Runs.{guarded}
 use Rattle.lvdc_model.specs.Trial.{Trial}
 use Rattle.lvdc_model.specs.Voted.{Voted}
@@ -11,8 +12,10 @@ use Rattle.lvdc_machine.specs.Shows.{Shows}
 use Rattle.lvdc_machine.specs.View.{View}
 use Rattle.lvdc_machine.specs.declared.mode.Mode.TheVariants.{Guarded}
 use Rattle.lvdc_snapshot.specs.Snapshot.{IsWhole, Means}
-use Rattle.lvdc_campaign.specs.Stations.{fault_free_at}
+use Rattle.lvdc_runs.specs.Stations.{fault_free_at}
+use Rattle.lvdc_study.specs.declared.row.Row.{Row}
 use Rattle.lvdc_study.specs.declared.waypoint.Waypoint.{Waypoint}
+use Rattle.lvdc_study.specs.Study.{row_with}
 
 -- a log is the beginning of a later one
 pub record IsPrefix (early late : List Exchange) : Type 0 where
@@ -50,3 +53,9 @@ pub record HasReplayed (o : Trial) (times lines : ℕ) (m : View) : Type 0 where
   pub same : apart state ≡ apart (guarded o (3 * times))
   pub lines_are : length (run o.opening times).plain.log ≡ lines + length m.log
   pub mode : m.mode ≡ Guarded
+
+-- a row of this name tells what such a machine has counted and repaired, as that of a script that masks by form
+pub record TellsReplay (o : Trial) (times lines : ℕ) (name : List ℕ) (row : Row) : Type 0 where
+  pub machine : View
+  pub replayed : HasReplayed o times lines machine
+  pub told : row ≡ row_with name Admissible None machine.counts machine.repairs true

@@ -1,23 +1,35 @@
 //! The row of a script that masks by form, by a run from a waypoint up to its last event.
 
-ghost use Rattle.std.specs.Prelude.{◌≡◌, ◌≤◌, ◌<◌, List, All, IfOk, IfSome, map};
+ghost use Rattle.std.specs.Prelude.{◌≡◌, ℕ, ◌*◌, ◌≤◌, List, All, IfOk, IfSome, IsOkAnd, map};
 ghost use Rattle.lvdc_port.specs.Device as device;
 ghost use Rattle.lvdc_port.specs.Devices.{AreDistinct};
+ghost use Rattle.lvdc_plain.specs.Lists.{AreFit};
+ghost use Rattle.lvdc_plain.specs.Run.{Opening};
+ghost use Rattle.lvdc_fault.specs.declared.event.Event.{Event};
+ghost use Rattle.lvdc_fault.specs.declared.verdict.Verdict.TheVariants.{Admissible};
+ghost use Rattle.lvdc_laws_runs.specs.Early.{AllBeginFrom};
+ghost use Rattle.lvdc_model.specs.Judging.{first_bad};
+ghost use Rattle.lvdc_machine.specs.Calls.{IsFresh};
+ghost use Rattle.lvdc_machine.specs.Resumed.{StandsFrom};
+ghost use Rattle.lvdc_machine.specs.Room.{exchanges_to_come};
+ghost use Rattle.lvdc_machine.specs.declared.mode.Mode.TheVariants.{Guarded};
+ghost use Rattle.lvdc_machine.specs.declared.mode.Pace.TheVariants.{ByStep};
 ghost use Rattle.lvdc_snapshot.specs.Snapshot.{IsWhole};
-ghost use Rattle.lvdc_campaign.specs.Campaign.{IsScript};
-ghost use Rattle.lvdc_campaign.specs.Ran.{HasRunPlainly};
+ghost use Rattle.lvdc_runs.specs.Scripts.{IsScript, trial_under};
+ghost use Rattle.lvdc_runs.specs.Ran.{HasRunPlainly};
 ghost use Rattle.lvdc_study.specs.Study.{opening_over, IsProgram, row_of};
-ghost use Rattle.lvdc_study.specs.Waypoints.{IsWaypoint};
+ghost use Rattle.lvdc_study.specs.Waypoints.{IsWaypoint, TellsReplay};
 
 use crate::laws::{admissible_comes_to_the_same, replayed_counts};
-use crate::replay::{goes_along, lines_from, machine_from, words_read};
+use crate::replay::{goes_along, lines_from, words_read};
 use crate::study::{masks, row_with};
 use crate::waypoint::{Waypoint, waypoint_before};
 use crate::{Program, Row};
-use lvdc_campaign::{window_of, window_tells_all};
 use lvdc_fault::{Named, Script, Verdict};
+use lvdc_machine::Machine;
 use lvdc_plain::Plain;
 use lvdc_port::{PortDevice, supply_all};
+use lvdc_runs::{window_of, window_tells_all};
 use lvdc_withstands::form_masks;
 use lvdc_word::{NoMemory, Seq};
 use std::alloc::Global;
@@ -33,9 +45,42 @@ fn once_more(alloc: Global, script: &Script) -> Result<Script, NoMemory>
     Ok(copy)
 }
 
+/// The row of this name, by a machine that was made at a waypoint for so many times in all. None where it doesn't make them, or where its log
+/// isn't that of the plain run.
+fn row_along(
+    program: &Program<'_>,
+    plain: &Plain,
+    from: &Waypoint,
+    times: u64,
+    name: Seq<u8>,
+    made: &mut Result<Machine, NoMemory>,
+    devices: &mut Vec<Box<dyn PortDevice>>,
+) -> Result<Option<Row>, NoMemory>
+    requires whole { IsWhole from.now.snapshot }
+    requires ahead { from.now.snapshot.steps ≤ 3 * times }
+    requires fresh { IfOk made.old (IsFresh Guarded ByStep times from.now.snapshot.steps) }
+    requires fit { IfOk made.old (λ machine. AreFit device_of spare (exchanges_to_come machine) devices.old.items) }
+    ensures { IfOk result (λ told. IfSome told (λ row. IsOkAnd made.old (λ machine. (p : Opening) (script : List Event) (count : ℕ) (at : IsWaypoint p count from.now)
+        → times ≤ count → HasRunPlainly p count plain.now → AllBeginFrom from.now.snapshot.steps script → first_bad (trial_under p script) times ≡ Admissible
+        → StandsFrom (trial_under p script) (record at.state { devices = map device_of devices.old.items }) 0 machine (map device_of devices.old.items)
+        → TellsReplay (trial_under p script) times from.now.lines name row))) }
+{
+    match made {
+        Ok(machine) => {
+            if goes_along(program.orders, plain, from, times, machine, devices) {
+                let verdict = Verdict::Admissible;
+                Ok(Some(row_with(name, verdict, None, machine, true)))
+            } else {
+                Ok(None)
+            }
+        }
+        Err(_) => Err(NoMemory),
+    }
+}
+
 /// The row of a script that masks by form, beside the plain run of the same program, over whatever devices: they are given the words that
-/// the plain run read between the waypoint before the first event and the last event. None where the script doesn't mask by form, no
-/// waypoint is near, or these devices answer something else.
+/// the plain run read between the waypoint before the first event and the last event. None where the script has no event or doesn't mask by
+/// form, no waypoint is near, or these devices answer something else.
 pub fn study_apart(
     alloc: Global,
     program: &Program<'_>,
@@ -58,6 +103,9 @@ pub fn study_apart(
     replayed_counts();
     window_tells_all();
     let times = window_of(&named.script, program.count);
+    if times == 0 {
+        return Ok(None);
+    }
     let Some(at) = waypoint_before(waypoints, &named.script, times) else {
         return Ok(None);
     };
@@ -69,19 +117,16 @@ pub fn study_apart(
     let words = words_read(alloc, lines_from(plain.log(), from.lines), times)?;
     supply_all(devices, &words)?;
     let script = once_more(alloc, &named.script)?;
-    let mut machine = match machine_from(alloc, program, from, script, times, devices) {
-        Ok(machine) => machine,
-        Err(NoMemory) => return Err(NoMemory),
-    };
-    if !goes_along(program.orders, plain, from, times, &mut machine, devices) {
-        return Ok(None);
-    }
     let name = Vec::from_slice(alloc, named.name.items())?;
-    Ok(Some(row_with(
+    let unplugs = Vec::from_slice(alloc, program.unplugs)?;
+    let snapshot = from.snapshot.once_more(alloc)?;
+    row_along(
+        program,
+        plain,
+        from,
+        times,
         Seq::from_vec(name),
-        Verdict::Admissible,
-        None,
-        &machine,
-        true,
-    )))
+        &mut Machine::from_snapshot(alloc, snapshot, script, unplugs, times, devices),
+        devices,
+    )
 }

@@ -2,9 +2,9 @@
 
 ghost use Rattle.std.specs.Prelude.{◌≡◌, Bool, false, All, List, IfOk, IfErr};
 ghost use Rattle.lvdc_port.specs.Device.{Device};
-ghost use Rattle.lvdc_campaign.specs.Campaign.{trial_under, IsScript};
-ghost use Rattle.lvdc_campaign.specs.Ran.{HasRunPlainly};
-ghost use Rattle.lvdc_campaign.specs.Stations.{IsStation};
+ghost use Rattle.lvdc_runs.specs.Scripts.{trial_under, IsScript};
+ghost use Rattle.lvdc_runs.specs.Ran.{HasRunPlainly};
+ghost use Rattle.lvdc_runs.specs.Stations.{IsStation};
 ghost use Rattle.lvdc_study.specs.Failures.{FailsUnder, FailsPlainly};
 ghost use Rattle.lvdc_study.specs.Study.{opening_over, IsProgram, row_of};
 ghost use Rattle.lvdc_study.specs.Waypoints.{IsWaypoint};

@@ -4,15 +4,15 @@ ghost use Rattle.std.specs.Prelude.{◌≡◌, ◌+◌, ◌*◌, ◌<◌, ℕ, S
 ghost use Rattle.lvdc_model.specs.Runs.{through};
 ghost use Rattle.lvdc_model.specs.Trial.{Trial, plain_at};
 ghost use Rattle.lvdc_machine.specs.declared.mode.Mode.TheVariants.{Through};
-ghost use Rattle.lvdc_campaign.specs.Ran.{HasRun, HasRunPlainly};
-ghost use Rattle.lvdc_campaign.specs.Same.{is_same_exchange};
+ghost use Rattle.lvdc_runs.specs.Ran.{HasRun, HasRunPlainly};
+ghost use Rattle.lvdc_runs.specs.Same.{is_same_exchange};
 ghost use Rattle.lvdc_study.specs.Outcomes.{time_of_difference, least_below, address_of_difference, first_difference};
 
 use crate::Difference;
-use lvdc_campaign::{are_blank, are_same_registers, is_same_end, is_same_word, through_is_shown};
 use lvdc_machine::Machine;
 use lvdc_map::Address;
 use lvdc_plain::{Exchange, Plain};
+use lvdc_runs::{are_blank, are_same_registers, is_same_end, is_same_word, through_is_shown};
 
 /// Is it the same exchange? It stands for its clause alone, which proofs cite.
 fn is_same_exchange(voted: &Exchange, plain: &Exchange) -> bool

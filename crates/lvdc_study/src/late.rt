@@ -7,19 +7,19 @@ ghost use Rattle.lvdc_laws_runs.specs.Early.{AllBeginFrom};
 ghost use Rattle.lvdc_port.specs.Devices.{AreDistinct};
 ghost use Rattle.lvdc_plain.specs.Lists.{Since};
 ghost use Rattle.lvdc_plain.specs.Run.{run};
-ghost use Rattle.lvdc_campaign.specs.Campaign.{trial_under};
-ghost use Rattle.lvdc_campaign.specs.Ran.{HasRunWithin};
-ghost use Rattle.lvdc_campaign.specs.Stations.{IsStation};
+ghost use Rattle.lvdc_runs.specs.Scripts.{trial_under};
+ghost use Rattle.lvdc_runs.specs.Ran.{HasRunWithin};
+ghost use Rattle.lvdc_runs.specs.Stations.{IsStation};
 ghost use Rattle.lvdc_study.specs.Failures.{HasFailed, FailsUnder, FailsPlainly};
 ghost use Rattle.lvdc_study.specs.Study.{opening_over, IsProgram};
 
 use crate::laws::fails_early;
 use crate::runs::{failed_port, run_plain, run_script};
 use crate::{Program, Unstudied};
-use lvdc_campaign::{machine_at, quiet_stations_leave_devices, station_before, stations_of};
 use lvdc_fault::Script;
 use lvdc_machine::{Machine, Mode, Snapshot};
 use lvdc_port::{PortDevice, supply_all};
+use lvdc_runs::{machine_at, quiet_stations_leave_devices, station_before, stations_of};
 use lvdc_word::NoMemory;
 use std::alloc::Global;
 
@@ -51,7 +51,7 @@ pub fn make_stations(
 
 /// Brings devices in their first states to where the plain run has them at a station. Where nothing went over a port before it, and no
 /// device is taken away, they only get the words of the tapes.
-fn bring(
+fn bring_there(
     alloc: Global,
     program: &Program<'_>,
     station: &Snapshot,
@@ -79,6 +79,28 @@ fn bring(
         Ok(_) => Ok(()),
         Err(e) => Err(e),
     }
+}
+
+/// Brings devices there, if there are any.
+fn bring(
+    alloc: Global,
+    program: &Program<'_>,
+    station: &Snapshot,
+    devices: &mut Vec<Box<dyn PortDevice>>,
+) -> Result<(), Unstudied>
+    requires program { IsProgram program.now }
+    requires station { IsStation (opening_over program.now (map device_of devices.old.items)) program.now.count station.now }
+    requires distinct { AreDistinct (map device_of devices.old.items) }
+    ensures brought { OnOk result (map device_of devices.new.items ≡ (run (opening_over program.now (map device_of devices.old.items)) (station.now.steps / 3)).devices) }
+    ensures distinct { OnOk result (AreDistinct (map device_of devices.new.items)) }
+    ensures since { OnOk result (Since device_of faults devices.old.items devices.new.items) }
+    ensures failed { IfErr result (λ e. HasFailed device_of faults e devices.old.items devices.new.items) }
+    ensures fails { IfErr result (λ e. FailsPlainly (opening_over program.now (map device_of devices.old.items)) (station.now.steps / 3) e) }
+{
+    if devices.is_empty() {
+        return Ok(());
+    }
+    bring_there(alloc, program, station, devices)
 }
 
 /// The voted machine that judges, after so many of the times of a program under a script that begins at a station or later, over devices

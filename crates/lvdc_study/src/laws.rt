@@ -9,8 +9,9 @@ ghost use Rattle.lvdc_machine.specs.declared.mode.Mode.TheVariants.{Guarded};
 ghost use Rattle.lvdc_model.specs.Judging.{first_bad};
 ghost use Rattle.lvdc_model.specs.Runs.{through};
 ghost use Rattle.lvdc_model.specs.Trial.{Trial};
-ghost use Rattle.lvdc_campaign.specs.Campaign.{is_same, trial_under};
-ghost use Rattle.lvdc_campaign.specs.Ran.{HasRun};
+ghost use Rattle.lvdc_runs.specs.Same.{is_same};
+ghost use Rattle.lvdc_runs.specs.Scripts.{trial_under};
+ghost use Rattle.lvdc_runs.specs.Ran.{HasRun};
 ghost use Rattle.lvdc_study.specs.Failures.{FailsPlainly, FailsUnder};
 ghost use Rattle.lvdc_study.specs.Outcomes.{first_difference};
 ghost use Rattle.lvdc_study.specs.Study.{rows_of, IsSame, KeepsLaws};
@@ -22,8 +23,8 @@ ghost use Rattle.lvdc_study.specs.declared.fault.Unstudied.{Unstudied};
 pub fn admissible_comes_to_the_same()
     ensures { (o : Trial) (times : ℕ) → IsOpening o.opening → first_bad o times ≡ Admissible → IsSame o times }
 {
-    lvdc_campaign::admissible_is_same();
-    lvdc_campaign::through_is_guarded();
+    lvdc_runs::admissible_is_same();
+    lvdc_runs::through_is_guarded();
     lvdc_laws_voted::guarded_times();
 }
 
@@ -45,7 +46,7 @@ pub(crate) fn judged_goes_through()
     ensures { (o : Trial) (times : ℕ) (m : View) → HasRun Guarded o times m → first_bad o times ≡ Admissible
         → (m.counts ≡ (through o (3 * times)).counts) × (m.repairs ≡ (through o (3 * times)).repairs) }
 {
-    lvdc_campaign::through_is_guarded();
+    lvdc_runs::through_is_guarded();
     lvdc_laws_voted::judges_alone();
 }
 
@@ -56,7 +57,7 @@ pub(crate) fn replayed_counts()
         → (m.counts ≡ (through o (3 * times)).counts) × (m.repairs ≡ (through o (3 * times)).repairs) }
     ensures early { (o : Trial) (times count : ℕ) → times ≤ count → first_bad o count ≡ Admissible → first_bad o times ≡ Admissible }
 {
-    lvdc_campaign::through_is_guarded();
+    lvdc_runs::through_is_guarded();
 }
 
 /// A law: where the plain run fails before a script begins, a run under the script fails there too.
@@ -68,5 +69,5 @@ pub(crate) fn fails_early()
     lvdc_laws_voted::guarded_run();
     lvdc_laws_voted::step_begun();
     lvdc_plain::stopped_run_stays();
-    lvdc_campaign::through_is_guarded();
+    lvdc_runs::through_is_guarded();
 }

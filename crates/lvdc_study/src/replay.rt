@@ -19,8 +19,8 @@ ghost use Rattle.lvdc_model.specs.Trial.{Trial};
 ghost use Rattle.lvdc_model.specs.Voted.{Voted};
 ghost use Rattle.lvdc_model.specs.Judging.{first_bad};
 ghost use Rattle.lvdc_snapshot.specs.Snapshot.{IsWhole, Means};
-ghost use Rattle.lvdc_campaign.specs.Campaign.{trial_under};
-ghost use Rattle.lvdc_campaign.specs.Ran.{HasRunPlainly};
+ghost use Rattle.lvdc_runs.specs.Scripts.{trial_under};
+ghost use Rattle.lvdc_runs.specs.Ran.{HasRunPlainly};
 ghost use Rattle.lvdc_study.specs.Study.{opening_over, IsProgram};
 ghost use Rattle.lvdc_study.specs.Waypoints.{IsPrefix, IsWaypoint, HasReplayed, words_read};
 

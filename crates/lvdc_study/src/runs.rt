@@ -9,17 +9,17 @@ ghost use Rattle.lvdc_machine.specs.Onward.{HasRefused};
 ghost use Rattle.lvdc_machine.specs.declared.mode.Mode.TheVariants.{Through};
 ghost use Rattle.lvdc_model.specs.Trial.{Trial};
 ghost use Rattle.lvdc_fault.specs.declared.TheConstants.{MOST_EVENTS};
-ghost use Rattle.lvdc_campaign.specs.Campaign.{trial_under};
-ghost use Rattle.lvdc_campaign.specs.Ran.{HasRun, HasRunPlainly, HasRunGuarded, HasRunWithin, NoneFailed, NonePlainlyFailed};
+ghost use Rattle.lvdc_runs.specs.Scripts.{trial_under};
+ghost use Rattle.lvdc_runs.specs.Ran.{HasRun, HasRunPlainly, HasRunGuarded, HasRunWithin, NoneFailed, NonePlainlyFailed};
 ghost use Rattle.lvdc_study.specs.Failures.{HasFailed, FailsUnder, FailsPlainly, EndsIn, EndsPlainlyIn};
 ghost use Rattle.lvdc_study.specs.Study.{opening_over, IsProgram};
 
 use crate::{Program, Unstudied};
-use lvdc_campaign::plain_machine_has_run;
 use lvdc_fault::Script;
 use lvdc_machine::{Machine, Mode, Outcome};
 use lvdc_plain::{Plain, PlainEnd, Stop};
 use lvdc_port::{PortDevice, supply_all};
+use lvdc_runs::plain_machine_has_run;
 use lvdc_word::NoMemory;
 use std::alloc::Global;
 

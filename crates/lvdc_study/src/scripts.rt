@@ -1,9 +1,9 @@
 //! The rows of a study.
 
 ghost use Rattle.std.specs.Prelude.{◌≡◌, false, All, IfOk, IfErr};
-ghost use Rattle.lvdc_campaign.specs.Campaign.{IsScript};
-ghost use Rattle.lvdc_campaign.specs.Ran.{HasRunPlainly};
-ghost use Rattle.lvdc_campaign.specs.Stations.{IsStation};
+ghost use Rattle.lvdc_runs.specs.Scripts.{IsScript};
+ghost use Rattle.lvdc_runs.specs.Ran.{HasRunPlainly};
+ghost use Rattle.lvdc_runs.specs.Stations.{IsStation};
 ghost use Rattle.lvdc_study.specs.Failures.{FailsInRuns};
 ghost use Rattle.lvdc_study.specs.Study.{opening_over, rows_of, IsProgram};
 ghost use Rattle.lvdc_study.specs.Waypoints.{IsWaypoint};
@@ -11,10 +11,10 @@ ghost use Rattle.lvdc_study.specs.declared.fault.Unstudied.TheVariants.{NoMemory
 
 use crate::waypoint::are_worth_waypoints;
 use crate::{Bench, Program, Row, Unstudied, Waypoint};
-use lvdc_campaign::are_worth_stations;
 use lvdc_fault::Named;
 use lvdc_machine::Snapshot;
 use lvdc_plain::Plain;
+use lvdc_runs::are_worth_stations;
 use lvdc_word::NoMemory;
 use std::alloc::Global;
 

@@ -1,13 +1,14 @@
 //! The row of a script.
 
-ghost use Rattle.std.specs.Prelude.{◌≡◌, map, true, All, IfOk, IfErr};
+ghost use Rattle.std.specs.Prelude.{◌≡◌, [], ◌∷◌, replicate, map, true, All, OnOk, IfOk, IfErr};
 ghost use Rattle.lvdc_fault.specs.declared.verdict.Verdict.TheVariants as verdicts;
 ghost use Rattle.lvdc_withstands.specs.Form.{masks};
 ghost use Rattle.lvdc_port.specs.Devices.{AreDistinct};
+ghost use Rattle.lvdc_plain.specs.Run.{IsOpening};
 ghost use Rattle.std.specs.declared.option.Option.TheVariants.{None};
-ghost use Rattle.lvdc_campaign.specs.Campaign.{trial_under, IsScript};
-ghost use Rattle.lvdc_campaign.specs.Ran.{HasRunPlainly};
-ghost use Rattle.lvdc_campaign.specs.Stations.{IsStation};
+ghost use Rattle.lvdc_runs.specs.Scripts.{trial_under, IsScript};
+ghost use Rattle.lvdc_runs.specs.Ran.{HasRunPlainly};
+ghost use Rattle.lvdc_runs.specs.Stations.{IsStation};
 ghost use Rattle.lvdc_study.specs.Failures.{HasFailed, FailsUnder};
 ghost use Rattle.lvdc_study.specs.Study.{opening_over, IsProgram, first_step, row_with, row_of};
 
@@ -16,13 +17,14 @@ use crate::late::run_late;
 use crate::laws::{admissible_comes_to_the_same, judged_goes_through};
 use crate::runs::go_through;
 use crate::{Difference, Program, Row, Unstudied};
-use lvdc_campaign::{is_admissible, through_is_shown, verdict_of, window_of, window_tells_all};
 use lvdc_fault::{Named, Script, Verdict};
 use lvdc_machine::{Machine, Snapshot};
+use lvdc_map::{is_hop_constant, places_words};
 use lvdc_model::Repair;
 use lvdc_plain::Plain;
-use lvdc_port::PortDevice;
+use lvdc_port::{PortDevice, prepare_all, supplies_words, words_stay};
 use lvdc_report::all_counts;
+use lvdc_runs::{is_admissible, through_is_shown, verdict_of, window_of, window_tells_all};
 use lvdc_withstands::{first_unmet, form_masks};
 use lvdc_word::{NoMemory, Seq};
 use std::alloc::Global;
@@ -57,6 +59,35 @@ pub(crate) fn row_with(
     }
 }
 
+/// The row of a name whose script has no event in the run.
+fn idle_row(name: Seq<u8>, masks: bool) -> Row
+    ensures { result ≡ row_with name verdicts.Admissible None (replicate 7 (0 ∷ 0 ∷ 0 ∷ [])) [] masks }
+{
+    Row {
+        name,
+        verdict: Verdict::Admissible,
+        difference: None,
+        copies: 0,
+        repairs: 0,
+        first_repair: None,
+        masks,
+    }
+}
+
+/// Over these devices, which hold words, a program opens with words and a HOP constant. They hold what they held.
+fn opens_with_words(
+    program: &Program<'_>,
+    devices: &mut Vec<Box<dyn PortDevice>>,
+) -> Result<(), NoMemory>
+    ensures { OnOk result (IsOpening (opening_over program.now (map device_of devices.old.items))) }
+{
+    places_words(program.image);
+    supplies_words(program.supplies);
+    is_hop_constant(program.start);
+    words_stay();
+    prepare_all(devices, 0)
+}
+
 /// Whether a script masks by form in the run of a program.
 pub(crate) fn masks(alloc: Global, program: &Program<'_>, script: &Script) -> Result<bool, NoMemory>
     ensures { IfOk result (λ answer. answer ≡ masks script.now program.now.banks program.now.count) }
@@ -67,7 +98,7 @@ pub(crate) fn masks(alloc: Global, program: &Program<'_>, script: &Script) -> Re
 
 /// The row of a script, beside the plain run of the same program, over devices in their first states. The machine that judges makes the
 /// times from the last station before the first event up to the last event, or all that are left where an event is on memory; where the
-/// script isn't admissible it goes on from there, through every fault.
+/// script isn't admissible it goes on from there, through every fault. Where no event is in the run, no machine is made.
 pub fn study_script(
     alloc: Global,
     program: &Program<'_>,
@@ -99,6 +130,10 @@ pub fn study_script(
     let Named { name, script } = named;
     let masks = masks(alloc, program, &script)?;
     let times = window_of(&script, program.count);
+    if times == 0 {
+        opens_with_words(program, devices)?;
+        return Ok(idle_row(name, masks));
+    }
     let mut machine = run_late(alloc, program, stations, script, times, devices)?;
     let verdict = verdict_of(&machine);
     if is_admissible(&verdict) {

@@ -11,9 +11,9 @@ ghost use Rattle.lvdc_model.specs.Voted.{Voted};
 ghost use Rattle.lvdc_snapshot.specs.Snapshot.{IsWhole, Means};
 
 use crate::Program;
-use lvdc_campaign::station_before;
 use lvdc_fault::Script;
 use lvdc_machine::{Machine, Snapshot};
+use lvdc_runs::station_before;
 use lvdc_word::{NoMemory, Seq};
 use std::alloc::Global;
 use std::slice;

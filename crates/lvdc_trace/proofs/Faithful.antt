@@ -18,7 +18,7 @@ use Rattle.lvdc_twin.specs.declared.both_bad.BothBad.{BothBad}
 use Rattle.lvdc_twin.specs.declared.read_out.ReadOut.{ReadOut}
 use Rattle.lvdc_modules.specs.declared.wanted.Wanted.{Wanted}
 use Rattle.lvdc_modules.specs.declared.wanted.Wanted.TheVariants.{Nothing, Fetch, Operand, Store as Stores, PortRead, PortWrite}
-use Rattle.lvdc_plain.specs.Accesses.{Store, fetched, operand, store, store_of, store_by}
+use Rattle.lvdc_plain.specs.Accesses.{Store, fetched, operand, store, store_of, accessed}
 use Rattle.lvdc_plain.specs.Plain.{PlainState}
 use Rattle.lvdc_plain.specs.Table.{fetched_instr, request_by}
 use Rattle.lvdc_plain.specs.declared.records.Stop.{Stop}
@@ -193,7 +193,7 @@ module _ (o : Trial) (law : PlainLaws o) where
   third-told None (Some s) b made apart is = part-of (Stores s.at s.word) 0 made is
 
   made-told : (stop : Option Stop) (hold : ℕ) (p : PlainState) (b : Voted) (made : Made) → exchange_made o b (exchange_of stop hold p) ≡ Some made
-      → memory_part made.wanted made.word ≡ store_line (store_by stop hold p)
+      → memory_part made.wanted made.word ≡ store_line (accessed stop hold (store_of p (fetched_instr p).op (fetched_instr p).address))
   made-told None zero p b made is =
       third-told (request_by (fetched_instr p).op p (fetched_instr p).address) (store_of p (fetched_instr p).op (fetched_instr p).address) b made
       (no-store (fetched_instr p).op p (fetched_instr p).address) is

@@ -63,7 +63,7 @@ shown_in t twin place =
     if is_dead t twin place.pair then 0
     else with_stuck (stored_in t twin place) (stuck_in t twin place).mask (stuck_in t twin place).value
 
--- a cell survives in what the zeroth and the first twin show where one of them shows it, and each that shows another cell shows a bad one
+-- a cell survives in what the two twins show: at least one shows it, and a twin that shows another cell shows a bad one
 abbrev pub survives : ℕ → ℕ → ℕ → Bool
 survives cell zeroth first =
     (zeroth == cell || first == cell) && (zeroth == cell || not (is_good zeroth)) && (first == cell || not (is_good first))

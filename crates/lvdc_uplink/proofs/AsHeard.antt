@@ -1,5 +1,5 @@
 -- What is heard of lines and of their answers is what the link holds, line after line.
-use Rattle.std.proofs.Common.{◌≡◌, ℕ, ◌<◌, Bool, true, List, [], ◌∷◌, ◌++◌, Option, None, Some, refl, sym, ap, subst, ◌∙◌, append-nil, inl, inr, if◌then◌else◌}
+use Rattle.std.proofs.Common.{◌≡◌, ℕ, ◌<◌, Bool, true, false, List, [], ◌∷◌, ◌++◌, Option, None, Some, refl, sym, ap, subst, ◌∙◌, append-nil, inl, inr, if◌then◌else◌}
 use Rattle.std.specs.Prelude.{option_to_list}
 use Rattle.std.proofs.lemmas.List.Elements.{All-nil, All-cons, All-append}
 use Rattle.lvdc_map.specs.declared.placed.Placed.{Placed}
@@ -165,6 +165,11 @@ Stays =
     (link : Link) (text : List ℕ) → is_acknowledged (after_text link text).answer ≡ true
     → (after_text (after_text link text).link text).link ≡ (after_text link text).link
 
+-- a line that isn't acknowledged leaves the link as it is
+abbrev pub Keeps : Type 0
+Keeps =
+    (link : Link) (text : List ℕ) → is_acknowledged (after_text link text).answer ≡ false → (after_text link text).link ≡ link
+
 text-again : Stays → (link : Link) (text : List ℕ) → is_acknowledged (after_text link text).answer ≡ true
     → after_text (after_text link text).link text ≡ record { answer = again (after_text link text).answer; link = (after_text link text).link }
 text-again stays link text ack =
@@ -182,3 +187,7 @@ module _ (link now : Link) (text : List ℕ) (answer : Answer) (is : after_text 
   again-then stays =
       subst (λ (step : Step). is_acknowledged step.answer ≡ true → after_text step.link text ≡ record { answer = again step.answer; link = step.link }) is
       (text-again stays link text)
+
+  pub refused-then : Keeps → is_acknowledged answer ≡ false → now ≡ link
+  refused-then keeps =
+      subst (λ (step : Step). is_acknowledged step.answer ≡ false → step.link ≡ link) is (keeps link text)

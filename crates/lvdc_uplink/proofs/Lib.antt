@@ -13,6 +13,7 @@ pub mod Hearing
 pub mod Holding
 pub mod AsHeard
 pub mod Steps
+pub mod Sending
 pub mod Lengths
 pub mod Listening
 mod ReplyRows

@@ -1,4 +1,4 @@
--- Lines one after the other, where a heading is due, and where messages are sent.
+-- Lines one after the other, where a heading is due.
 use Rattle.std.proofs.Common.{◌≡◌, ℕ, ◌+◌, ◌<◌, ◌≤◌, List, length, get_or, drop, Result, Err, sym, ap, ◌∙◌}
 use Rattle.std.proofs.lemmas.List.{drop_more, drop_all}
 use Rattle.lvdc_text.specs.declared.cutting.Line.{Line}

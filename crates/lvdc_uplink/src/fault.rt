@@ -4,7 +4,7 @@ use lvdc_image::ImageFault;
 use thiserror::Error;
 
 /// Why bytes hold no image with messages: the first refusal, and its line.
-#[derive(Clone, Copy, Debug, PartialEq, Eq, Error)]
+#[derive(Clone, Copy, Debug, Error)]
 pub enum PatchFault {
     /// The first line is not IMAGE.
     #[error("line {0} begins no image")]

@@ -5,14 +5,14 @@ use crate::PatchFault;
 use lvdc_text::{is_alone, is_comment, is_long};
 
 /// The headings of the two parts.
-#[derive(Clone, Copy, PartialEq, Eq)]
+#[derive(Clone, Copy)]
 pub(crate) enum Heading {
     Image,
     Uplink,
 }
 
 /// What a line is where a heading is due.
-#[derive(Clone, Copy, PartialEq, Eq)]
+#[derive(Clone, Copy)]
 pub(crate) enum LineKind {
     /// Above 120 bytes.
     Long,

@@ -6,7 +6,7 @@ ghost use Rattle.lvdc_uplink.specs.Heard.{Heard, IsAsHeard, IsHeldIf, nothing_he
 
 use crate::Answer;
 use crate::frame::Frame;
-use crate::laws::repeated_changes_nothing;
+use crate::laws::{refused_changes_nothing, repeated_changes_nothing};
 use crate::load::Load;
 use crate::message::Message;
 use crate::parse::message_of;
@@ -168,6 +168,18 @@ impl Uplink {
         }
     }
 
+    /// Answers a line, which is a message or is none.
+    fn answer(&mut self, text: &[u8]) -> Result<Answer, NoMemory>
+        ensures step { IfOk result (λ answer. after_text self.old text.now ≡ record { answer = answer; link = self.new }) }
+        ensures unchanged { OnErr result (self.new ≡ self.old) }
+        ensures no_memory { OnErr result ((is_opening self.old (after_text self.old text.now) ≡ true) ⊎ (is_applying self.old (after_text self.old text.now) ≡ true)) }
+    {
+        match message_of(text) {
+            Some(message) => self.take(message),
+            None => Ok(Answer::Form),
+        }
+    }
+
     /// Answers a line, which is a message or is none. Only an OPEN that opens a load and a COMMIT that applies one take memory.
     pub fn message(&mut self, text: &[u8]) -> Result<Answer, NoMemory>
         // The answer and what is then held are those of the definition.
@@ -185,10 +197,8 @@ impl Uplink {
         ensures unchanged { OnErr result (self.new ≡ self.old) }
         ensures no_memory { OnErr result ((is_opening self.old (after_text self.old text.now) ≡ true) ⊎ (is_applying self.old (after_text self.old text.now) ≡ true)) }
     {
+        refused_changes_nothing();
         repeated_changes_nothing();
-        match message_of(text) {
-            Some(message) => self.take(message),
-            None => Ok(Answer::Form),
-        }
+        self.answer(text)
     }
 }

@@ -105,10 +105,7 @@ module _ (copy : ℕ → ℕ) (banks count twin : ℕ) where
   three_duplex (Dead w pair first last) h =
       (and_parts (w == twin) (is_duplex_pair banks pair) (and_parts (w == twin && is_duplex_pair banks pair) (nat_le (3 * count) (last + 1)) (middle _ h)).0).1
   three_duplex (Stick w at first last mask value) h = absurd (true≢false (sym h))
-  three_duplex (Flip number c first last index mask) h = refl
-  three_duplex (Force number c first last index mask value) h = refl
-  three_duplex (Lag number c first last) h = refl
-  three_duplex (Deaf number c first last) h = refl
+  three_duplex _ h = refl
 
   three_seen : (e : Event) → Of e → is_seen e ≡ true
   three_seen (Damage w at t mask) h =
@@ -116,19 +113,13 @@ module _ (copy : ℕ → ℕ) (banks count twin : ℕ) where
       (eqb-true (ones 14 (mask / 2 ^ 14) + ones 14 (mask % 2 ^ 14)) 1 (and_parts (w == twin && is_duplex_pair banks at.pair) _ h).1)
   three_seen (Dead w pair first last) h = refl
   three_seen (Stick w at first last mask value) h = absurd (true≢false (sym h))
-  three_seen (Flip number c first last index mask) h = refl
-  three_seen (Force number c first last index mask value) h = refl
-  three_seen (Lag number c first last) h = refl
-  three_seen (Deaf number c first last) h = refl
+  three_seen _ h = refl
 
   three_lasting : (e : Event) → Of e → is_lasting count e ≡ true
   three_lasting (Damage w at t mask) h = refl
   three_lasting (Dead w pair first last) h = (and_parts (w == twin && is_duplex_pair banks pair) (nat_le (3 * count) (last + 1)) (middle _ h)).1
   three_lasting (Stick w at first last mask value) h = absurd (true≢false (sym h))
-  three_lasting (Flip number c first last index mask) h = refl
-  three_lasting (Force number c first last index mask value) h = refl
-  three_lasting (Lag number c first last) h = refl
-  three_lasting (Deaf number c first last) h = refl
+  three_lasting _ h = refl
 
   -- the twin that it names
   three_twin : (pair w : ℕ) (e : Event) → Of e → names_twin pair w e ≡ true → w ≡ twin
@@ -139,10 +130,7 @@ module _ (copy : ℕ → ℕ) (banks count twin : ℕ) where
       sym (eqb-true v w (and_parts (p == pair) (v == w) names).1)
       ∙ eqb-true v twin (and_parts (v == twin) (is_duplex_pair banks p) (and_parts (v == twin && is_duplex_pair banks p) (nat_le (3 * count) (last + 1)) (middle _ h)).0).0
   three_twin pair w (Stick v at first last mask value) h names = absurd (true≢false (sym h))
-  three_twin pair w (Flip number c first last index mask) h names = absurd (true≢false (sym names))
-  three_twin pair w (Force number c first last index mask value) h names = absurd (true≢false (sym names))
-  three_twin pair w (Lag number c first last) h names = absurd (true≢false (sym names))
-  three_twin pair w (Deaf number c first last) h names = absurd (true≢false (sym names))
+  three_twin pair w _ h names = absurd (true≢false (sym names))
 
   -- the copy that it hurts
   copy_of_three : (number c : ℕ) (m d : ℕ) (within : Bool) → ((c == copy number || false) || false) ≡ true → ((number == m && c == d) && within) ≡ true → d ≡ copy m
@@ -155,9 +143,7 @@ module _ (copy : ℕ → ℕ) (banks count twin : ℕ) where
   three_copy step m d (Force number c first last index mask value) h hit = copy_of_three number c m d (is_within first last step) h hit
   three_copy step m d (Lag number c first last) h hit = copy_of_three number c m d (is_within first last step) h hit
   three_copy step m d (Deaf number c first last) h hit = copy_of_three number c m d (is_within first last step) h hit
-  three_copy step m d (Damage w at t mask) h hit = absurd (true≢false (sym hit))
-  three_copy step m d (Stick w at first last mask value) h hit = absurd (true≢false (sym hit))
-  three_copy step m d (Dead w pair first last) h hit = absurd (true≢false (sym hit))
+  three_copy step m d _ h hit = absurd (true≢false (sym hit))
 
   -- ---- all lines
 
@@ -230,20 +216,12 @@ no_places p none (e ∷ es) h =
 pub copy_placeless : (copy : ℕ → ℕ) (e : Event) → is_in_copy copy e ≡ true → place_of e ≡ None
 copy_placeless copy (Damage w at t mask) h = absurd (true≢false (sym h))
 copy_placeless copy (Stick w at first last mask value) h = absurd (true≢false (sym h))
-copy_placeless copy (Dead w pair first last) h = refl
-copy_placeless copy (Flip number c first last index mask) h = refl
-copy_placeless copy (Force number c first last index mask value) h = refl
-copy_placeless copy (Lag number c first last) h = refl
-copy_placeless copy (Deaf number c first last) h = refl
+copy_placeless copy _ h = refl
 
 pub death_placeless : (banks count twin : ℕ) (e : Event) → is_death banks count twin e ≡ true → place_of e ≡ None
 death_placeless banks count twin (Damage w at t mask) h = absurd (true≢false (sym h))
 death_placeless banks count twin (Stick w at first last mask value) h = absurd (true≢false (sym h))
-death_placeless banks count twin (Dead w pair first last) h = refl
-death_placeless banks count twin (Flip number c first last index mask) h = refl
-death_placeless banks count twin (Force number c first last index mask value) h = refl
-death_placeless banks count twin (Lag number c first last) h = refl
-death_placeless banks count twin (Deaf number c first last) h = refl
+death_placeless banks count twin _ h = refl
 
 -- ---- the corollaries
 

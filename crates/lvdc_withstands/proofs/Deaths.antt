@@ -7,7 +7,7 @@ use Rattle.lvdc_map.specs.Banks.{is_simplex}
 use Rattle.lvdc_fault.specs.Script.{is_within, first_of}
 use Rattle.lvdc_fault.specs.Damage.{kills, is_dead}
 use Rattle.lvdc_fault.specs.declared.event.Event.{Event}
-use Rattle.lvdc_fault.specs.declared.event.Event.TheVariants.{Flip, Force, Lag, Deaf, Damage, Stick, Dead}
+use Rattle.lvdc_fault.specs.declared.event.Event.TheVariants.{Damage, Stick, Dead}
 use Rattle.lvdc_withstands.specs.Form.{lines_in, is_duplex_pair, is_duplex, names_twin, kills_in, is_one_sound}
 use Rattle.lvdc_withstands.proofs.Lined.{none-pass}
 
@@ -40,32 +40,17 @@ kills-begins count step twin pair below (Dead w p first last) h =
     let within = (and_parts (w == twin && p == pair) (is_within first last step) h).1 in
     let begun : first ≤ step = leb-true first step (and_parts (nat_le first step) (nat_le step last) within).0 in
     lt-ltb first (3 * count) (omega arith)
-kills-begins count step twin pair below (Flip number copy first last index mask) h = absurd (true≢false (sym h))
-kills-begins count step twin pair below (Force number copy first last index mask value) h = absurd (true≢false (sym h))
-kills-begins count step twin pair below (Lag number copy first last) h = absurd (true≢false (sym h))
-kills-begins count step twin pair below (Deaf number copy first last) h = absurd (true≢false (sym h))
-kills-begins count step twin pair below (Damage w at t mask) h = absurd (true≢false (sym h))
-kills-begins count step twin pair below (Stick w at first last mask value) h = absurd (true≢false (sym h))
+kills-begins count step twin pair below _ h = absurd (true≢false (sym h))
 
 kills_here : (step twin pair : ℕ) (e : Event) → kills step twin pair e ≡ true → kills_in pair e ≡ true
 kills_here step twin pair (Dead w p first last) h = (and_parts (w == twin) (p == pair) (and_parts (w == twin && p == pair) (is_within first last step) h).0).1
-kills_here step twin pair (Flip number copy first last index mask) h = h
-kills_here step twin pair (Force number copy first last index mask value) h = h
-kills_here step twin pair (Lag number copy first last) h = h
-kills_here step twin pair (Deaf number copy first last) h = h
-kills_here step twin pair (Damage w at t mask) h = h
-kills_here step twin pair (Stick w at first last mask value) h = h
+kills_here step twin pair _ h = h
 
 kills_names : (step twin pair : ℕ) (e : Event) → kills step twin pair e ≡ true → names_twin pair twin e ≡ true
 kills_names step twin pair (Dead w p first last) h =
     let both = and_parts (w == twin) (p == pair) (and_parts (w == twin && p == pair) (is_within first last step) h).0 in
     and_from (p == pair) (w == twin) both.1 both.0
-kills_names step twin pair (Flip number copy first last index mask) h = h
-kills_names step twin pair (Force number copy first last index mask value) h = h
-kills_names step twin pair (Lag number copy first last) h = h
-kills_names step twin pair (Deaf number copy first last) h = h
-kills_names step twin pair (Damage w at t mask) h = absurd (true≢false (sym h))
-kills_names step twin pair (Stick w at first last mask value) h = absurd (true≢false (sym h))
+kills_names step twin pair _ h = absurd (true≢false (sym h))
 
 -- a twin that is dead at a step of the run dies by a line of the run, and is named by it
 pub dead-dies : (count step twin pair : ℕ) (script : List Event) → step < 3 * count → is_dead script step twin pair ≡ true → list_any (kills_in pair) (lines_in count script) ≡ true
@@ -93,10 +78,7 @@ duplex_named banks pair twin small simplex e duplex = false_from_ne_true (names_
     clash (Damage w at t mask) d h = other at.pair d (and_parts (at.pair == pair) (w == twin) h).0
     clash (Stick w at first last mask value) d h = other at.pair d (and_parts (at.pair == pair) (w == twin) h).0
     clash (Dead w p first last) d h = other p d (and_parts (p == pair) (w == twin) h).0
-    clash (Flip number copy first last index mask) d h = true≢false (sym h)
-    clash (Force number copy first last index mask value) d h = true≢false (sym h)
-    clash (Lag number copy first last) d h = true≢false (sym h)
-    clash (Deaf number copy first last) d h = true≢false (sym h)
+    clash _ d h = true≢false (sym h)
 
 pub simplex-unnamed : (banks pair twin : ℕ) (lines : List Event) → pair < 4 → is_simplex banks pair ≡ true → list_all (is_duplex banks) lines ≡ true → list_any (names_twin pair twin) lines ≡ false
 simplex-unnamed banks pair twin lines small simplex all = none-pass (names_twin pair twin) (is_duplex banks) (duplex_named banks pair twin small simplex) lines all

@@ -6,7 +6,7 @@ use Rattle.std.proofs.lemmas.Bool.{true≢false, leb-true, le-leb, or_cases, or_
 use Rattle.lvdc_fault.specs.Script.{is_within, first_of}
 use Rattle.lvdc_fault.specs.Damage.{kills, is_dead}
 use Rattle.lvdc_fault.specs.declared.event.Event.{Event}
-use Rattle.lvdc_fault.specs.declared.event.Event.TheVariants.{Flip, Force, Lag, Deaf, Damage, Stick, Dead}
+use Rattle.lvdc_fault.specs.declared.event.Event.TheVariants.{Dead}
 use Rattle.lvdc_withstands.specs.Form.{lines_in, is_lasting}
 use Rattle.lvdc_withstands.specs.Repairs.{stays_dead}
 use Rattle.lvdc_withstands.proofs.Deaths.{kills-begins}
@@ -40,12 +40,7 @@ kills_stays count twin pair earlier later le below (Dead w p first last) h lasts
     let long : 3 * count ≤ last + 1 = leb-true (3 * count) (last + 1) lasts in
     and_from (w == twin && p == pair) (is_within first last later) parts.0
     (and_from (nat_le first later) (nat_le later last) (le-leb first later (omega arith)) (le-leb later last (omega arith)))
-kills_stays count twin pair earlier later le below (Flip number copy first last index mask) h lasts = h
-kills_stays count twin pair earlier later le below (Force number copy first last index mask value) h lasts = h
-kills_stays count twin pair earlier later le below (Lag number copy first last) h lasts = h
-kills_stays count twin pair earlier later le below (Deaf number copy first last) h lasts = h
-kills_stays count twin pair earlier later le below (Damage w at t mask) h lasts = h
-kills_stays count twin pair earlier later le below (Stick w at first last mask value) h lasts = h
+kills_stays count twin pair earlier later le below _ h lasts = h
 
 -- a dead twin stays dead
 dead-stays : (count twin pair earlier later : ℕ) (script : List Event) → list_all (is_lasting count) (lines_in count script) ≡ true → earlier ≤ later → later < 3 * count

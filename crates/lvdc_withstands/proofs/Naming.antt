@@ -1,7 +1,7 @@
 -- The places that lines name, one line after another.
-use Rattle.std.proofs.Common.{◌≡◌, ℕ, suc, ◌+◌, ◌<◌, Bool, true, false, List, [], ◌∷◌, ◌++◌, length, take, drop, get_or, Option, None, Some, refl, sym, ap, ◌∙◌, subst, drop-cons}
+use Rattle.std.proofs.Common.{◌≡◌, ℕ, suc, ◌+◌, ◌<◌, Bool, true, false, List, [], ◌∷◌, ◌++◌, length, take, drop, get_or, Option, None, Some, is_some, ◌||◌, refl, sym, ap, ◌∙◌, subst, drop-cons}
 use Rattle.std.specs.Prelude.{filter_map}
-use Rattle.std.specs.List.{cons_option}
+use Rattle.std.specs.List.{cons_option, list_any}
 use Rattle.std.specs.Option.{option_to_list}
 use Rattle.std.proofs.lemmas.List.{take-append-drop}
 use Rattle.std.proofs.lemmas.List.Elements.{filter_map-append}
@@ -38,3 +38,13 @@ module _ (lines : List Event) (i : ℕ) (e : Event) (old new : List Bool) (withi
       ∙ ap none_twice (filter_map-append place_of (take i lines) (e ∷ rest))
       ∙ ap (λ (xs : List Spot). none_twice (filter_map place_of (take i lines) ++ xs)) (cons-list (place_of e) (filter_map place_of rest))
       ∙ marked-twice (filter_map place_of (take i lines)) (filter_map place_of rest) (place_of e) old new m marks)
+
+-- where no line names a place, none is named
+pub none-named : (lines : List Event) → list_any (λ line. is_some (place_of line)) lines ≡ false → filter_map place_of lines ≡ []
+none-named [] h = refl
+none-named (e ∷ es) h = by_place (place_of e) (none-named es) h
+  where
+    by_place : (o : Option Spot) → (list_any (λ line. is_some (place_of line)) es ≡ false → filter_map place_of es ≡ [])
+        → (is_some o || list_any (λ line. is_some (place_of line)) es) ≡ false → cons_option o (filter_map place_of es) ≡ []
+    by_place None rest h = rest h
+    by_place (Some at) rest h = absurd (cc)

@@ -16,7 +16,9 @@ use Rattle.lvdc_twin.specs.declared.both_bad.BothBad.{BothBad}
 use Rattle.lvdc_twin.specs.declared.read_out.ReadOut.{ReadOut}
 use Rattle.lvdc_modules.specs.declared.wanted.Wanted.{Wanted}
 use Rattle.lvdc_modules.specs.declared.wanted.Wanted.TheVariants as wanted
-use Rattle.lvdc_plain.specs.Accesses.{fetched_by, operand_by}
+use Rattle.lvdc_map.specs.Hop.{fetch_of}
+use Rattle.lvdc_plain.specs.Table.{fetched_instr}
+use Rattle.lvdc_plain.specs.Accesses.{accessed, operand_of}
 use Rattle.lvdc_plain.specs.Plain.{PlainState, World}
 use Rattle.lvdc_plain.specs.Run.{run, IsOpening}
 use Rattle.lvdc_plain.specs.declared.records.Stop.{Stop}
@@ -68,8 +70,8 @@ noted o n at (Some (suc (suc twin))) switched two e f = absurd (omega arith)
 
 -- a machine that has stopped reads nothing
 stopped-reads : (r : ℕ) (p : PlainState) (why : Stop) → p.stop ≡ Some why → read_in_phase r p ≡ None
-stopped-reads zero p why e = ap (λ (s : Option Stop). fetched_by s p.hold p) e
-stopped-reads (suc zero) p why e = ap (λ (s : Option Stop). operand_by s p.hold p) e
+stopped-reads zero p why e = ap (λ (s : Option Stop). accessed s p.hold (Some (fetch_of p.banks p.place))) e
+stopped-reads (suc zero) p why e = ap (λ (s : Option Stop). accessed s p.hold (operand_of p (fetched_instr p))) e
 stopped-reads (suc (suc r)) p why e = refl
 
 -- what a read of one and of two cells answers

@@ -5,7 +5,7 @@ use Rattle.std.specs.declared.option.Option.{Option}
 use Rattle.std.specs.declared.option.Option.TheVariants.{None, Some}
 use Rattle.lvdc_map.specs.Address.{Spot}
 use Rattle.lvdc_map.specs.Banks.{HasBank}
-use Rattle.lvdc_map.specs.Hop.{HopConstant, IsHopConstant}
+use Rattle.lvdc_map.specs.Hop.{HopConstant, IsHopConstant, fetch_of}
 use Rattle.lvdc_map.specs.Memory as memory
 use Rattle.lvdc_map.specs.Place.{operand_kind, data_spot, place_at}
 use Rattle.lvdc_map.specs.declared.operand.OperandKind.{OperandKind}
@@ -16,7 +16,7 @@ use Rattle.lvdc_port.specs.Devices.{without, HoldWords}
 use Rattle.lvdc_port.specs.declared.requests.PortRequest.TheVariants.{Read}
 use Rattle.lvdc_modules.specs.declared.wanted.Wanted.{Wanted}
 use Rattle.lvdc_modules.specs.declared.wanted.Wanted.TheVariants as wanted
-use Rattle.lvdc_plain.specs.Accesses.{Store, store, store_by, fetched_by, operand_by, address_of_place}
+use Rattle.lvdc_plain.specs.Accesses.{Store, store, address_of_place, accessed, operand_of, store_of}
 use Rattle.lvdc_plain.specs.Plain.{PlainState, World}
 use Rattle.lvdc_plain.specs.Run.{Opening, plugged, time_by, run}
 use Rattle.lvdc_plain.specs.Table.{fetched_instr, operand_place, device_time, step}
@@ -78,12 +78,12 @@ place-bank law banks h address ok kinds.Memory = law banks h.dmod (data_spot ban
 place-bank law banks h address ok kinds.Pq = tt
 place-bank law banks h address ok kinds.Saver = law banks h.dmod (data_spot banks h address) ok.dmod refl
 
-fetch-bank : BankLaw → (stop : Option Stop) (hold : ℕ) (p : PlainState) → IsHopConstant p.place → HasBanks p.banks (fetched_by stop hold p)
+fetch-bank : BankLaw → (stop : Option Stop) (hold : ℕ) (p : PlainState) → IsHopConstant p.place → HasBanks p.banks (accessed stop hold (Some (fetch_of p.banks p.place)))
 fetch-bank law None zero p ok = law p.banks p.place.imod _ ok.imod refl
 fetch-bank law None (suc hold) p ok = tt
 fetch-bank law (Some s) hold p ok = tt
 
-operand-bank : BankLaw → (stop : Option Stop) (hold : ℕ) (p : PlainState) → IsHopConstant p.place → HasBanks p.banks (operand_by stop hold p)
+operand-bank : BankLaw → (stop : Option Stop) (hold : ℕ) (p : PlainState) → IsHopConstant p.place → HasBanks p.banks (accessed stop hold (operand_of p (fetched_instr p)))
 operand-bank law None zero p ok = by_takes (takes_operand (fetched_instr p).op)
   where
     address : ℕ
@@ -120,7 +120,7 @@ wish-memory (wanted.PortRead port) m = refl
 wish-memory (wanted.PortWrite port word) m = refl
 
 time-memory : PortLaw → (stop : Option Stop) (o : Opening) (w : World) → w.plain.stop ≡ stop
-    → (time_by stop o.unplugs w).plain.memory ≡ stored_by (store_by stop w.plain.hold w.plain) w.plain.memory
+    → (time_by stop o.unplugs w).plain.memory ≡ stored_by (accessed stop w.plain.hold (store_of w.plain (fetched_instr w.plain).op (fetched_instr w.plain).address)) w.plain.memory
 time-memory law (Some s) o w e = refl
 time-memory law None o w e =
     let p = w.plain in

@@ -9,7 +9,7 @@ use Rattle.std.specs.List.Sorted.{IsNonDecreasingBy}
 use Rattle.std.proofs.lemmas.List.{take_more, get_or-take, length-take}
 use Rattle.lvdc_fault.specs.Script.{is_within, first_of, makes_wrong, is_wrong}
 use Rattle.lvdc_fault.specs.declared.event.Event.{Event}
-use Rattle.lvdc_fault.specs.declared.event.Event.TheVariants.{Flip, Force, Lag, Deaf, Damage, Stick, Dead}
+use Rattle.lvdc_fault.specs.declared.event.Event.TheVariants.{Flip, Force, Lag, Deaf}
 use Rattle.lvdc_withstands.specs.Copies.{NeverMeet, Meet, NeverTwoOf, HasTwoOf, IsWrongUntil, GoesOn, Meets}
 
 -- ---- lists
@@ -40,9 +40,7 @@ makes_wrong-begun step number copy (Flip m c first last index mask) h = begun_wi
 makes_wrong-begun step number copy (Force m c first last index mask value) h = begun_within (m == number && c == copy) first last step h
 makes_wrong-begun step number copy (Lag m c first last) h = begun_within (m == number && c == copy) first last step h
 makes_wrong-begun step number copy (Deaf m c first last) h = begun_within (m == number && c == copy) first last step h
-makes_wrong-begun step number copy (Damage w at t mask) h = absurd (true≢false (sym h))
-makes_wrong-begun step number copy (Stick w at first last mask value) h = absurd (true≢false (sym h))
-makes_wrong-begun step number copy (Dead w pair first last) h = absurd (true≢false (sym h))
+makes_wrong-begun step number copy _ h = absurd (true≢false (sym h))
 
 wrong-more : (before : List Event) (e : Event) (step number copy : ℕ) → is_wrong (before ++ e ∷ []) step number copy ≡ (is_wrong before step number copy || (makes_wrong step number copy e || false))
 wrong-more before e step number copy = list_any-append (makes_wrong step number copy) before (e ∷ [])

@@ -24,7 +24,7 @@ one_wrong_before script (suc step) = one_wrong_before script step && is_none (wr
 
 -- ---- one line on memory
 
--- a pair is no simplex one; from 4 on there is none
+-- a pair that isn't declared simplex; a number from 4 on, which no pair has, counts as duplex
 abbrev pub is_duplex_pair : ℕ → ℕ → Bool
 is_duplex_pair banks pair = nat_le 4 pair || not (is_simplex banks pair)
 
@@ -79,7 +79,7 @@ abbrev pub kills_in : ℕ → Event → Bool
 kills_in pair (Dead w p first last) = p == pair
 kills_in pair _ = false
 
--- where a twin of a pair dies, the other twin is sound
+-- where a twin of a pair dies, no line names the other twin
 abbrev pub is_one_sound : List Event → ℕ → Bool
 is_one_sound lines pair = not (list_any (kills_in pair) lines && list_any (names_twin pair 0) lines && list_any (names_twin pair 1) lines)
 

@@ -14,13 +14,15 @@ abbrev pub damages_it : Spot → Event → Bool
 damages_it at (Damage w place t mask) = is_same at place
 damages_it at _ = false
 
--- are two steps at least so many apart?
+-- are two steps at least so many apart? The place counts for the law of repair alone
 abbrev pub are_steps_apart : ℕ → Spot → ℕ → ℕ → Bool
 are_steps_apart every at one other = nat_le (one + every) other || nat_le (other + every) one
 
--- the word of each place that is damaged is read or stored in some step of each so many in a row; any two damages of a place, in
--- whichever twins, are at least so many steps apart; and a place where bits stick is named by no other line, and the faults are limited
+-- what it is that a program reads or stores each word often enough for a script
 pub record Scrubs (o : Trial) (count every : ℕ) : Type 0 where
+  -- the word of each place that is damaged is read or stored in some step of each so many in a row
   pub visits : (at : Spot) → list_any (damages_it at) (lines_in count o.script) ≡ true → (first : ℕ) → first + every ≤ 3 * count → touches_from o at first (first + every) ≡ true
+  -- any two damages of a place, in whichever twins, are at least so many steps apart
   pub spaced : each_two (are_apart (are_steps_apart every)) (lines_in count o.script) ≡ true
+  -- a place where bits stick is named by no other line, and the faults are limited
   pub limited : is_limited o.script o.opening.banks count ≡ true

@@ -35,15 +35,7 @@ fn begins_in(count: u64, line: &Event) -> bool
 pub(crate) fn first_step(line: &Event) -> u64
     ensures { result ≡ first_of line.now }
 {
-    match *line {
-        Event::Flip { first, .. }
-        | Event::Force { first, .. }
-        | Event::Lag { first, .. }
-        | Event::Deaf { first, .. }
-        | Event::Stick { first, .. }
-        | Event::Dead { first, .. } => first,
-        Event::Damage { step, .. } => step,
-    }
+    line.span().first
 }
 
 /// Does each line on memory name a duplex pair?
@@ -74,7 +66,7 @@ fn is_duplex(banks: Banks, line: &Event) -> bool
     match *line {
         Event::Damage { at, .. } | Event::Stick { at, .. } => is_duplex_pair(banks, at.pair),
         Event::Dead { pair, .. } => is_duplex_pair(banks, pair),
-        Event::Flip { .. } | Event::Force { .. } | Event::Lag { .. } | Event::Deaf { .. } => true,
+        _ => true,
     }
 }
 
@@ -92,11 +84,7 @@ fn is_seen(line: &Event) -> bool
     match *line {
         Event::Damage { mask, .. } => is_odd(upper_half(mask)) || is_odd(lower_half(mask)),
         Event::Stick { mask, .. } => is_single(upper_half(mask)) && is_single(lower_half(mask)),
-        Event::Flip { .. }
-        | Event::Force { .. }
-        | Event::Lag { .. }
-        | Event::Deaf { .. }
-        | Event::Dead { .. } => true,
+        _ => true,
     }
 }
 
@@ -106,12 +94,7 @@ fn is_lasting(count: u64, line: &Event) -> bool
 {
     match *line {
         Event::Dead { last, .. } => 3 * u128::from(count) <= u128::from(last) + 1,
-        Event::Flip { .. }
-        | Event::Force { .. }
-        | Event::Lag { .. }
-        | Event::Deaf { .. }
-        | Event::Damage { .. }
-        | Event::Stick { .. } => true,
+        _ => true,
     }
 }
 

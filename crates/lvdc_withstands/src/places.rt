@@ -1,6 +1,7 @@
 //! Which places the lines damage or make stick.
 
-ghost use Rattle.std.specs.Prelude.{◌≡◌, ℕ, false, length, slice_index_or, IfOk, filter_map};
+ghost use Rattle.std.specs.Prelude.{◌≡◌, ℕ, false, is_some, length, slice_index_or, IfOk, filter_map};
+ghost use Rattle.std.specs.List.{list_any};
 ghost use Rattle.lvdc_map.specs.Address.{IsAddress};
 ghost use Rattle.lvdc_withstands.specs.Form.{place_of, none_twice};
 ghost use Rattle.lvdc_withstands.specs.Places.{Marks};
@@ -10,10 +11,20 @@ use lvdc_map::{Address, Sectors};
 use lvdc_word::NoMemory;
 use std::alloc::Global;
 
-/// Is no place damaged or made stick by two lines, in whichever twins?
+/// Does a line damage a cell or make bits stick?
+fn names_a_place(lines: &[Event]) -> bool
+    ensures { result ≡ list_any (λ line. is_some (place_of line)) lines.now }
+{
+    lines.iter().any(|line| place_of(line).is_some())
+}
+
+/// Is no place damaged or made stick by two lines, in whichever twins? Where none is, it takes no room.
 pub(crate) fn has_none_twice(alloc: Global, lines: &[Event]) -> Result<bool, NoMemory>
     ensures { IfOk result (λ answer. answer ≡ none_twice (filter_map place_of lines.now)) }
 {
+    if !names_a_place(lines) {
+        return Ok(true);
+    }
     let mut named = no_marks(alloc)?;
     for line in lines {
         if !is_first_to_name(line, &mut named) {

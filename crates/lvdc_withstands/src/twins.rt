@@ -43,12 +43,7 @@ fn kills_in(pair: u8, line: &Event) -> bool
 {
     match *line {
         Event::Dead { pair: number, .. } => number == pair,
-        Event::Flip { .. }
-        | Event::Force { .. }
-        | Event::Lag { .. }
-        | Event::Deaf { .. }
-        | Event::Damage { .. }
-        | Event::Stick { .. } => false,
+        _ => false,
     }
 }
 
@@ -65,6 +60,6 @@ fn names_twin(pair: u8, number: u8, line: &Event) -> bool
             pair: named,
             ..
         } => named == pair && twin == number,
-        Event::Flip { .. } | Event::Force { .. } | Event::Lag { .. } | Event::Deaf { .. } => false,
+        _ => false,
     }
 }

@@ -4,7 +4,7 @@ use Rattle.lvdc_uplink.specs.Answers as patch
 use Rattle.lvdc_command_asm.specs.Expanded as expand
 use Rattle.lvdc_uplink.specs.Input.{request_of}
 use Rattle.lvdc_cli.specs.Commands.{command_answer}
-use Rattle.lvdc_cli.proofs.Commands.{replied, study_replied, whatever, source_settled, patch_settled, expand_settled}
+use Rattle.lvdc_cli.proofs.Commands.{replied, campaign_replied, whatever, source_settled, patch_settled, expand_settled}
 use Rattle.lvdc_reply.proofs.Statuses.{if_ok_both}
 use Rattle.lvdc_cli.proofs.join.join.Goals as goal
 
@@ -22,8 +22,8 @@ returns-in-Assemble-clause-reply g c =
 
 pub returns-in-Campaign-clause-reply : goal.returns-in-Campaign-clause-reply
 returns-in-Campaign-clause-reply g c =
-    study_replied _ _ c.args.command c.args.bytes.now c.args.devices.now.items c.study_bytes.result c.in-Campaign.is
-    c.study_bytes.ensures.status c.study_bytes.ensures.text
+    campaign_replied _ _ c.args.command c.args.bytes.now c.args.devices.now.items c.campaign_bytes.result c.in-Campaign.is
+    c.campaign_bytes.ensures.status c.campaign_bytes.ensures.text
 
 pub returns-in-Uplink-clause-reply : goal.returns-in-Uplink-clause-reply
 returns-in-Uplink-clause-reply g c =

@@ -2,7 +2,7 @@ use Rattle.std.proofs.Common.{◌≤◌, List, length, All, sym, subst, ◌∙�
 use Rattle.lvdc_campaign.specs.Campaign.{program_of}
 use Rattle.lvdc_campaign.specs.declared.row.Row.{Row}
 use Rattle.lvdc_campaign_deck.specs.Scripts.{CanRun}
-use Rattle.lvdc_campaign_deck.specs.declared.TheConstants.{MOST_EVENTS}
+use Rattle.lvdc_fault.specs.declared.TheConstants.{MOST_EVENTS}
 use Rattle.lvdc_command_campaign.proofs.Runnable.{rows-short}
 use Rattle.lvdc_command_campaign.proofs.reply.run.Goals as goal
 

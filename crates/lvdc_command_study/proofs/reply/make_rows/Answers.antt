@@ -1,6 +1,6 @@
 use Rattle.std.proofs.Common.{◌≡◌, All, sym, subst}
 use Rattle.std.proofs.lemmas.Result.{IfOk-weaker, IfErr-weaker}
-use Rattle.lvdc_campaign.specs.Campaign.{IsScript}
+use Rattle.lvdc_runs.specs.Scripts.{IsScript}
 use Rattle.lvdc_command_run.specs.Trials.{trial_of}
 use Rattle.lvdc_study.specs.Failures.{FailsInRuns}
 use Rattle.lvdc_study.specs.Study.{opening_over, rows_of}

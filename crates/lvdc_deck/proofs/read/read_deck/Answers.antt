@@ -27,3 +27,24 @@ loop-at-preserved g c = deck-by (map (λ b. (goal.PortDevice-dyn g (b.vtable, b.
 pub returns-clause-refusal : goal.returns-clause-refusal
 returns-clause-refusal g c =
     λ known. deck-none (map (λ b. (goal.PortDevice-dyn g (b.vtable, b.value)).device_of b.value) c.args.devices.now.items) c.args.debugging c.args.bytes.now _ c.as_slice-all.result.now c.loop-at.at no_line _ c.loop-at.invariant c.loop-at-test.false
+
+pub returns-in-Program-clause-count : goal.returns-in-Program-clause-count
+returns-in-Program-clause-count g c = c.read_program.ensures.count
+
+pub returns-in-Program-clause-rising : goal.returns-in-Program-clause-rising
+returns-in-Program-clause-rising g c = c.read_program.ensures.rising
+
+pub returns-in-Program-clause-there : goal.returns-in-Program-clause-there
+returns-in-Program-clause-there g c = c.read_program.ensures.there
+
+pub returns-in-Program-clause-few : goal.returns-in-Program-clause-few
+returns-in-Program-clause-few g c = c.read_program.ensures.few
+
+pub returns-in-Program-clause-events : goal.returns-in-Program-clause-events
+returns-in-Program-clause-events g c = c.read_program.ensures.events
+
+pub returns-in-Program-clause-within : goal.returns-in-Program-clause-within
+returns-in-Program-clause-within g c = c.read_program.ensures.within
+
+pub returns-in-Program-clause-short : goal.returns-in-Program-clause-short
+returns-in-Program-clause-short g c = c.read_program.ensures.short

@@ -3,7 +3,7 @@ use Rattle.std.proofs.lemmas.List.{get_or-set_other}
 use Rattle.std.proofs.lemmas.Option.{get_or_from_slice_get, slice_get-get_or}
 use Rattle.lvdc_forces.specs.Parts.{no_part, part_of_script, events_of_part, IsRightUntil}
 use Rattle.lvdc_forces.specs.declared.part.Part.{Part}
-use Rattle.lvdc_forces.proofs.PartLaws.{set_next}
+use Rattle.lvdc_fault.proofs.Lists.{set_next}
 use Rattle.lvdc_forces.proofs.forces.renew_all.Goals as goal
 
 pub loop-number-preserved : goal.loop-number-preserved

@@ -7,7 +7,7 @@ use Rattle.lvdc_fault.specs.declared.event.Event.{Event}
 use Rattle.lvdc_memory.specs.News.{new_events}
 use Rattle.lvdc_memory.specs.Parts.{no_part, part_at, events_of, IsRight, IsWithin}
 use Rattle.lvdc_memory.specs.declared.parts.Part.{Part}
-use Rattle.lvdc_memory.proofs.PartLaws.{set_next}
+use Rattle.lvdc_fault.proofs.Lists.{set_next}
 use Rattle.lvdc_memory.proofs.parts.renew_all.Goals as goal
 
 pub loop-number-preserved : goal.loop-number-preserved

@@ -3,7 +3,7 @@ use Rattle.std.proofs.Common.{◌≡◌, ℕ, ◌+◌, ◌*◌, ◌<◌, true, f
 use Rattle.lvdc_map.specs.Address.{Spot, spot_at}
 use Rattle.lvdc_model.specs.Runs.{through}
 use Rattle.lvdc_model.specs.Trial.{plain_at}
-use Rattle.lvdc_campaign.specs.Same.{is_same_word}
+use Rattle.lvdc_runs.specs.Same.{is_same_word}
 use Rattle.lvdc_study.proofs.Least.{least-more, least-same, least-found}
 use Rattle.lvdc_study.proofs.compare.difference_in_sector.Goals as goal
 

@@ -2,7 +2,7 @@ use Rattle.std.proofs.Common.{◌≡◌, ℕ, ◌*◌, None}
 use Rattle.lvdc_model.specs.Runs.{through}
 use Rattle.lvdc_model.specs.Trial.{Trial, plain_at}
 use Rattle.lvdc_machine.specs.declared.mode.Mode.TheVariants.{Through}
-use Rattle.lvdc_campaign.specs.Ran.{HasRun, HasRunPlainly}
+use Rattle.lvdc_runs.specs.Ran.{HasRun, HasRunPlainly}
 use Rattle.lvdc_study.specs.Outcomes.{least_below}
 use Rattle.lvdc_study.proofs.compare.difference_in_sector.Given as goal
 

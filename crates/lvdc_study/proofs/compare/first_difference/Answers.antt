@@ -1,5 +1,5 @@
 use Rattle.std.proofs.Common.{true, false, None, Some, refl, sym, ◌∙◌}
-use Rattle.lvdc_campaign.specs.Same.{are_same_registers, is_same_end}
+use Rattle.lvdc_runs.specs.Same.{are_same_registers, is_same_end}
 use Rattle.lvdc_study.specs.Outcomes.{time_of_difference}
 use Rattle.lvdc_study.proofs.Parts.{told}
 use Rattle.lvdc_study.proofs.compare.first_difference.Goals as goal

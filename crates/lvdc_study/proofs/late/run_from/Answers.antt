@@ -3,7 +3,7 @@ use Rattle.lvdc_port.specs.Supplies.{ports_of}
 use Rattle.lvdc_laws_runs.specs.Early.{AllBeginFrom}
 use Rattle.lvdc_machine.specs.declared.mode.Pace.TheVariants.{ByStep}
 use Rattle.lvdc_machine.proofs.Refused.{since-same}
-use Rattle.lvdc_campaign.proofs.Stationed.{has_run-late}
+use Rattle.lvdc_runs.proofs.Stationed.{has_run-late}
 use Rattle.lvdc_study.specs.Study.{opening_over}
 use Rattle.lvdc_study.specs.declared.fault.Unstudied.TheVariants.{Device as DeviceFailed}
 use Rattle.lvdc_study.proofs.Making.{late-exchange, has-failed, since-run, since-on, failed-since}

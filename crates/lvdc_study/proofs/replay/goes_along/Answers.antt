@@ -1,7 +1,7 @@
 use Rattle.std.proofs.Common.{◌≡◌, ℕ, ◌∙◌, List, drop, length, sym, ap, subst}
 use Rattle.lvdc_plain.specs.Run.{run}
 use Rattle.lvdc_plain.specs.declared.records.Exchange.{Exchange}
-use Rattle.lvdc_campaign.proofs.Stationed.{none-told}
+use Rattle.lvdc_runs.proofs.Stationed.{none-told}
 use Rattle.lvdc_study.specs.Waypoints.{IsPrefix}
 use Rattle.lvdc_study.proofs.Replayed.{has-replayed, all-steps}
 use Rattle.lvdc_study.proofs.replay.goes_along.Goals as goal

@@ -3,7 +3,7 @@ use Rattle.std.proofs.lemmas.List.Elements.{All-nil}
 use Rattle.lvdc_port.specs.Device.{Device}
 use Rattle.lvdc_laws_runs.specs.Early.{BeginsFrom}
 use Rattle.lvdc_snapshot.specs.Snapshot.{meant}
-use Rattle.lvdc_campaign.specs.Campaign.{trial_under}
+use Rattle.lvdc_runs.specs.Scripts.{trial_under}
 use Rattle.lvdc_study.proofs.Replayed.{next-waypoint}
 use Rattle.lvdc_study.proofs.Waypointed.{means-over}
 use Rattle.lvdc_study.proofs.replay.next_waypoint.Goals as goal

@@ -1,7 +1,7 @@
 use Rattle.std.proofs.Common.{rules, ◌≡◌, All, Contains, List, sym, subst}
 use Rattle.std.proofs.lemmas.List.Elements.{All-head, All-tail, All-contains_itself}
 use Rattle.lvdc_fault.specs.declared.named.Named.{Named}
-use Rattle.lvdc_campaign.specs.Campaign.{IsScript}
+use Rattle.lvdc_runs.specs.Scripts.{IsScript}
 use Rattle.lvdc_study.specs.Study.{opening_over, row_of}
 use Rattle.lvdc_study.specs.Waypoints.{IsWaypoint}
 use Rattle.lvdc_study.specs.declared.waypoint.Waypoint.{Waypoint}

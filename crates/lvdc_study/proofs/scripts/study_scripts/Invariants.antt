@@ -1,5 +1,5 @@
 use Rattle.std.proofs.Common.{◌≡◌, ◌++◌, All, Contains}
-use Rattle.lvdc_campaign.specs.Campaign.{IsScript}
+use Rattle.lvdc_runs.specs.Scripts.{IsScript}
 use Rattle.lvdc_study.specs.Study.{opening_over, rows_of}
 use Rattle.lvdc_study.proofs.scripts.study_scripts.Given as goal
 

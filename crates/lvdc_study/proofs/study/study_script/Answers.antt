@@ -1,12 +1,18 @@
 use Rattle.std.proofs.Common.{◌≢◌, sym, ap, ◌∙◌}
 use Rattle.std.proofs.lemmas.Bool.{true≢false}
 use Rattle.lvdc_fault.specs.declared.verdict.Verdict.TheVariants.{Admissible}
-use Rattle.lvdc_campaign.specs.Ran.{verdict_in}
-use Rattle.lvdc_campaign.proofs.Onward.{may-go-on, refused-all}
+use Rattle.lvdc_runs.specs.Ran.{verdict_in}
+use Rattle.lvdc_runs.proofs.Onward.{may-go-on, refused-all}
 use Rattle.lvdc_study.specs.declared.row.Row.{Row}
-use Rattle.lvdc_study.proofs.Rowing.{admissible-row, through-row, form-admits}
+use Rattle.lvdc_study.proofs.Rowing.{admissible-row, idle-row, through-row, form-admits}
 use Rattle.lvdc_study.proofs.Making.{failed-since}
 use Rattle.lvdc_study.proofs.study.study_script.Goals as goal
+
+pub returns-then-times-eq0-clause-row : goal.returns-then-times-eq0-clause-row
+returns-then-times-eq0-clause-row g c =
+    c.idle_row.ensures
+    ∙ idle-row c.args.program.now _ c.args.named c.in_ok-masks.masks c.window_of-times.result c.if-times-eq0.true c.window_of-times.ensures
+    c.in_ok-opens_with_words.ensures c.in_ok-masks.ensures c.admissible_comes_to_the_same.ensures c.window_tells_all.ensures
 
 pub returns-then-is_admissible-clause-row : goal.returns-then-is_admissible-clause-row
 returns-then-is_admissible-clause-row g c =

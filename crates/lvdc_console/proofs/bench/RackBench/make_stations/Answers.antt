@@ -1,6 +1,6 @@
 use Rattle.std.proofs.Common.{All, List, IfOk, subst}
 use Rattle.lvdc_port.specs.Device.{Device}
-use Rattle.lvdc_campaign.specs.Stations.{IsStation}
+use Rattle.lvdc_runs.specs.Stations.{IsStation}
 use Rattle.lvdc_study.specs.Study.{opening_over}
 use Rattle.lvdc_console.proofs.bench.RackBench.make_stations.Goals as goal
 

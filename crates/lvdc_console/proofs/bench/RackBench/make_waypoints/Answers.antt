@@ -1,6 +1,6 @@
 use Rattle.std.proofs.Common.{All, List, IfOk, sym, subst}
 use Rattle.lvdc_port.specs.Device.{Device}
-use Rattle.lvdc_campaign.specs.Ran.{HasRunPlainly}
+use Rattle.lvdc_runs.specs.Ran.{HasRunPlainly}
 use Rattle.lvdc_study.specs.Study.{opening_over}
 use Rattle.lvdc_study.specs.Waypoints.{IsWaypoint}
 use Rattle.lvdc_console.proofs.bench.RackBench.make_waypoints.Goals as goal

@@ -1,7 +1,7 @@
 use Rattle.std.proofs.Common.{List, IfOk, IfErr, subst}
 use Rattle.std.proofs.lemmas.Result.{IfErr-weaker}
 use Rattle.lvdc_port.specs.Device.{Device}
-use Rattle.lvdc_campaign.specs.Ran.{HasRunPlainly}
+use Rattle.lvdc_runs.specs.Ran.{HasRunPlainly}
 use Rattle.lvdc_study.specs.Failures.{FailsPlainly}
 use Rattle.lvdc_study.specs.Study.{opening_over}
 use Rattle.lvdc_console.specs.Rack.{rack}

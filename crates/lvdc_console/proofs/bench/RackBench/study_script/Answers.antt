@@ -3,9 +3,9 @@ use Rattle.std.proofs.lemmas.List.Elements.{All-weaker}
 use Rattle.std.proofs.lemmas.Result.{IfErr-weaker}
 use Rattle.lvdc_port.specs.Device.{Device}
 use Rattle.lvdc_snapshot.specs.Snapshot.{IsWhole}
-use Rattle.lvdc_campaign.specs.Campaign.{trial_under}
-use Rattle.lvdc_campaign.specs.Ran.{HasRunPlainly}
-use Rattle.lvdc_campaign.specs.Stations.{IsStation}
+use Rattle.lvdc_runs.specs.Scripts.{trial_under}
+use Rattle.lvdc_runs.specs.Ran.{HasRunPlainly}
+use Rattle.lvdc_runs.specs.Stations.{IsStation}
 use Rattle.lvdc_study.specs.Failures.{FailsUnder}
 use Rattle.lvdc_study.specs.Study.{opening_over, row_of}
 use Rattle.lvdc_study.specs.Waypoints.{IsWaypoint}

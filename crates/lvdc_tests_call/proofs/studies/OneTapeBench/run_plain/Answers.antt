@@ -1,6 +1,6 @@
 use Rattle.std.proofs.Common.{List, IfOk, IfErr, subst}
 use Rattle.lvdc_port.specs.Device.{Device}
-use Rattle.lvdc_campaign.specs.Ran.{HasRunPlainly}
+use Rattle.lvdc_runs.specs.Ran.{HasRunPlainly}
 use Rattle.lvdc_study.specs.Failures.{FailsPlainly}
 use Rattle.lvdc_study.specs.Study.{opening_over}
 use Rattle.lvdc_tests_call.proofs.studies.OneTapeBench.run_plain.Goals as goal

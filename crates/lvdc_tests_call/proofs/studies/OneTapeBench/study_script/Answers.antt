@@ -1,8 +1,8 @@
 use Rattle.std.proofs.Common.{◌≡◌, All, List, IfOk, IfErr, sym, subst}
 use Rattle.lvdc_port.specs.Device.{Device}
-use Rattle.lvdc_campaign.specs.Campaign.{trial_under}
-use Rattle.lvdc_campaign.specs.Ran.{HasRunPlainly}
-use Rattle.lvdc_campaign.specs.Stations.{IsStation}
+use Rattle.lvdc_runs.specs.Scripts.{trial_under}
+use Rattle.lvdc_runs.specs.Ran.{HasRunPlainly}
+use Rattle.lvdc_runs.specs.Stations.{IsStation}
 use Rattle.lvdc_study.specs.Failures.{FailsUnder}
 use Rattle.lvdc_study.specs.Study.{opening_over, row_of}
 use Rattle.lvdc_tests_call.proofs.studies.OneTapeBench.study_script.Goals as goal

@@ -1,9 +1,6 @@
-use Rattle.std.proofs.Common.{◌≡◌, Option, Result, Ok, Err, refl, sym, subst, ◌∙◌}
+use Rattle.std.proofs.Common.{Result, Ok, Err}
 use Rattle.std.specs.Prelude.{IfOk}
-use Rattle.lvdc_uplink.specs.Link.{by_message}
-use Rattle.lvdc_uplink.specs.declared.answer.Answer.TheVariants.{Form}
-use Rattle.lvdc_uplink.specs.declared.message.Message.{Message}
-use Rattle.lvdc_uplink.proofs.AsHeard.{heard-then, held-then, again-then}
+use Rattle.lvdc_uplink.proofs.AsHeard.{heard-then, held-then, again-then, refused-then}
 use Rattle.lvdc_uplink.proofs.uplink.Uplink.message.Goals as goal
 
 -- what follows of an answer
@@ -11,31 +8,27 @@ then : {A E : Type 0} {P Q : A → Type 0} (result : Result A E) → ((a : A) �
 then (Ok a) f is = f a is
 then (Err e) f is = tt
 
-pub returns-in-Some-clause-step : goal.returns-in-Some-clause-step
-returns-in-Some-clause-step c =
-    subst (λ (message : Option Message). IfOk c.take.result (λ answer. by_message c.args.self.now message ≡ record { answer = answer; link = c.take.new.self }))
-    (sym c.in-Some.is ∙ c.message_of.ensures.message) c.take.ensures.step
+pub returns-clause-step : goal.returns-clause-step
+returns-clause-step c = c.answer.ensures.step
 
-pub returns-in-Some-clause-heard : goal.returns-in-Some-clause-heard
-returns-in-Some-clause-heard c =
-    then c.take.result (λ answer is. heard-then c.args.self.now c.take.new.self c.args.text.now answer is) (returns-in-Some-clause-step c)
+pub returns-clause-heard : goal.returns-clause-heard
+returns-clause-heard c =
+    then c.answer.result (λ answer is. heard-then c.args.self.now c.answer.new.self c.args.text.now answer is) c.answer.ensures.step
 
-pub returns-in-Some-clause-held : goal.returns-in-Some-clause-held
-returns-in-Some-clause-held c =
-    then c.take.result (λ answer is. held-then c.args.self.now c.take.new.self c.args.text.now answer is) (returns-in-Some-clause-step c)
+pub returns-clause-held : goal.returns-clause-held
+returns-clause-held c =
+    then c.answer.result (λ answer is. held-then c.args.self.now c.answer.new.self c.args.text.now answer is) c.answer.ensures.step
 
-pub returns-in-Some-clause-again : goal.returns-in-Some-clause-again
-returns-in-Some-clause-again c =
-    then c.take.result (λ answer is. again-then c.args.self.now c.take.new.self c.args.text.now answer is c.repeated_changes_nothing.ensures.link) (returns-in-Some-clause-step c)
+pub returns-clause-again : goal.returns-clause-again
+returns-clause-again c =
+    then c.answer.result (λ answer is. again-then c.args.self.now c.answer.new.self c.args.text.now answer is c.repeated_changes_nothing.ensures.link) c.answer.ensures.step
 
-pub returns-in-None-clause-heard : goal.returns-in-None-clause-heard
-returns-in-None-clause-heard c =
-    heard-then c.args.self.now c.args.self.now c.args.text.now Form
-    (subst (λ (message : Option Message). by_message c.args.self.now message ≡ record { answer = Form; link = c.args.self.now })
-    (sym c.in-None.is ∙ c.message_of.ensures.message) refl)
+pub returns-clause-refused : goal.returns-clause-refused
+returns-clause-refused c =
+    then c.answer.result (λ answer is. refused-then c.args.self.now c.answer.new.self c.args.text.now answer is c.refused_changes_nothing.ensures) c.answer.ensures.step
 
-pub returns-in-None-clause-held : goal.returns-in-None-clause-held
-returns-in-None-clause-held c =
-    held-then c.args.self.now c.args.self.now c.args.text.now Form
-    (subst (λ (message : Option Message). by_message c.args.self.now message ≡ record { answer = Form; link = c.args.self.now })
-    (sym c.in-None.is ∙ c.message_of.ensures.message) refl)
+pub returns-clause-unchanged : goal.returns-clause-unchanged
+returns-clause-unchanged c = c.answer.ensures.unchanged
+
+pub returns-clause-no_memory : goal.returns-clause-no_memory
+returns-clause-no_memory c = c.answer.ensures.no_memory

@@ -1,5 +1,0 @@
-use Rattle.lvdc_campaign.proofs.Admitted.{admitted-same}
-use Rattle.lvdc_campaign.proofs.laws.admissible_is_same.Goals as goal
-
-pub returns : goal.returns
-returns c = admitted-same c.guarded_run.ensures c.guarded_times.ensures c.guarded_ends.ensures.end c.guarded_ends.ensures.steps

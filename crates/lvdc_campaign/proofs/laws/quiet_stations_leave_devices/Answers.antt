@@ -1,5 +1,0 @@
-use Rattle.lvdc_campaign.proofs.Stationed.{quiet-station}
-use Rattle.lvdc_campaign.proofs.laws.quiet_stations_leave_devices.Goals as goal
-
-pub returns : goal.returns
-returns c = quiet-station c.quiet_runs_leave_devices.ensures c.no_faults_no_verdict.ensures c.judges_alone.ensures c.guarded_times.ensures

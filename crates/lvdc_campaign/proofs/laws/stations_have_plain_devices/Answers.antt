@@ -1,5 +1,0 @@
-use Rattle.lvdc_campaign.proofs.Stationed.{plain-devices}
-use Rattle.lvdc_campaign.proofs.laws.stations_have_plain_devices.Goals as goal
-
-pub returns : goal.returns
-returns c = plain-devices c.no_faults_no_verdict.ensures c.judges_alone.ensures c.guarded_times.ensures

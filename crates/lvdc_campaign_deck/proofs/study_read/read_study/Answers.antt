@@ -1,0 +1,26 @@
+use Rattle.std.proofs.lemmas.Result.{IfOk-weaker}
+use Rattle.lvdc_campaign_deck.proofs.study_read.read_study.Goals as goal
+
+pub returns-in-Ok-read_scripts-clause-count : goal.returns-in-Ok-read_scripts-clause-count
+returns-in-Ok-read_scripts-clause-count g c = IfOk-weaker c.join.result _ _ (λ study is. rw is c.in-Ok-read_program.ensures.count) c.join.ensures.deck
+
+pub returns-in-Ok-read_scripts-clause-rising : goal.returns-in-Ok-read_scripts-clause-rising
+returns-in-Ok-read_scripts-clause-rising g c = IfOk-weaker c.join.result _ _ (λ study is. rw is c.in-Ok-read_program.ensures.rising) c.join.ensures.deck
+
+pub returns-in-Ok-read_scripts-clause-there : goal.returns-in-Ok-read_scripts-clause-there
+returns-in-Ok-read_scripts-clause-there g c = IfOk-weaker c.join.result _ _ (λ study is. rw is c.in-Ok-read_program.ensures.there) c.join.ensures.deck
+
+pub returns-in-Ok-read_scripts-clause-few_events : goal.returns-in-Ok-read_scripts-clause-few_events
+returns-in-Ok-read_scripts-clause-few_events g c = IfOk-weaker c.join.result _ _ (λ study is. rw is c.in-Ok-read_program.ensures.few) c.join.ensures.deck
+
+pub returns-in-Ok-read_scripts-clause-events : goal.returns-in-Ok-read_scripts-clause-events
+returns-in-Ok-read_scripts-clause-events g c = IfOk-weaker c.join.result _ _ (λ study is. rw is c.in-Ok-read_program.ensures.events) c.join.ensures.deck
+
+pub returns-in-Ok-read_scripts-clause-few : goal.returns-in-Ok-read_scripts-clause-few
+returns-in-Ok-read_scripts-clause-few g c = IfOk-weaker c.join.result _ _ (λ study are. rw are c.in-Ok-read_scripts.ensures.few) c.join.ensures.scripts
+
+pub returns-in-Ok-read_scripts-clause-run : goal.returns-in-Ok-read_scripts-clause-run
+returns-in-Ok-read_scripts-clause-run g c = IfOk-weaker c.join.result _ _ (λ study are. rw are c.in-Ok-read_scripts.ensures.run) c.join.ensures.scripts
+
+pub returns-in-Ok-read_scripts-clause-times : goal.returns-in-Ok-read_scripts-clause-times
+returns-in-Ok-read_scripts-clause-times g c = c.join.ensures.times

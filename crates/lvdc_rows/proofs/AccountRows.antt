@@ -1,0 +1,44 @@
+-- A worked report of an account: its parts in their order.
+use Rattle.std.proofs.Common.{◌≡◌, ℕ, [], ◌∷◌, true, not, ◌==◌, refl}
+use Rattle.std.specs.Prelude.{codes}
+use Rattle.std.specs.Fmt.{digits}
+use Rattle.lvdc_map.specs.Address.{number_of}
+use Rattle.lvdc_map.specs.Hop.{hop_of}
+use Rattle.lvdc_map.specs.declared.placed.Placed.{Placed}
+use Rattle.lvdc_text.specs.Numbers.{octal_text}
+use Rattle.lvdc_vote.specs.Bits.{majority}
+use Rattle.lvdc_model.specs.Trial.{Trial, plain_at}
+use Rattle.lvdc_model.specs.Voted.{Voted, voted_start}
+use Rattle.lvdc_model.specs.declared.outcome.Outcome.TheVariants.{Done}
+use Rattle.lvdc_lines.specs.Noted.{lines_of, lines_below}
+use Rattle.lvdc_report.specs.Voted.{counts_below}
+use Rattle.lvdc_command_run.specs.Accounts.{Account}
+use Rattle.lvdc_command_run.specs.Answers.{account_text}
+
+holds : ℕ → ℕ → Placed
+holds loc word = record { at = record { pair = 0; sector = 0; loc = loc }; word = word }
+
+-- PIO 000 writes A, and TRA 000 goes back
+ports : Trial
+ports =
+    record {
+      opening = record { image = holds 0 0o12000 ∷ holds 1 0o10000 ∷ []; banks = 0; start = hop_of 0o16; unplugs = []; devices = [] };
+      script = [];
+    }
+
+-- after one time, where location 001 can't be recovered
+told : Account
+told = record { end = Done; plain = plain_at ports 1; devices = []; recoverable = λ at. not (number_of at == 1) }
+
+-- copy 2 of module 1 differed three times, and one cell was mended
+noted : Voted
+noted =
+    record (voted_start ports) {
+      counts = (0 ∷ 3 ∷ 0 ∷ []) ∷ (0 ∷ 0 ∷ 0 ∷ []) ∷ (0 ∷ 0 ∷ 0 ∷ []) ∷ (0 ∷ 0 ∷ 0 ∷ []) ∷ (0 ∷ 0 ∷ 0 ∷ []) ∷ (0 ∷ 0 ∷ 0 ∷ []) ∷ (0 ∷ 0 ∷ 0 ∷ []) ∷ [];
+      repairs = record { step = 3; at = record { pair = 0; sector = 0; loc = 0 }; twin = 1; switched = true } ∷ [];
+    }
+
+parts_in_order : account_text ports told noted
+    ≡ codes "LVDC RUN\nEND DONE\nTIMES 1\nPLACE 0 00 0 001\nDATA 0 01\nDUP 1 1\nA 000000000\nPQ 000000000\nSAVER 000000000\nOUT 0 000 000000000\nMEM 0 00 000 000012000\nMEM 0 00 001 ?\nWRONG 1 2 3\nREPAIR 3 0 00 000 1 SWITCH\n"
+unfolding told noted ports holds digits octal_text lines_of lines_below majority counts_below
+parts_in_order = refl
