@@ -55,7 +55,8 @@ SAYS = """(() => {
 })()"""
 RESTS = ("document.body.getAttribute('aria-busy') === 'false' && document.getElementById('outcome').dataset.kind !== undefined "
          "&& document.querySelector('#board [role=\"button\"]') !== null")
-
+# Two frames of the screen: what was asked of the layout is there.
+FRAMES = "await new Promise((done) => requestAnimationFrame(() => requestAnimationFrame(done)))"
 
 # All that a visitor can set, and where the page stands.
 CONTROLS = """[[...document.querySelectorAll('input, select, [aria-pressed], [aria-selected]')].map((it) =>
@@ -84,19 +85,36 @@ class Visitor(Browser):
             time.sleep(0.02)
 
     def press(self, query: str) -> None:
-        """Presses in the middle of an element with the mouse, and waits for what becomes of it. What stands behind a tab is brought to sight."""
-        middle = f"""(() => {{
-            const it = document.querySelector({json.dumps(query)});
-            const panel = it.closest('.lab-panel, #outcome')?.id ?? 'more';
-            if (!it.checkVisibility()) document.getElementById(`tab-${{panel}}`).click();
-            it.scrollIntoView({{ block: 'center' }});
-            const {{ left, top, width, height }} = it.getBoundingClientRect();
-            return [left + width / 2, top + height / 2];
-        }})()"""
-        x, y = self.run(middle)
+        """Presses in the middle of an element with the mouse, and waits for what becomes of it."""
+        x, y = self.middle(query)
         for kind in ("mousePressed", "mouseReleased"):
-            self.call("Input.dispatchMouseEvent", type=kind, x=x, y=y, button="left", clickCount=1)
+            self.mouse(kind, x, y)
         self.wait()
+
+    def middle(self, query: str) -> tuple[float, float]:
+        """The middle of an element, once it stands still. What stands behind a tab is brought to sight."""
+        x, y = self.run(f"""(async () => {{
+            const find = () => document.querySelector({json.dumps(query)});
+            const panel = find().closest('.lab-panel, #outcome')?.id ?? 'more';
+            if (!find().checkVisibility()) document.getElementById(`tab-${{panel}}`).click();
+            const where = () => {{
+                find().scrollIntoView({{ block: 'center' }});
+                const {{ left, top, width, height }} = find().getBoundingClientRect();
+                return [left + width / 2, top + height / 2];
+            }};
+            let now = where();
+            for (let before = null, looks = 0; String(now) !== String(before) && looks < 50; looks += 1) {{
+                before = now;
+                {FRAMES};
+                now = where();
+            }}
+            return now;
+        }})()""")
+        return x, y
+
+    def mouse(self, kind: str, x: float, y: float) -> None:
+        """The mouse is pressed or released somewhere."""
+        self.call("Input.dispatchMouseEvent", type=kind, x=x, y=y, button="left", clickCount=1)
 
     def press_lamp(self, module: int, copy: int) -> None:
         """Presses the lamp of a copy."""
@@ -242,6 +260,18 @@ def try_undo(page: Visitor, tally: Tally, worker: Worker) -> None:
     page.press("#again")
     says = page.says()
     tally.expect("start again", [says["kind"], says["step"], "FAULTS" in says["deck"]], ["healthy", 0, False])
+
+
+def try_held(page: Visitor, tally: Tally, _: Worker) -> None:
+    """A finger that is down while the board is laid out anew has still pressed what was under it."""
+    x, y = page.middle('#board .light[data-module="4"][data-copy="2"]')
+    page.mouse("mousePressed", x, y)
+    page.run(f"(async () => {{ document.querySelector('#board svg').style.paddingBottom = '3px'; {FRAMES}; }})()")
+    page.mouse("mouseReleased", x, y)
+    page.wait()
+    tally.expect("a press while the board is laid out anew", len(page.says()["acts"]), 1)
+    page.run("document.querySelector('#board svg').style.paddingBottom = ''; 0")
+    page.press("#again")
 
 
 def number_of(place: str) -> int:
@@ -572,7 +602,7 @@ def try_driven(lab: Lab, tally: Tally, worker: Worker, folder: pathlib.Path) -> 
         page.visit(lab.address)
         page.wait()
         tally.expect("at first", [page.says()["kind"], page.says()["step"]], ["healthy", STEP])
-        for part in (try_copies, try_what_if, try_undo, try_cells, try_lost, try_late, try_for_good):
+        for part in (try_copies, try_what_if, try_undo, try_held, try_cells, try_lost, try_late, try_for_good):
             page.go_to(STEP)
             part(page, tally, worker)
         try_shared(page, tally, worker, folder)

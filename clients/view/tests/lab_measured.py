@@ -2,7 +2,7 @@
 else, and what is pressed is as large as a finger. On small screens that holds behind each tab."""
 import json
 
-from lab_driven import Visitor, kind_due
+from lab_driven import FRAMES, Visitor, kind_due
 from lab_running import Lab, Tally
 from lvdc.workers import Worker
 from measures import FEW_SIZES, FINE, SIZES, faint, measures
@@ -90,7 +90,6 @@ CUT_CHOICES = """(() => {
     });
 })()""".replace("ARROW", "28")
 
-_FRAMES = "await new Promise((done) => requestAnimationFrame(() => requestAnimationFrame(done)))"
 
 
 def try_state(page: Visitor, tally: Tally, name: str, is_whole: bool) -> None:
@@ -99,7 +98,7 @@ def try_state(page: Visitor, tally: Tally, name: str, is_whole: bool) -> None:
     for language in page.run("Object.keys(Words.LANGUAGES)"):
         page.run(f"document.querySelector('#languages [lang=\"{language}\"]').click()")
         for tab in tabs:
-            measured = page.run(f"(async () => {{ document.getElementById('{tab}').click(); {_FRAMES}; return {MEASURES}; }})()")
+            measured = page.run(f"(async () => {{ document.getElementById('{tab}').click(); {FRAMES}; return {MEASURES}; }})()")
             tally.expect(f"{name}, {language}, {tab}", measured, FINE)
             tally.expect(f"{name}, {language}, {tab}: choices that are cut", page.run(CUT_CHOICES), [])
 

@@ -86,13 +86,23 @@ const Board = (() => {
             this.places = null;
             new ResizeObserver(() => this.lay()).observe(this.element);
             this.element.addEventListener('keydown', (event) => this.pressKey(event));
+            this.element.addEventListener('pointerdown', () => { this.isHeld = true; });
+            for (const name of ['pointerup', 'pointercancel']) window.addEventListener(name, () => this.letGo());
+        }
+
+        /** A finger has left: what was to be laid out while it was down is laid out once the press is told. */
+        letGo() {
+            if (!this.isHeld) return;
+            this.isHeld = false;
+            setTimeout(() => this.lay());
         }
 
         // ---- laying out
 
-        /** Puts all parts where there is room for them now, and shows the moment again. The style says which parts are shown (`--face`), and how large a
-         * cell must be (`--least-cell`). */
+        /** Puts all parts where there is room for them now, and shows the moment again; not under a finger, since a part that goes away takes its press
+         * along. The style says which parts are shown (`--face`), and how large a cell must be (`--least-cell`). */
         lay() {
+            if (this.isHeld) return;
             const style = window.getComputedStyle(this.element);
             const face = style.getPropertyValue('--face').trim();
             if (face !== this.face) this.element.style.minHeight = '';
