@@ -266,11 +266,11 @@ def try_held(page: Visitor, tally: Tally, _: Worker) -> None:
     """A finger that is down while the board is laid out anew has still pressed what was under it."""
     x, y = page.middle('#board .light[data-module="4"][data-copy="2"]')
     page.mouse("mousePressed", x, y)
-    page.run(f"(async () => {{ document.querySelector('#board svg').style.paddingBottom = '3px'; {FRAMES}; }})()")
+    page.run(f"(async () => {{ document.getElementById('board').style.height = '300px'; {FRAMES}; }})()")
     page.mouse("mouseReleased", x, y)
     page.wait()
     tally.expect("a press while the board is laid out anew", len(page.says()["acts"]), 1)
-    page.run("document.querySelector('#board svg').style.paddingBottom = ''; 0")
+    page.run("document.getElementById('board').style.height = ''; 0")
     page.press("#again")
 
 
