@@ -73,6 +73,16 @@ impl Codes {
     {
         self.cells.put(at.number(), Cell::encode(word));
     }
+
+    /// Is 0 the word at this place in the order of addresses?
+    #[inline(always)]
+    pub(crate) fn is_zero(&self, number: usize) -> bool
+        requires { number < 32768 }
+        ensures { result ≡ true → slice_index self.now number ≡ 0 }
+    {
+        self.cells.at(number) == Cell::encode(Word::ZERO)
+    }
+
     /// Is 0 the word at each address of a sector, of the 128 in the order of addresses? False says nothing.
     pub(crate) fn is_blank(&self, sector: usize) -> bool
         requires { sector < 128 }

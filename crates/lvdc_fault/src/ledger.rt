@@ -112,6 +112,15 @@ impl Ledger {
         Ok(())
     }
 
+    /// Is 0 intended at the address at this place in the order of all addresses? False says nothing.
+    #[inline(always)]
+    pub fn is_zero(&self, number: usize) -> bool
+        requires { number < 32768 }
+        ensures { result ≡ true → (at : Spot) → IsAddress at → number_of at ≡ number → intended_at self.now at ≡ 0 }
+    {
+        self.words.is_zero(number)
+    }
+
     /// Is 0 intended at each address of a sector, of the 128 in the order of addresses? False says nothing.
     pub fn is_blank(&self, sector: usize) -> bool
         requires { sector < 128 }

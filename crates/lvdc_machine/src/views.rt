@@ -66,6 +66,16 @@ impl Machine {
         }
     }
 
+    /// Is the word of an address, by its number, known to be 0, as `shown` tells it where the bank is there? False says nothing.
+    #[inline(always)]
+    pub fn is_zero(&self, number: usize) -> bool
+        requires { number < 32768 }
+        ensures { result ≡ true → (o : Trial) (first : Voted) (n : ℕ) (ds : List device.Device) → StandsFrom o first n self.now ds
+            → (at : Spot) → IsAddress at → number_of at ≡ number → shown_of o (state_from self.now.end self.now.mode o first n) at ≡ Known 0 }
+    {
+        self.memory.is_zero(number)
+    }
+
     /// Is the word of each address of a sector, of the 128 in the order of addresses, known to be 0, as `shown` tells it where the bank is
     /// there? False says nothing: it tells in which sectors nothing was loaded, stored, damaged, stuck or dead.
     pub fn is_blank(&self, sector: usize) -> bool

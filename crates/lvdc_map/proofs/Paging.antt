@@ -1,9 +1,9 @@
 -- Tables of pages: what a value that is put, and a page that is given, do to the values of all places.
-use Rattle.std.proofs.Common.{◌≡◌, ◌≢◌, ℕ, ◌+◌, ◌-◌, ◌*◌, ◌/◌, ◌%◌, ◌<◌, ◌≤◌, Bool, true, false, cond, not, List, length, get_or, set, take, ◌++◌, count_by, refl, sym, ap, subst, ◌∙◌, arith}
+use Rattle.std.proofs.Common.{◌≡◌, ◌≢◌, ℕ, ◌+◌, ◌-◌, ◌*◌, ◌/◌, ◌%◌, ◌<◌, ◌≤◌, Bool, true, false, cond, not, List, length, get_or, set, ◌++◌, count_by, refl, sym, ap, subst, ◌∙◌, arith}
 use Rattle.std.specs.Prelude.{◌==◌}
 use Rattle.std.proofs.Math.ListN.{replicate}
 use Rattle.std.proofs.lemmas.Bool.{eqb-true, eqb-false}
-use Rattle.std.proofs.lemmas.List.{length-set, length-append, length-take, length-replicate, get_or-set_same, get_or-set_other, get_or-replicate, get_or-take, get_or_append_left, get_or-append_right, get_or_default}
+use Rattle.std.proofs.lemmas.List.{length-set, length-append, length-replicate, get_or-set_same, get_or-set_other, get_or-replicate, get_or_append_left, get_or-append_right, get_or_default}
 use Rattle.std.proofs.lemmas.List.FromFn.{length-map-range_with_len, get_or-map-range_with_len, fill_by_all}
 use Rattle.std.proofs.lemmas.List.Sums.{count_by-le-length, sum_by-set}
 use Rattle.lvdc_map.specs.Sectors.{stands_at, values_in, is_own, IsPaged}
@@ -98,14 +98,14 @@ module _ {X : Type 0} (blank : X) where
   owns-few pages sector all within none =
       omega (arith, all, owns-more pages sector 1 (omega (arith, all)) none (omega arith), count_by-le-length is_own (set pages sector 1), length-set pages sector 1)
 
-  -- a sector that had none has the next page, with the values of page 0
+  -- a sector that had none has the next page, with the blank value at each place
   pub paged-more : (pages : List ℕ) (items : List X) (sector page : ℕ) → sector < 128 → IsPaged blank pages items → get_or pages sector 0 ≡ 0
-      → page ≡ count_by is_own pages + 1 → IsPaged blank (set pages sector page) (items ++ take 256 items)
+      → page ≡ count_by is_own pages + 1 → IsPaged blank (set pages sector page) (items ++ replicate 256 blank)
   paged-more pages items sector page small is none next = record {
     sectors = length-set pages sector page ∙ is.sectors;
-    size = length-append items (take 256 items) ∙ omega (arith, is.size, length-take 256 items, more);
+    size = length-append items (replicate 256 blank) ∙ omega (arith, is.size, length-replicate {A = X} 256 blank, more);
     within = λ other less. by_case other less (other == sector) refl;
-    first = λ loc d less. get_or_append_left items (take 256 items) d loc (omega (arith, is.size)) ∙ is.first loc d less;
+    first = λ loc d less. get_or_append_left items (replicate 256 blank) d loc (omega (arith, is.size)) ∙ is.first loc d less;
     apart = λ one other less lesser own same. by_cases one other less lesser own same (one == sector) (other == sector) refl refl;
   }
     where
@@ -136,13 +136,13 @@ module _ {X : Type 0} (blank : X) where
 
   -- no value changes
   pub values-kept : (pages : List ℕ) (items : List X) (sector page : ℕ) → sector < 128 → IsPaged blank pages items → get_or pages sector 0 ≡ 0
-      → page ≡ count_by is_own pages + 1 → values_in blank (set pages sector page) (items ++ take 256 items) ≡ values_in blank pages items
+      → page ≡ count_by is_own pages + 1 → values_in blank (set pages sector page) (items ++ replicate 256 blank) ≡ values_in blank pages items
   values-kept pages items sector page small is none next =
-      sym (fill_by_all (λ k. get_or (items ++ take 256 items) (stands_at (set pages sector page) k) blank) (values_in blank pages items) 32768 blank
+      sym (fill_by_all (λ k. get_or (items ++ replicate 256 blank) (stands_at (set pages sector page) k) blank) (values_in blank pages items) 32768 blank
       (values-size pages items) (λ k less. value-there pages items k blank less is ∙ by_case k less (k / 256 == sector) refl))
     where
       by_case : (k : ℕ) → k < 32768 → (b : Bool) → (k / 256 == sector) ≡ b
-          → get_or items (stands_at pages k) blank ≡ get_or (items ++ take 256 items) (stands_at (set pages sector page) k) blank
+          → get_or items (stands_at pages k) blank ≡ get_or (items ++ replicate 256 blank) (stands_at (set pages sector page) k) blank
       by_case k less true e =
           let at : k / 256 ≡ sector = eqb-true (k / 256) sector e in
           let old : get_or pages (k / 256) 0 ≡ 0 = ap (λ (j : ℕ). get_or pages j 0) at ∙ none in
@@ -151,20 +151,21 @@ module _ {X : Type 0} (blank : X) where
           let stood : stands_at pages k ≡ k % 256 = omega (arith, old) in
           let stands : stands_at (set pages sector page) k ≡ length items + k % 256 = omega (arith, new, next, is.size) in
           let behind : length items + k % 256 - length items ≡ k % 256 = omega arith in
-          ap (λ (j : ℕ). get_or items j blank) stood ∙ sym (get_or-take 256 items (k % 256) blank (omega arith))
-          ∙ sym (ap (λ (j : ℕ). get_or (items ++ take 256 items) j blank) stands
-          ∙ get_or-append_right items (take 256 items) (length items) (length items + k % 256) blank refl (omega arith)
-          ∙ ap (λ (j : ℕ). get_or (take 256 items) j blank) behind)
+          ap (λ (j : ℕ). get_or items j blank) stood ∙ is.first (k % 256) blank (omega arith)
+          ∙ sym (get_or-replicate {A = X} 256 (k % 256) blank blank (omega arith))
+          ∙ sym (ap (λ (j : ℕ). get_or (items ++ replicate 256 blank) j blank) stands
+          ∙ get_or-append_right items (replicate 256 blank) (length items) (length items + k % 256) blank refl (omega arith)
+          ∙ ap (λ (j : ℕ). get_or (replicate 256 blank) j blank) behind)
       by_case k less false e =
           let same : stands_at (set pages sector page) k ≡ stands_at pages k =
           ap (λ (p : ℕ). p * 256 + k % 256) (get_or-set_other pages sector (k / 256) page 0 (eqb-false (k / 256) sector e)) in
-          sym (ap (λ (j : ℕ). get_or (items ++ take 256 items) j blank) same
-          ∙ get_or_append_left items (take 256 items) blank (stands_at pages k) (stands-within pages items k less is))
+          sym (ap (λ (j : ℕ). get_or (items ++ replicate 256 blank) j blank) same
+          ∙ get_or_append_left items (replicate 256 blank) blank (stands_at pages k) (stands-within pages items k less is))
 
   -- both
   pub page-given : (pages : List ℕ) (items more : List X) (given : List ℕ) (last capacity place : ℕ) → place < 32768 → IsPaged blank pages items
       → get_or pages (place / 256) 0 ≡ 0 → last ≡ count_by is_own pages → 33024 ≤ capacity → given ≡ set pages (place / 256) (last + 1)
-      → more ≡ items ++ take 256 items → HasPage blank given more (last + 1) capacity place (values_in blank pages items)
+      → more ≡ items ++ replicate 256 blank → HasPage blank given more (last + 1) capacity place (values_in blank pages items)
   page-given pages items more given last capacity place small is none known room set_is more_is =
       let sector : place / 256 < 128 = omega arith in
       let next : last + 1 ≡ count_by is_own pages + 1 = omega (arith, known) in

@@ -1,6 +1,6 @@
 //! A value for each place of a memory, of which only those sectors take room in which something was put.
 
-ghost use Rattle.std.specs.Prelude.{◌≡◌, ◌≢◌, ℕ, ◌+◌, ◌*◌, ◌/◌, ◌<◌, ◌≤◌, ◌++◌, true, take, length, IfOk, vec_capacity, slice_index_or, slice_set};
+ghost use Rattle.std.specs.Prelude.{◌≡◌, ◌≢◌, ℕ, ◌+◌, ◌*◌, ◌/◌, ◌<◌, ◌≤◌, ◌++◌, true, replicate, length, IfOk, vec_capacity, slice_index_or, slice_set};
 ghost use Rattle.lvdc_map.specs.Sectors.{stands_at, values_in, IsPaged};
 
 use lvdc_word::NoMemory;
@@ -66,7 +66,13 @@ impl<T: Copy> Sectors<T> {
         let sector = place / 256;
         if self.pages[sector] == 0 {
             self.last += 1;
-            open(&mut self.pages, &mut self.items, sector, self.last);
+            open(
+                &mut self.pages,
+                &mut self.items,
+                sector,
+                self.last,
+                self.blank,
+            );
         }
         self.items[stands(&self.pages, place)] = value;
     }
@@ -90,18 +96,17 @@ fn stands(pages: &[u8; 128], place: usize) -> usize
     usize::from(pages[place / 256]) * 256 + place % 256
 }
 
-/// Gives a sector a page of its own, behind the others, in which each value is that of page 0.
+/// Gives a sector a page of its own, behind the others, in which each value is the blank one.
 #[inline(never)]
-fn open<T: Copy>(pages: &mut [u8; 128], items: &mut Vec<T>, sector: usize, page: u8)
+fn open<T: Copy>(pages: &mut [u8; 128], items: &mut Vec<T>, sector: usize, page: u8, blank: T)
     requires sector { sector < 128 }
-    requires first { 256 ≤ length items.old.items }
     requires room { length items.old.items + 256 ≤ vec_capacity items.old }
     ensures pages { pages.new ≡ slice_set pages.old sector page }
-    ensures items { items.new.items ≡ items.old.items ++ take 256 items.old.items }
+    ensures items { items.new.items ≡ items.old.items ++ replicate 256 blank }
     ensures room { vec_capacity items.old ≤ vec_capacity items.new }
 {
     pages[sector] = page;
-    match items.extend_from_within(0..256) {
+    match items.resize(items.len() + 256, blank) {
         Ok(()) => {}
         Err(_) => {}
     }

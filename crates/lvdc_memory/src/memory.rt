@@ -76,6 +76,16 @@ impl VotedMemory {
             .recoverable(at, self.twins.view(0, place), self.twins.view(1, place))
     }
 
+    /// Is 0 intended at an address, by its number, and does each twin show its cell there? So it can be recovered. False says nothing.
+    #[inline(always)]
+    pub fn is_zero(&self, number: usize) -> bool
+        requires { number < 32768 }
+        ensures { result ≡ true → (o : Trial) (in_force : Option ℕ) (t : model.Twins) (i : Memory)
+            → IsMemoryOf o in_force self.now t i → (at : Spot) → IsAddress at → number_of at ≡ number → IsZeroAt o in_force t i at }
+    {
+        self.ledger.is_zero(number) && self.twins.is_zero(number % 16384)
+    }
+
     /// Is 0 intended at each address of a sector, of the 128 in the order of addresses, and does each twin show its cell there? So it can
     /// be recovered. False says nothing: it tells in which sectors nothing was loaded, stored, damaged, stuck or dead.
     pub fn is_blank(&self, sector: usize) -> bool

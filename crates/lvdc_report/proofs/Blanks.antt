@@ -1,5 +1,5 @@
 -- Words that are 0 and known have no line.
-use Rattle.std.proofs.Common.{◌≡◌, ℕ, ◌+◌, ◌*◌, ◌/◌, ◌<◌, Bool, true, false, cond, ◌++◌, List, [], get_or, refl, sym, ap, ◌∙◌, arith}
+use Rattle.std.proofs.Common.{◌≡◌, ℕ, ◌<◌, Bool, true, false, cond, List, [], get_or, refl, sym, ap, ◌∙◌, arith}
 use Rattle.lvdc_map.specs.Address.{Spot, IsAddress, spot_at, number_of}
 use Rattle.lvdc_map.specs.Banks.{is_there}
 use Rattle.lvdc_map.specs.Memory.{Memory, word_at, IsMemory}
@@ -9,7 +9,7 @@ use Rattle.lvdc_model.specs.Voted.{Voted}
 use Rattle.lvdc_machine.specs.Stands.{shown_by, shown_of}
 use Rattle.lvdc_machine.specs.declared.shown.Shown.{Shown}
 use Rattle.lvdc_machine.specs.declared.shown.Shown.TheVariants.{Known, Unknown}
-use Rattle.lvdc_report.specs.Report.{told_line, line_at, plain_line}
+use Rattle.lvdc_report.specs.Report.{told_line, plain_line}
 use Rattle.lvdc_report.specs.Voted.{shown_line}
 
 -- the address of a number below 32,768

@@ -1,4 +1,4 @@
-ghost use Rattle.std.specs.Prelude.{◌≡◌, ℕ, ◌+◌, ◌*◌, ◌<◌, ◌≤◌, ◌++◌, length, OnOk, true, List};
+ghost use Rattle.std.specs.Prelude.{◌≡◌, ℕ, ◌+◌, ◌*◌, ◌<◌, ◌≤◌, ◌++◌, length, OnOk, true, false, List, [], ◌/◌};
 ghost use Rattle.lvdc_map.specs.Memory.{Memory, IsMemory};
 ghost use Rattle.lvdc_port.specs.Device.{Device};
 ghost use Rattle.lvdc_model.specs.Known.{is_known};
@@ -110,11 +110,24 @@ pub(crate) fn put_shown_memory(out: &mut Vec<u8>, machine: &Machine) -> Result<(
     ensures short { OnOk result (length out.new.items ≤ length out.old.items + 23 * 32768) }
 {
     for sector in 0..Address::SECTORS {
-        if !machine.is_blank(sector) {
+        if has_words(machine, sector) {
             put_shown_sector(out, machine, sector)?;
         }
     }
     Ok(())
+}
+
+/// May a sector, of the 128 in the order of addresses, have lines? False says that its bank isn't there, or that each of its words is known to
+/// be 0.
+fn has_words(machine: &Machine, sector: usize) -> bool
+    requires { sector < 128 }
+    ensures { result ≡ false → (o : Trial) (first : Voted) (n : ℕ) (ds : List Device) → StandsFrom o first n machine.now ds → (number : ℕ) → number / 256 ≡ sector
+        → shown_line machine.now.banks o (state_from machine.now.end machine.now.mode o first n) number ≡ [] }
+{
+    if !machine.banks().has(Address::numbered(256 * sector)) {
+        return false;
+    }
+    !machine.is_blank(sector)
 }
 
 /// Adds the lines of a sector, of the 128 in the order of addresses.
@@ -126,7 +139,9 @@ fn put_shown_sector(out: &mut Vec<u8>, machine: &Machine, sector: usize) -> Resu
     ensures short { OnOk result (length out.new.items ≤ length out.old.items + 23 * 256) }
 {
     for number in 256 * sector..256 * sector + 256 {
-        put_shown_line(out, machine, Address::numbered(number))?;
+        if !machine.is_zero(number) {
+            put_shown_line(out, machine, Address::numbered(number))?;
+        }
     }
     Ok(())
 }

@@ -7,10 +7,10 @@ ghost use Rattle.lvdc_map.specs.Banks.{IsPlace};
 ghost use Rattle.lvdc_twin.specs.Store.{IsStore, stored_in, stuck_in, is_dead, selected_in, shown_in, with_cell, with_stuck_bits, with_dead};
 ghost use Rattle.lvdc_twin.specs.Calls.{ChangesAreLocal};
 
-use crate::twins::slot;
+use crate::twins::{PLACES, slot};
 use crate::{Stuck, Twins};
 use lvdc_map::Address;
-use lvdc_word::Cell;
+use lvdc_word::{Cell, Word};
 
 impl Twins {
     /// What a twin shows at a physical place.
@@ -42,6 +42,29 @@ impl Twins {
             let stuck = self.stuck_at(twin, at);
             self.cells.at(slot(twin, at)).stuck(stuck.mask, stuck.value)
         }
+    }
+
+    /// Does each twin show the cell of the word 0 at a place, of the 16,384 in their order? False says nothing where anything is stuck or dead.
+    #[inline(always)]
+    pub fn is_zero(&self, number: usize) -> bool
+        requires { number < 16384 }
+        ensures { result ≡ true → (twin : ℕ) → twin < 2 → (place : Spot) → IsPlace place → number_of place ≡ number
+            → shown_in self.now twin place ≡ code_of 0 }
+    {
+        if !self.bare {
+            return false;
+        }
+        self.stores_zero(0, number) && self.stores_zero(1, number)
+    }
+
+    /// Does a twin store the cell of the word 0 at a place, of the 16,384 in their order?
+    #[inline(always)]
+    fn stores_zero(&self, twin: u8, number: usize) -> bool
+        requires twin { twin < 2 }
+        requires number { number < 16384 }
+        ensures { result ≡ true → (place : Spot) → IsPlace place → number_of place ≡ number → stored_in self.now twin place ≡ code_of 0 }
+    {
+        self.cells.at(usize::from(twin) * PLACES + number) == Cell::encode(Word::ZERO)
     }
 
     /// Does each twin show the cell of the word 0 at each place of a sector, of the 64 in the order of places? False says nothing: it tells

@@ -1,5 +1,5 @@
 -- A sector in which every word is 0 has no line.
-use Rattle.std.proofs.Common.{◌≡◌, ℕ, ◌+◌, ◌*◌, ◌<◌, ◌++◌, [], length, true, sym, ap, ◌∙◌, arith, rules}
+use Rattle.std.proofs.Common.{◌≡◌, ◌+◌, ◌*◌, ◌++◌, length, true, sym, ap, ◌∙◌, arith, rules}
 use Rattle.lvdc_lines.specs.Noted.{lines_below}
 use Rattle.lvdc_lines.proofs.LineLists.{lines_below_none, lines_below_blank}
 use Rattle.lvdc_report.specs.Report.{plain_line}

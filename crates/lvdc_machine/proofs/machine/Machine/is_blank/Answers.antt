@@ -1,5 +1,5 @@
 -- The memory has nothing there but 0, which is known.
-use Rattle.std.proofs.Common.{◌∙◌, true, sym}
+use Rattle.std.proofs.Common.{true, sym}
 use Rattle.lvdc_machine.proofs.Telling.{known-is, shown-known}
 use Rattle.lvdc_machine.proofs.machine.Machine.is_blank.Goals as goal
 
