@@ -10,9 +10,9 @@ use Rattle.lvdc_fault.specs.declared.event.Event.TheVariants.{Flip, Damage}
 use Rattle.lvdc_fault.specs.declared.verdict.Verdict.TheVariants as verdicts
 use Rattle.lvdc_model.specs.declared.outcome.Outcome.TheVariants as outcomes
 use Rattle.lvdc_model.specs.Exchanges.{stop_of}
-use Rattle.lvdc_model.specs.Judging.{first_bad}
+use Rattle.lvdc_model.specs.Judging.{first_bad, is_begun, is_recoverable_after}
 use Rattle.lvdc_model.specs.Runs.{through, guarded}
-use Rattle.lvdc_model.specs.Trial.{Trial, read_at}
+use Rattle.lvdc_model.specs.Trial.{Trial, plugged_in, read_at}
 use Rattle.lvdc_model.specs.Voted.{voted_bus}
 use Rattle.lvdc_model.proofs.LedgerRows.{trial, sum, load, at}
 use Rattle.lvdc_model.proofs.VotedRows.{a_of}
@@ -36,6 +36,12 @@ ports_of_a_guarded_run : ((guarded (ported []) 9).log ≡ record { time = 0; por
     × ((guarded (ported []) 9).devices ≡ record { port = 0; kind = Tape; state = [] } ∷ record { port = 0o17; kind = Recorder; state = 0o20 ∷ [] } ∷ [])
 unfolding with_stuck majority flipped
 ports_of_a_guarded_run = (refl, refl)
+
+-- in each step of a time they are those before its exchange
+devices_of_a_step : (plugged_in (ported []) 2 ≡ record { port = 0; kind = Tape; state = 0o10 ∷ 0o20 ∷ [] }
+    ∷ record { port = 0o17; kind = Recorder; state = [] } ∷ [])
+    × (plugged_in (ported []) 3 ≡ record { port = 0; kind = Tape; state = 0o20 ∷ [] } ∷ record { port = 0o17; kind = Recorder; state = [] } ∷ [])
+devices_of_a_step = (refl, refl)
 
 -- from its time on an unplugged tape answers 0
 a_tape_is_unplugged : ((guarded (ported (record { port = 0; time = 1 } ∷ [])) 6).log ≡ record { time = 0; port = 0; reading = true; word = 0o10 }
@@ -107,3 +113,15 @@ a_bad_step_after_the_stop : (first_bad (bad_and_stopped 3) 2 ≡ verdicts.Admiss
     × ((guarded (bad_and_stopped 3) 6).end ≡ Some (outcomes.Stopped 2 stops.Shift))
 unfolding with_stuck majority flipped
 a_bad_step_after_the_stop = (refl, refl)
+
+-- the last step of the time that stops is begun, and none after it
+begun_up_to_the_stop : (is_begun (bad_and_stopped 2) 2 ≡ true) × (is_begun (bad_and_stopped 2) 3 ≡ false)
+begun_up_to_the_stop = (refl, refl)
+
+-- ---- which words can be recovered at an end
+
+-- damage of the last step made counts, and of none after it
+damage_in_the_last_step : (is_recoverable_after (load (Damage 0 (at 1 0) 5 3 ∷ [])) 6 (at 1 0) ≡ false)
+    × (is_recoverable_after (load (Damage 0 (at 1 0) 6 3 ∷ [])) 6 (at 1 0) ≡ true)
+unfolding with_stuck
+damage_in_the_last_step = (refl, refl)

@@ -8,7 +8,7 @@ use Rattle.lvdc_vote.specs.Bits.{majority, flipped}
 use Rattle.lvdc_fault.specs.declared.event.Event.{Event}
 use Rattle.lvdc_fault.specs.declared.event.Event.TheVariants.{Damage, Stick, Dead}
 use Rattle.lvdc_fault.specs.declared.verdict.Verdict.TheVariants as verdicts
-use Rattle.lvdc_model.specs.CellsBefore.{cell_before, shown_at}
+use Rattle.lvdc_model.specs.CellsBefore.{cell_before, shown_at, shown_with}
 use Rattle.lvdc_model.specs.Judging.{first_bad}
 use Rattle.lvdc_model.specs.Runs.{guarded}
 use Rattle.lvdc_model.specs.Trial.{Trial}
@@ -98,3 +98,8 @@ it_is_stored_in_twin_1 : (memory.word_at (guarded (bank_4 []) 6).intended (in_ba
     × (cell_at (guarded (bank_4 []) 6).twins 1 (in_bank_4 1) ≡ code_of 7) × (cell_at (guarded (bank_4 []) 6).twins 0 (at 1 1) ≡ code_of 0)
 unfolding with_stuck majority flipped
 it_is_stored_in_twin_1 = (refl, refl, refl)
+
+-- what sticks in twin 1 at the place of pair 0 is shown of bank 4
+it_is_shown_by_twin_1 : shown_with (bank_4 (Stick 1 (at 1 0) 0 9 1 0 ∷ [])) 1 1 (in_bank_4 0) (code_of 7) ≡ bit_xor (code_of 7) 1
+unfolding with_stuck
+it_is_shown_by_twin_1 = refl

@@ -55,6 +55,10 @@ plain_run : shown_plainly (plain_at program 40) ≡ (
 unfolding with_stuck majority flipped
 plain_run = refl
 
+forty_times_are_made : (plain_at program 40).times ≡ 40
+unfolding with_stuck majority flipped
+forty_times_are_made = refl
+
 -- the voted A of a voted state, its counts and its devices
 abbrev pub shown_voted : Voted → ℕ × List (List ℕ) × List Device
 shown_voted v = (a_of v, v.counts, v.devices)
