@@ -34,7 +34,7 @@ use Rattle.lvdc_command_run.specs.declared.job.Engine.TheVariants.{Guarded}
 use Rattle.lvdc_command_run.specs.declared.job.Job.{Job}
 use Rattle.lvdc_command_run.specs.declared.job.Job.TheVariants as job
 use Rattle.lvdc_command_run.specs.Trials.{trial_of}
-use Rattle.lvdc_command_run.specs.Headline.{Headline}
+use Rattle.lvdc_command_run.specs.Headline.{HeadlineFor}
 use Rattle.lvdc_command_run.proofs.Statuses.{refusal_is}
 use Rattle.lvdc_command_run.specs.Answers.{job_answer}
 use Rattle.lvdc_command_run.specs.Runs.{HasRunThat}
@@ -65,7 +65,7 @@ pub record RunSays (P : Job → Trial → ℕ → Type 0) (Q : Option Outcome �
 abbrev pub HeadlineTold : Type 0
 HeadlineTold =
     (bytes : List ℕ) (devices : List Device) (deck : Deck) → deck_of bytes devices false ≡ Ok deck
-    → Headline (trial_of devices deck) deck.count (job_answer (job.Deck Guarded) bytes devices)
+    → HeadlineFor (trial_of devices deck) deck.count (job_answer (job.Deck Guarded) bytes devices)
 
 -- ---- commands that take no device
 
@@ -177,9 +177,9 @@ command_is P Q n law (Expand f) bytes devices h = absurd h
 
 command_headline : HeadlineTold → (command : Command) (bytes : List ℕ) (devices : List Device) (deck : Deck) → command ≡ Run Guarded
     → deck_of bytes devices false ≡ Ok deck
-    → Headline (trial_of devices deck) deck.count (command_answer command bytes devices)
+    → HeadlineFor (trial_of devices deck) deck.count (command_answer command bytes devices)
 command_headline law command bytes devices deck is means =
-    subst (λ (c : Command). Headline (trial_of devices deck) deck.count (command_answer c bytes devices)) (sym is)
+    subst (λ (c : Command). HeadlineFor (trial_of devices deck) deck.count (command_answer c bytes devices)) (sym is)
     (law bytes devices deck means)
 
 -- ---- the same of a reply
@@ -187,9 +187,9 @@ command_headline law command bytes devices deck is means =
 module _ {B : Type 0} {device_of : B → Device} {faults : B → ℕ} (command : Command) (bytes : List ℕ) {old new : List B} where
   pub reply_headline : HeadlineTold → (a : Answer) → a.status ≢ 10 → IsReplyTo device_of faults command bytes old new a
       → (deck : Deck) → command ≡ Run Guarded → deck_of bytes (map device_of old) false ≡ Ok deck
-      → Headline (trial_of (map device_of old) deck) deck.count a
+      → HeadlineFor (trial_of (map device_of old) deck) deck.count a
   reply_headline law a free h deck is means =
-      subst (λ (x : Answer). Headline (trial_of (map device_of old) deck) deck.count x) (sym (reply_answer a free h))
+      subst (λ (x : Answer). HeadlineFor (trial_of (map device_of old) deck) deck.count x) (sym (reply_answer a free h))
       (command_headline law command bytes (map device_of old) deck is means)
 
   pub reply_runs : (P : Job → Trial → ℕ → Type 0) (Q : Option Outcome → Type 0) (n : ℕ) → (n ≡ 5) ⊎ (n ≡ 6) → StatusSays P Q n → (a : Answer) → a.status ≡ n

@@ -30,7 +30,7 @@ IsAnswerOf device_of command bytes old new reply =
 abbrev pub IsHeadlineOf : {B : Type 0} → (B → Device) → Command → List ℕ → List B → List B → Reply → Type 0
 IsHeadlineOf device_of command bytes old new reply =
     reply.status ≢ 10 → (deck : Deck) → command ≡ Run Guarded → deck_of bytes (map device_of old) false ≡ Ok deck
-    → Headline (trial_of (map device_of old) deck) deck.count (answer_of reply (map device_of new))
+    → Headline (trial_of (map device_of old) deck) deck.count reply.status reply.text (map device_of new)
 
 -- what is true of the input, the devices and the reply beside the answer
 abbrev pub HoldsOf : {B : Type 0} → (B → Device) → Command → List ℕ → List B → List B → Reply → Type 0

@@ -115,7 +115,7 @@ pub record CarriesHeadline {B : Type 0} (device_of : B → Device) (before after
   pub text : List ℕ
   pub written : Appends before.sink.written after.sink.written text
   pub headline : (deck : Deck) → deck_of bytes (map device_of before.devices) false ≡ Ok deck
-      → Headline (trial_of (map device_of before.devices) deck) deck.count (answer_with result text (map device_of after.devices))
+      → Headline (trial_of (map device_of before.devices) deck) deck.count result text (map device_of after.devices)
 
 -- ---- statuses
 

@@ -15,7 +15,7 @@ use Rattle.lvdc_command_run.specs.declared.job.Engine.TheVariants.{Guarded}
 use Rattle.lvdc_command_run.specs.declared.job.Job.{Job}
 use Rattle.lvdc_command_run.specs.declared.job.Job.TheVariants as job
 use Rattle.lvdc_command_run.specs.Trials.{trial_of}
-use Rattle.lvdc_command_run.specs.Headline.{Headline}
+use Rattle.lvdc_command_run.specs.Headline.{HeadlineFor}
 use Rattle.lvdc_deck.specs.Faults.{name_of, line_of}
 use Rattle.lvdc_command_run.specs.Refusals.{refusal_status, refused_answer}
 use Rattle.lvdc_command_run.specs.Answers.{run_answer, failed_answer, deck_answer, job_answer}
@@ -116,10 +116,10 @@ pub job_is : (P : Job → Trial → ℕ → Type 0) (n : ℕ)
 job_is P n law j bytes devices h =
     ap (λ (a : Answer). a.status) (sym (job_answer-ran j bytes devices h.deck h.means)) ∙ law j (trial_of devices h.deck) h.deck.count h.comes
 
-account-headline : (o : Trial) (n : ℕ) → Headline o n (run_answer (job.Deck Guarded) o n)
+account-headline : (o : Trial) (n : ℕ) → HeadlineFor o n (run_answer (job.Deck Guarded) o n)
 account-headline o n =
     record {
-      status = refl;
+      is_status = refl;
       counts = (guarded o (3 * n)).counts;
       repairs = (guarded o (3 * n)).repairs;
       report = refl;
@@ -128,7 +128,7 @@ account-headline o n =
 
 -- the headline of a deck
 pub job-headline : (bytes : List ℕ) (devices : List Device) (deck : Deck) → deck_of bytes devices false ≡ Ok deck
-    → Headline (trial_of devices deck) deck.count (job_answer (job.Deck Guarded) bytes devices)
+    → HeadlineFor (trial_of devices deck) deck.count (job_answer (job.Deck Guarded) bytes devices)
 job-headline bytes devices deck means =
-    subst (λ (a : Answer). Headline (trial_of devices deck) deck.count a) (job_answer-ran (job.Deck Guarded) bytes devices deck means)
+    subst (λ (a : Answer). HeadlineFor (trial_of devices deck) deck.count a) (job_answer-ran (job.Deck Guarded) bytes devices deck means)
     (account-headline (trial_of devices deck) deck.count)

@@ -3,6 +3,7 @@
 -- fault-free instruction table on the deck's image; the first inadmissible step ends the run, and the report names that step and
 -- its cause after that same run so far.
 use Rattle.std.specs.Prelude.{◌≡◌, ℕ, List, ◌++◌}
+use Rattle.lvdc_port.specs.Device.{Device}
 use Rattle.lvdc_model.specs.Trial.{Trial}
 use Rattle.lvdc_model.specs.declared.repair.Repair.{Repair}
 use Rattle.lvdc_lines.specs.Noted.{log_text, repairs_text}
@@ -20,9 +21,13 @@ account_front o told =
 
 -- the headline of a trial of so many times: status, text and devices are those of the account of plain run and script; behind its
 -- report stand some counts and repairs, which are left open here and said by the clause `answer`
-pub record Headline (o : Trial) (n : ℕ) (answer : Answer) : Type 0 where
-  pub status : answer.status ≡ end_status (account o n).end
+pub record Headline (o : Trial) (n status : ℕ) (text : List ℕ) (devices : List Device) : Type 0 where
+  pub is_status : status ≡ end_status (account o n).end
   pub counts : List (List ℕ)
   pub repairs : List Repair
-  pub report : answer.text ≡ account_front o (account o n) ++ wrong_text counts ++ repairs_text repairs
-  pub left : answer.devices ≡ (account o n).devices
+  pub report : text ≡ account_front o (account o n) ++ wrong_text counts ++ repairs_text repairs
+  pub left : devices ≡ (account o n).devices
+
+-- the headline of an answer
+abbrev pub HeadlineFor : Trial → ℕ → Answer → Type 0
+HeadlineFor o n answer = Headline o n answer.status answer.text answer.devices

@@ -11,7 +11,7 @@ ghost use Rattle.lvdc_deck.specs.Deck.{deck_of};
 ghost use Rattle.lvdc_deck.specs.Loading.{source_in, HasLines};
 ghost use Rattle.lvdc_deck.specs.declared.deck.Deck.{Deck};
 ghost use Rattle.lvdc_command_run.specs.Trials.{trial_of};
-ghost use Rattle.lvdc_command_run.specs.Headline.{Headline};
+ghost use Rattle.lvdc_command_run.specs.Headline.{HeadlineFor};
 ghost use Rattle.lvdc_command_run.specs.Loaded.{StartsWith};
 ghost use Rattle.lvdc_command_run.specs.Answers.{guarded_answer, run_answer, job_answer};
 ghost use Rattle.lvdc_command_run.specs.Runs.{Judges, Stops, HasRunThat};
@@ -24,7 +24,7 @@ use lvdc_deck::source_is_assembled;
 /// The answer of `run` to a deck carries the headline.
 pub fn headline_told()
     ensures { (bytes : List ℕ) (devices : List Device) (deck : Deck) → deck_of bytes devices false ≡ Ok deck →
-        Headline (trial_of devices deck) deck.count (job_answer (jobs.Deck engines.Guarded) bytes devices) }
+        HeadlineFor (trial_of devices deck) deck.count (job_answer (jobs.Deck engines.Guarded) bytes devices) }
 {}
 
 /// What `run` answers of a trial is what the voted machine's own state tells after the guarded run.

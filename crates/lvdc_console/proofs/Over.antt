@@ -68,7 +68,7 @@ pub headline_over : {B : Type 0} {device_of : B → Device} {source rest : Sourc
     → CarriesHeadlineOver devices source rest sink now status
 headline_over {device_of} {old} {new} {status} devices is h =
     let P : List Device → List Device → Type 0 = λ before after. (deck : Deck) → deck_of h.bytes before false ≡ Ok deck
-    → Headline (trial_of before deck) deck.count (answer_with status h.text after) in
+    → Headline (trial_of before deck) deck.count status h.text after in
     record {
       left = map device_of new;
       headline = record {
@@ -96,7 +96,7 @@ pub replied_over_rack : {B : Type 0} (device_of : B → Device) (faults : B → 
     → IfOk result (λ reply. IsReplyTo device_of faults command bytes old new (answer_with reply.status reply.text (map device_of new)))
     → IfOk result (λ reply. HoldsFor command bytes (map device_of old) (answer_with reply.status reply.text (map device_of new)))
     → IfOk result (λ reply. reply.status ≢ 10 → (deck : Deck) → command ≡ Run Guarded → deck_of bytes (map device_of old) false ≡ Ok deck
-    → Headline (trial_of (map device_of old) deck) deck.count (answer_with reply.status reply.text (map device_of new)))
+    → Headline (trial_of (map device_of old) deck) deck.count reply.status reply.text (map device_of new))
     → IfOk result (λ reply. IsReplied devices command bytes reply.status reply.text × (reply.status ≢ 10))
 replied_over_rack device_of faults command bytes (Err e) old new devices is sound reply holds headline = tt
 replied_over_rack device_of faults command bytes (Ok it) old new devices is sound reply holds headline =

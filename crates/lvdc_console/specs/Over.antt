@@ -26,7 +26,7 @@ pub record IsReplied (devices : List Device) (command : Command) (bytes : List �
   pub is_reply : answer_with status text left ≡ command_answer command bytes devices
   pub holds : HoldsFor command bytes devices (answer_with status text left)
   pub headline : (deck : Deck) → command ≡ Run Guarded → deck_of bytes devices false ≡ Ok deck
-      → Headline (trial_of devices deck) deck.count (answer_with status text left)
+      → Headline (trial_of devices deck) deck.count status text left
 
 -- The status and the text that are due over these devices, none of which ever fails, by the words and by the source before and after:
 -- the cases of the top call.

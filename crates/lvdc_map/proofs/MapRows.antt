@@ -3,7 +3,7 @@ use Rattle.std.proofs.Common.{◌≡◌, ℕ, refl, true, false, ◌∷◌, []}
 use Rattle.lvdc_map.specs.Address.{Spot}
 use Rattle.lvdc_map.specs.Banks.{union, bank_of, is_there, home, holds, held_at}
 use Rattle.lvdc_map.specs.Hop.{hop_of, word_of_hop, after}
-use Rattle.lvdc_map.specs.Memory.{word_at, memory_of, are_rising}
+use Rattle.lvdc_map.specs.Memory.{word_at, filled_with, memory_of, are_rising}
 use Rattle.lvdc_map.specs.Place.{a9, place_of}
 use Rattle.lvdc_map.specs.declared.place.Place.TheVariants as place
 use Rattle.lvdc_map.specs.declared.placed.Placed.{Placed}
@@ -95,6 +95,9 @@ the_later_word_of_two = refl
 
 zero_where_no_word_is : word_at (memory_of (placed 0 5 1 ∷ [])) (in_three 1 5) ≡ 0
 zero_where_no_word_is = refl
+
+one_word_everywhere : word_at (filled_with 7) (in_three 1 5) ≡ 7
+one_word_everywhere = refl
 
 -- ---- operand addresses, in data module 3 and sector 06
 

@@ -27,7 +27,7 @@ loaded (p ∷ ps) memory = loaded ps (stored memory p.at p.word)
 
 -- the memory that an image makes: its words, and 0 elsewhere
 abbrev pub memory_of : List Placed → Memory
-memory_of image = loaded image (filled_with 0)
+memory_of image = loaded image (λ _. 0)
 
 -- the list holds the memory's word at the number of each address
 pub record IsMemory (words : List ℕ) (m : Memory) : Type 0 where
