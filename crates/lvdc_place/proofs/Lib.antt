@@ -10,6 +10,7 @@ mod Rows
 pub mod Runs
 pub mod Sizes
 pub mod Starts
+pub mod Steps
 pub mod Tables
 pub mod Walks
 pub mod Whole

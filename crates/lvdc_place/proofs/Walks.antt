@@ -1,5 +1,5 @@
 -- Blocks that are placed one by one.
-use Rattle.std.proofs.Common.{◌≡◌, ℕ, ◌+◌, ◌<◌, List, [], ◌∷◌, ◌++◌, length, get_or, drop, take, Ok, Result, sym, ap, ◌∙◌, arith}
+use Rattle.std.proofs.Common.{◌≡◌, ℕ, ◌+◌, ◌<◌, List, [], ◌∷◌, ◌++◌, length, get_or, drop, take, Ok, Err, Result, refl, sym, ap, ◌∙◌, arith}
 use Rattle.std.specs.Prelude.{All}
 use Rattle.std.proofs.lemmas.List.{take_more}
 use Rattle.std.proofs.lemmas.List.Elements.{All-push, All-same}
@@ -30,6 +30,19 @@ places_with-more blocks i block so_far now all h is stands old =
     ap (λ (r : Result Places PlaceFault). places_with_all r (drop (i + 1) blocks)) (sym stands)
     ∙ ap (places_with_all (Ok so_far)) (sym (drop-at blocks i block h is))
     ∙ old
+
+-- the first block that can't stand
+pub places_with-fails : (blocks : List Block) (i : ℕ) (block : Block) (so_far : Places) (fault : PlaceFault) (all : Result Places PlaceFault) → i < length blocks
+    → block ≡ get_or blocks i block → places_with so_far block block.site.at ≡ Err fault → places_with_all (Ok so_far) (drop i blocks) ≡ all → all ≡ Err fault
+places_with-fails blocks i block so_far fault all h is fails old =
+    sym old
+    ∙ ap (places_with_all (Ok so_far)) (drop-at blocks i block h is)
+    ∙ ap (λ (r : Result Places PlaceFault). places_with_all r (drop (i + 1) blocks)) fails
+    ∙ failed (drop (i + 1) blocks)
+  where
+    failed : (rest : List Block) → places_with_all (Err fault) rest ≡ Err fault
+    failed [] = refl
+    failed (b ∷ bs) = refl
 
 -- one more block fits
 pub fits-more : (blocks : List Block) (i : ℕ) (block : Block) → i < length blocks → block ≡ get_or blocks i block → FitsFixed block → All FitsFixed (take i blocks) → All FitsFixed (take (i + 1) blocks)

@@ -10,7 +10,6 @@ use std::alloc::Global;
 /// How many locations a sector has.
 pub(crate) const SECTOR: u16 = 256;
 
-#[derive(Debug)]
 /// What a block is made of.
 #[derive(Clone, Copy)]
 pub(crate) enum Kind {
@@ -20,7 +19,6 @@ pub(crate) enum Kind {
     Words(Slot),
 }
 
-#[derive(Debug)]
 /// What a directive begins.
 #[derive(Clone, Copy)]
 pub(crate) struct Site {
@@ -29,7 +27,6 @@ pub(crate) struct Site {
     pub(crate) at: Option<Slot>,
 }
 
-#[derive(Debug)]
 /// A block of a program.
 #[derive(Clone, Copy)]
 pub(crate) struct Block {
@@ -114,14 +111,16 @@ pub(crate) fn blocks_of(alloc: Global, items: &[Item]) -> Result<Vec<Block>, NoM
 {
     let mut blocks = Vec::new(alloc);
     for (index, item) in items.iter().enumerate() {
-        if let Some(site) = site_of(&item.body) {
-            let size = size_ahead(&items[index + 1..]);
-            blocks.push(Block {
-                line: item.line,
-                site,
-                size,
-            })?;
-        }
+        let site = match site_of(&item.body) {
+            Some(site) => site,
+            None => continue,
+        };
+        let size = size_ahead(&items[index + 1..]);
+        blocks.push(Block {
+            line: item.line,
+            site,
+            size,
+        })?;
     }
     Ok(blocks)
 }

@@ -6,7 +6,7 @@ use std::alloc::AllocFailed;
 use thiserror::Error;
 
 /// Why a program can't be placed. Each cause but the want of memory names the line of a block's directive.
-#[derive(Clone, Copy, Debug, PartialEq, Eq, Error)]
+#[derive(Clone, Copy, Debug, Error)]
 pub enum PlaceFault {
     /// There was no memory for the places.
     #[error("no memory")]

@@ -3,7 +3,6 @@ ghost use Rattle.std.specs.Prelude.{◌≡◌, ◌+◌, ◌<◌};
 use lvdc_map::Address;
 use std::marker::Model;
 
-#[derive(Debug)]
 /// A syllable of a word of memory, in pairs 0 to 3. Slots are ordered by pair, sector, syllable and location.
 #[derive(Clone, Copy)]
 pub(crate) struct Slot {

@@ -12,7 +12,7 @@ use lvdc_word::NoMemory;
 use std::alloc::Global;
 
 /// Where a line of a program stands.
-#[derive(Clone, Copy, PartialEq, Eq)]
+#[derive(Clone, Copy)]
 pub struct Spot {
     /// The word, or the first word of room; a pair below 4.
     pub at: Address,
@@ -64,9 +64,9 @@ pub(crate) fn spots_of(
             first = places[begun];
             begun += 1;
             offset = 0;
-        } else {
-            offset += size_of(&item.body);
+            continue;
         }
+        offset += size_of(&item.body);
     }
     Ok(spots)
 }
