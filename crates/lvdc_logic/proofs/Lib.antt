@@ -1,6 +1,7 @@
 pub mod HurtsFit
 pub mod Differing
 pub mod Listed
+pub mod Named
 pub mod Numbers
 pub mod Under
 pub mod Commits

@@ -1,10 +1,10 @@
 -- Where no copy of a module differs from the vote, each is what the vote is.
-use Rattle.std.proofs.Common.{◌≡◌, ℕ, zero, suc, ◌<◌, Bool, true, false, not, ◌&&◌, List, ◌∷◌, [], map, refl, arith}
+use Rattle.std.proofs.Common.{◌≡◌, ℕ, zero, suc, ◌<◌, Bool, true, false, not, ◌&&◌, ◌∷◌, [], refl, arith}
 use Rattle.std.proofs.lemmas.Bool.{and_parts}
 use Rattle.lvdc_vote.specs.Copies.{Copies, copy_of, vote_of, differs_of}
 use Rattle.lvdc_vote.specs.Latches.{same_words}
 use Rattle.lvdc_vote.proofs.Votes.{same_words-Decides}
-use Rattle.lvdc_logic.specs.Latching.{copies_in, AreAlike}
+use Rattle.lvdc_logic.specs.Latching.{AreAlike}
 use Rattle.lvdc_logic.specs.declared.triples.Triples.{Triples}
 
 abbrev pub IsUnanimous : Copies → Type 0

@@ -1,5 +1,5 @@
 -- No copy of any module differs from its vote.
-use Rattle.std.proofs.Common.{◌≡◌, ◌&&◌, true, sym, ◌∙◌}
+use Rattle.std.proofs.Common.{◌&&◌, sym, ◌∙◌}
 use Rattle.std.proofs.lemmas.Bool.{and_parts}
 use Rattle.lvdc_logic.proofs.Unanimous.{are-alike}
 use Rattle.lvdc_logic.proofs.triples.Triples.are_alike.Goals as goal

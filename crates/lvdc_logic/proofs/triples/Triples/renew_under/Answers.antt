@@ -1,4 +1,4 @@
-use Rattle.std.proofs.Common.{arith, ap}
+use Rattle.std.proofs.Common.{[], ◌∷◌, arith, ap}
 use Rattle.std.specs.Prelude.{◌^◌}
 use Rattle.lvdc_modules.specs.States.{timer_of, locator_of, decoder_of, selector_of, accumulator_of, multiplier_of, exchange_of}
 use Rattle.lvdc_logic.specs.Counts.{counts_in}
@@ -39,3 +39,31 @@ returns-clause-votes c = λ i.
       memory = c.args.next.now.memory;
       port = c.args.next.now.port;
     }
+
+pub returns-clause-value : goal.returns-clause-value
+returns-clause-value c = λ i.
+    record {
+      timer = c.renew.ensures.value i;
+      locator = c.renew-2.ensures.value i;
+      decoder = c.renew-3.ensures.value i;
+      selector = c.renew-4.ensures.value i;
+      accumulator = c.renew-5.ensures.value i;
+      multiplier = c.renew-6.ensures.value i;
+      exchange = c.renew-7.ensures.value i;
+    }
+
+pub returns-clause-counts : goal.returns-clause-counts
+returns-clause-counts c = λ i.
+    c.renew.ensures.counts i ∷ c.renew-2.ensures.counts i ∷ c.renew-3.ensures.counts i ∷ c.renew-4.ensures.counts i
+    ∷ c.renew-5.ensures.counts i ∷ c.renew-6.ensures.counts i ∷ c.renew-7.ensures.counts i ∷ []
+
+pub returns-clause-sized : goal.returns-clause-sized
+returns-clause-sized c = record {
+  timer = c.renew.ensures.sized;
+  locator = c.renew-2.ensures.sized;
+  decoder = c.renew-3.ensures.sized;
+  selector = c.renew-4.ensures.sized;
+  accumulator = c.renew-5.ensures.sized;
+  multiplier = c.renew-6.ensures.sized;
+  exchange = c.renew-7.ensures.sized;
+}
