@@ -49,3 +49,12 @@ returns-clause-changes c =
     let every = c.args.by.now.events.now in
     subst (λ (es : List Event). Changes every c.args.by.now.step c.args.by.now.damaged (new_events c.args.by.now.last c.args.by.now.step es) c.args.self.now.twins c.loop-number.self.twins)
     (all-parts every c.args.by.now.parts.now c.loop-number.number c.requires.parts (omega (arith, c.loop-number-test.false))) c.loop-number.invariant.changes
+
+pub part_of-requires : goal.part_of-requires
+part_of-requires c = omega (arith, c.requires.parts.few, c.loop-number-test.true)
+
+pub change_part-requires-clause-right : goal.change_part-requires-clause-right
+change_part-requires-clause-right c = c.requires.right
+
+pub change_part-requires-clause-parts : goal.change_part-requires-clause-parts
+change_part-requires-clause-parts c = c.requires.parts
