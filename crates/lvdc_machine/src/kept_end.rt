@@ -6,7 +6,7 @@ use lvdc_model::Outcome;
 use lvdc_plain::Stop;
 
 /// An end that a machine keeps: each outcome but `Done`, which is the answer where none has come.
-#[derive(Clone, Copy, PartialEq, Eq)]
+#[derive(Clone, Copy)]
 pub(crate) enum KeptEnd {
     Stopped { step: u64, stop: Stop },
     Inadmissible(Verdict),

@@ -7,7 +7,7 @@ use lvdc_word::Word;
 
 /// What a step made: its exchange by the votes, the word that a read of memory or of a port brought, 0 where nothing is read, and the
 /// repair that the read noted.
-#[derive(Clone, Copy, PartialEq, Eq)]
+#[derive(Clone, Copy)]
 pub struct Made {
     pub wanted: Wanted,
     pub word: Word,

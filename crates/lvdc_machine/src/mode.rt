@@ -11,7 +11,7 @@ pub enum Mode {
 }
 
 /// For how many exchanges a machine has room.
-#[derive(Clone, Copy, PartialEq, Eq)]
+#[derive(Clone, Copy)]
 pub enum Pace {
     /// One port exchange and two repairs in each instruction time.
     ByTime,

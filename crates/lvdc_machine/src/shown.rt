@@ -1,8 +1,7 @@
 use lvdc_word::Word;
 
-#[derive(Debug)]
 /// What can be told of the word at an address.
-#[derive(Clone, Copy, PartialEq, Eq)]
+#[derive(Clone, Copy)]
 pub enum Shown {
     /// The intended word, which can be recovered.
     Known(Word),

@@ -20,3 +20,16 @@ returns-in-Some-clause-shows g c = λ o v h. c.take.ensures.shows o v _ h
 
 pub returns-in-Some-clause-told : goal.returns-in-Some-clause-told
 returns-in-Some-clause-told g c = λ o v h. c.take.ensures.told o v _ h
+
+pub returns-in-Some-clause-made : goal.returns-in-Some-clause-made
+returns-in-Some-clause-made g c = c.take.ensures.made
+
+pub returns-in-Some-clause-since : goal.returns-in-Some-clause-since
+returns-in-Some-clause-since g c = since-start
+
+pub returns-in-Some-clause-fit : goal.returns-in-Some-clause-fit
+returns-in-Some-clause-fit g c =
+    fit-made (λ b. (goal.PortDevice-dyn g (b.vtable, b.value)).device_of b.value) (λ b. (goal.PortDevice-dyn g (b.vtable, b.value)).spare b.value) c.args.self.now c.take.new.self c.args.devices.now.items c.requires.fit c.take.ensures.made
+
+pub returns-in_default-wanted : goal.returns-in_default-wanted
+returns-in_default-wanted g c = c.exchange_any.ensures

@@ -81,3 +81,13 @@ returns-in-Fetch-clause-fit g c =
 pub returns-in-Store-clause-fit : goal.returns-in-Store-clause-fit
 returns-in-Store-clause-fit g c =
     fit-made (λ b. (goal.PortDevice-dyn g (b.vtable, b.value)).device_of b.value) (λ b. (goal.PortDevice-dyn g (b.vtable, b.value)).spare b.value) c.args.self.now c.store.new.self c.args.devices.now.items c.requires.fit c.store.ensures.made
+
+pub returns-in-Operand-clause-made : goal.returns-in-Operand-clause-made
+returns-in-Operand-clause-made g c = c.read_any-in-Operand.ensures.made
+
+pub returns-in-Operand-clause-since : goal.returns-in-Operand-clause-since
+returns-in-Operand-clause-since g c = since-start
+
+pub returns-in-Operand-clause-fit : goal.returns-in-Operand-clause-fit
+returns-in-Operand-clause-fit g c =
+    fit-made (λ b. (goal.PortDevice-dyn g (b.vtable, b.value)).device_of b.value) (λ b. (goal.PortDevice-dyn g (b.vtable, b.value)).spare b.value) c.args.self.now c.read_any-in-Operand.new.self c.args.devices.now.items c.requires.fit c.read_any-in-Operand.ensures.made
