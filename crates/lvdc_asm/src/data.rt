@@ -5,7 +5,7 @@ use lvdc_source::Body;
 use std::marker::Model;
 
 /// The pair and the sector that a source assumes as data place.
-#[derive(Clone, Copy, PartialEq, Eq)]
+#[derive(Clone, Copy)]
 pub(crate) struct DataPlace {
     pub(crate) pair: u8,
     pub(crate) sector: u8,

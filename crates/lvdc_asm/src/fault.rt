@@ -10,7 +10,7 @@ use thiserror::Error;
 
 /// Why a text is no source that can be assembled. Each cause but the want of memory names the line of the first refusal,
 /// counted from 1.
-#[derive(Clone, Copy, Debug, PartialEq, Eq, Error)]
+#[derive(Clone, Copy, Debug, Error)]
 pub enum AsmFault {
     /// There was no memory for what is assembled.
     #[error("no memory")]

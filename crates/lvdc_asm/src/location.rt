@@ -5,7 +5,7 @@ use lvdc_word::{NoMemory, Syllable, Word};
 use std::alloc::Global;
 
 /// What a source puts into one location: syllable 1 and syllable 0, each where it is there.
-#[derive(Clone, Copy, PartialEq, Eq)]
+#[derive(Clone, Copy)]
 pub(crate) struct Location {
     pub(crate) one: Option<Syllable>,
     pub(crate) zero: Option<Syllable>,

@@ -13,7 +13,7 @@ use std::alloc::Global;
 use std::marker::Model;
 
 /// What a name stands for: the item that it labels, and the data place that is assumed there.
-#[derive(Clone, Copy, PartialEq, Eq)]
+#[derive(Clone, Copy)]
 pub(crate) struct Definition {
     pub(crate) item: usize,
     pub(crate) assumed: DataPlace,

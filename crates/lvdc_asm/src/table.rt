@@ -64,10 +64,12 @@ impl Table {
     {
         let mut words = Vec::new(alloc);
         for (place, location) in self.locations.iter().enumerate() {
-            if let Some(word) = location.word() {
-                let at = Address::numbered(place);
-                words.push(Placed { at, word })?;
-            }
+            let word = match location.word() {
+                Some(word) => word,
+                None => continue,
+            };
+            let at = Address::numbered(place);
+            words.push(Placed { at, word })?;
         }
         Ok(words)
     }

@@ -6,7 +6,7 @@ use lvdc_map::{Address, Hop};
 use std::marker::Model;
 
 /// Where the line that defines a name stands, with the syllable of code, and the data place that is assumed there.
-#[derive(Clone, Copy, PartialEq, Eq)]
+#[derive(Clone, Copy)]
 pub(crate) struct Target {
     pub(crate) at: Address,
     pub(crate) syl: Option<u8>,
