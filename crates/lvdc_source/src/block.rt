@@ -3,7 +3,6 @@ ghost use Rattle.lvdc_source.specs.Items.{block_after};
 
 use crate::Body;
 
-#[derive(Debug)]
 /// The kind of block that a line stands in.
 #[derive(Clone, Copy, PartialEq, Eq)]
 pub enum Block {

@@ -6,7 +6,7 @@ use std::alloc::AllocFailed;
 use thiserror::Error;
 
 /// Why a text is no source. Each cause but the want of memory names the line of the first refusal, counted from 1.
-#[derive(Clone, Copy, Debug, PartialEq, Eq, Error)]
+#[derive(Clone, Copy, Debug, Error)]
 pub enum SourceFault {
     /// There was no memory for the items.
     #[error("no memory")]
