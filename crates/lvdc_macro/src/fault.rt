@@ -7,7 +7,7 @@ use thiserror::Error;
 
 /// Why a source can't be expanded. Each cause but the want of memory names the source line of the first refusal, counted from 1:
 /// the outermost call for what stands in a body.
-#[derive(Clone, Copy, Debug, PartialEq, Eq, Error)]
+#[derive(Clone, Copy, Debug, Error)]
 pub enum MacroFault {
     /// There was no memory for the expansion.
     #[error("no memory")]
