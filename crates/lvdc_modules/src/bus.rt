@@ -6,7 +6,7 @@ use lvdc_word::Word;
 
 /// What a module reads in a phase: a state of each module, voted or of single copies, and the words that came from memory
 /// and port.
-#[derive(Clone, Copy, PartialEq, Eq)]
+#[derive(Clone, Copy)]
 pub struct Bus {
     pub timer: TimerState,
     pub locator: LocatorState,

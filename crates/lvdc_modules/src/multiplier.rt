@@ -11,7 +11,6 @@ use lvdc_mul::Unit;
 use lvdc_vote::{LogicModule, Vote, majority};
 use lvdc_word::Word;
 
-#[derive(Debug)]
 /// The latches of the multiplier.
 #[derive(Clone, Copy, PartialEq, Eq)]
 pub struct MultiplierState {

@@ -6,7 +6,7 @@ use lvdc_map::{Address, Banks, Hop, low_bits};
 use lvdc_word::Word;
 
 /// A word of memory by the number of its module, before the banks are known.
-#[derive(Clone, Copy, PartialEq, Eq)]
+#[derive(Clone, Copy)]
 pub struct Destination {
     /// The data module, 0 to 7.
     pub dmod: u8,
@@ -17,7 +17,7 @@ pub struct Destination {
 }
 
 /// What an instruction asks of memory or a port. Its word in the latch REQUEST is this project's profile.
-#[derive(Clone, Copy, PartialEq, Eq)]
+#[derive(Clone, Copy)]
 pub enum Request {
     /// No exchange.
     Nothing,

@@ -9,7 +9,7 @@ use lvdc_map::Hop;
 use lvdc_word::Syllable;
 
 /// A third of an instruction time.
-#[derive(Clone, Copy, PartialEq, Eq)]
+#[derive(Clone, Copy)]
 pub enum Phase {
     A,
     B,

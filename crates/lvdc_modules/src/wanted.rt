@@ -9,7 +9,7 @@ use lvdc_map::{Address, Banks, Place, operand_place};
 use lvdc_word::Word;
 
 /// The one exchange with memory or a port that a phase makes.
-#[derive(Clone, Copy, PartialEq, Eq)]
+#[derive(Clone, Copy)]
 pub enum Wanted {
     /// No exchange.
     Nothing,
