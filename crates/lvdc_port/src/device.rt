@@ -8,12 +8,12 @@ use lvdc_word::{NoMemory, Word};
 use thiserror::Error;
 
 /// A device did not answer. What it holds and its room are as before the call.
-#[derive(Clone, Copy, Debug, PartialEq, Eq, Error)]
+#[derive(Clone, Copy, Debug, Error)]
 #[error("the device failed")]
 pub struct Failed;
 
 /// What a device does at a read and at a write (this project's profile, as are all kinds).
-#[derive(Clone, Copy, Debug, PartialEq, Eq)]
+#[derive(Clone, Copy, PartialEq, Eq)]
 pub enum Kind {
     /// Words that are read one by one; writes are ignored.
     Tape,

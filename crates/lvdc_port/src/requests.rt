@@ -14,14 +14,14 @@ use lvdc_word::{NoMemory, Word};
 use thiserror::Error;
 
 /// A word to be put behind those that the tape at a port still has.
-#[derive(Clone, Copy, Debug, PartialEq, Eq)]
+#[derive(Clone, Copy)]
 pub struct Supply {
     pub port: u8,
     pub word: Word,
 }
 
 /// What is asked of the device at a port.
-#[derive(Clone, Copy, PartialEq, Eq)]
+#[derive(Clone, Copy)]
 pub enum PortRequest {
     Read { port: u8 },
     Write { port: u8, word: Word },
