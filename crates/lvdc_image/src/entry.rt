@@ -5,7 +5,7 @@ use lvdc_map::{Address, Banks};
 use lvdc_text::octal;
 
 /// What a word line says: an address, and a number that may be too large for a word.
-#[derive(Clone, Copy, PartialEq, Eq)]
+#[derive(Clone, Copy)]
 pub(crate) struct Entry {
     pub(crate) at: Address,
     pub(crate) value: u64,

@@ -6,7 +6,7 @@ use std::alloc::AllocFailed;
 use thiserror::Error;
 
 /// Why lines tell no image. Each cause but the want of memory names the line of the first refusal.
-#[derive(Clone, Copy, Debug, PartialEq, Eq, Error)]
+#[derive(Clone, Copy, Debug, Error)]
 pub enum ImageFault {
     /// There was no memory for the words.
     #[error("no memory")]
