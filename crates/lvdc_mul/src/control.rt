@@ -3,7 +3,6 @@ ghost use Rattle.lvdc_mul.specs.Control.{kind_of, kind_code, control_of, control
 
 use lvdc_word::Word;
 
-#[derive(Debug)]
 /// What the unit works on. The codes, 0 to 3 in this order, are this project's profile.
 #[derive(Clone, Copy, PartialEq, Eq)]
 pub enum Kind {
@@ -45,7 +44,7 @@ impl Kind {
 }
 
 /// The fields of the latch CONTROL.
-#[derive(Clone, Copy, PartialEq, Eq)]
+#[derive(Clone, Copy)]
 pub(crate) struct Control {
     /// What the unit works on.
     pub(crate) kind: Kind,

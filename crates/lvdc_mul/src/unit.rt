@@ -10,7 +10,7 @@ use std::marker::Model;
 
 /// The working latches of the multiplier. A pattern that no issue makes is legal too. The recurrences are this project's
 /// profile of the published serial arithmetic.
-#[derive(Clone, Copy, PartialEq, Eq)]
+#[derive(Clone, Copy)]
 pub struct Unit {
     /// The kind of work, the count of phases left, NEG and SAT.
     pub control: Word,
