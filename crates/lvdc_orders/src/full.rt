@@ -1,6 +1,6 @@
 use thiserror::Error;
 
 /// Sixteen orders were added before.
-#[derive(Clone, Copy, Debug, PartialEq, Eq, Error)]
+#[derive(Clone, Copy, Debug, Error)]
 #[error("no room for one more order")]
 pub struct OrdersFull;
