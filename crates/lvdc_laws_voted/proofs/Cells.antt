@@ -77,7 +77,7 @@ damage-selected_by : (step : ℕ) (e : Event) (t : Twins) → (damages_by step e
 damage-selected_by step (Damage twin place n mask) t = damage-selected (n == step) t twin place _
 damage-selected_by step _ t = refl
 
-damages-selected : (step : ℕ) (es : List Event) (t : Twins) → (damages step es t).selected ≡ t.selected
+pub damages-selected : (step : ℕ) (es : List Event) (t : Twins) → (damages step es t).selected ≡ t.selected
 damages-selected step [] t = refl
 damages-selected step (e ∷ es) t = damages-selected step es (damages_by step e t) ∙ damage-selected_by step e t
 
@@ -124,7 +124,7 @@ word-selected : (dead : Bool) (t : Twins) (twin : ℕ) (at : Spot) (cell : ℕ) 
 word-selected true t twin at cell = refl
 word-selected false t twin at cell = refl
 
-held-selected : (held dead : Bool) (t : Twins) (twin : ℕ) (at : Spot) (cell : ℕ) → (cond held (cond dead t (with_cell t twin at cell)) t).selected ≡ t.selected
+pub held-selected : (held dead : Bool) (t : Twins) (twin : ℕ) (at : Spot) (cell : ℕ) → (cond held (cond dead t (with_cell t twin at cell)) t).selected ≡ t.selected
 held-selected true dead t twin at cell = word-selected dead t twin at cell
 held-selected false dead t twin at cell = refl
 

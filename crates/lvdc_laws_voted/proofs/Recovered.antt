@@ -116,7 +116,7 @@ rewritten-selected (Some twin) o step t at w = by_dead (is_dead_at o step twin a
     by_dead false = refl
 
 -- after a read selections are of twins
-read-selected : (o : Trial) (step : ℕ) (t : Twins) (at : Spot) (r : ReadOut) → ((j : ℕ) → slice_index t.selected j < 2)
+pub read-selected : (o : Trial) (step : ℕ) (t : Twins) (at : Spot) (r : ReadOut) → ((j : ℕ) → slice_index t.selected j < 2)
     → (pair : ℕ) → slice_index (after_read o step t at r).selected pair < 2
 read-selected o step t at r h pair = switching r.switched
   where

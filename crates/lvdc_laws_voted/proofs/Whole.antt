@@ -72,7 +72,7 @@ matches-times law o n k v whole time m states shows =
       devices = m.devices ∙ ap (λ (i : ℕ). devices_by i o n) whole ∙ ap (λ (i : ℕ). (run o.opening i).devices) time;
     }
 
-times-by : {Stands : ℕ → List (List ℕ) → PlainState → Type 0} → StepLaws Stands → (o : Trial) (k : ℕ) (v : Voted) → Follows Stands o (3 * k) v → ShowsTimes o k v
+pub times-by : {Stands : ℕ → List (List ℕ) → PlainState → Type 0} → StepLaws Stands → (o : Trial) (k : ℕ) (v : Voted) → Follows Stands o (3 * k) v → ShowsTimes o k v
 times-by law o k v (Goes e s) = matches-times law o (3 * k) k v (omega arith) (omega arith) s.matches s.states s.shows
 times-by law o k v (Halts le d) =
     let early = matches-times law o v.steps (v.steps / 3) v d.whole refl d.matches d.states d.shows in
@@ -92,7 +92,7 @@ guarded-times Stands law o opens k h = times-by law o k (guarded o (3 * k)) (fol
 -- ---- the end after whole times
 
 -- its end is the plain machine's stop
-ends-by : {Stands : ℕ → List (List ℕ) → PlainState → Type 0} → StepLaws Stands → (o : Trial) (k : ℕ) (v : Voted) → Follows Stands o (3 * k) v
+pub ends-by : {Stands : ℕ → List (List ℕ) → PlainState → Type 0} → StepLaws Stands → (o : Trial) (k : ℕ) (v : Voted) → Follows Stands o (3 * k) v
     → (v.end ≡ stop_end (plain_at o k).stop (plain_at o k).times) × (v.steps ≡ 3 * (plain_at o k).times)
 ends-by law o k v (Goes e s) =
     let time : 3 * k / 3 ≡ k = omega arith in

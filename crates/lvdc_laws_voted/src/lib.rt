@@ -20,6 +20,7 @@ ghost use Rattle.lvdc_model.specs.Runs.{guarded, alone};
 ghost use Rattle.lvdc_model.specs.Known.{last_begun, is_known};
 ghost use Rattle.lvdc_laws_voted.specs.Laws.{VotesLaw, CopiesLaw, DamageLaw, ReadLaw, HoldersLaw, StoreLaw, IdleLaw, PortLaw, StepLaws};
 ghost use Rattle.lvdc_laws_voted.specs.Ends.{Opens, ShowsTimes, stop_end, IsBegun, Comes};
+ghost use Rattle.lvdc_laws_voted.specs.Relation.{Follows};
 
 /// The headline's law: as long as no step was inadmissible, the guarded machine of 21 copies shows after whole times the
 /// registers, the words, the log and the devices of the plain run, a stop's own time included.
@@ -57,6 +58,17 @@ pub fn guarded_ends()
 pub fn no_faults_no_verdict()
     ensures { (o : Trial) → IsOpening o.opening → o.script ≡ [] → (n : ℕ)
         → first_bad_below o n ≡ Admissible }
+{
+    laws_of_a_step();
+}
+
+/// A state that follows the plain run shows it after whole times, and has ended where the plain run has stopped: also one to which another
+/// run has come.
+pub fn following_shows()
+    ensures shows { (o : Trial) (times : ℕ) (v : Voted) → Follows Standing o (3 * times) v → ShowsTimes o times v }
+    ensures end { (o : Trial) (times : ℕ) (v : Voted) → Follows Standing o (3 * times) v
+        → v.end ≡ stop_end (plain_at o times).stop (plain_at o times).times }
+    ensures steps { (o : Trial) (times : ℕ) (v : Voted) → Follows Standing o (3 * times) v → v.steps ≡ 3 * (plain_at o times).times }
 {
     laws_of_a_step();
 }
