@@ -125,7 +125,7 @@ module _ (o : Trial) (v : Voted) (seven : AreSeven v.copies v.counts) where
   read-seven (Err bad) at = seven
   read-seven (Ok r) at = latched-seven o.script v.steps v.copies v.counts seven _
 
-  made-seven : (w : Wanted) → AreSeven (exchanges o v w).copies (exchanges o v w).counts
+  pub made-seven : (w : Wanted) → AreSeven (exchanges o v w).copies (exchanges o v w).counts
   made-seven Nothing = latched-seven o.script v.steps v.copies v.counts seven _
   made-seven (Fetch at) = read-seven (read_answer o v.steps v.twins at) at
   made-seven (Operand at) = read-seven (read_answer o v.steps v.twins at) at

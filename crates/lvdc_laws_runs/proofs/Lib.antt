@@ -9,5 +9,8 @@ pub mod Machines
 pub mod Spared
 pub mod Counted
 pub mod Staying
+mod Replaying
+mod Outside
+mod Rejoining
 mod Quiet
 mod Rows

@@ -46,7 +46,7 @@ use Rattle.lvdc_laws_runs.proofs.Counted.{run-seven, step-still}
 use Rattle.lvdc_laws_runs.proofs.Spared.{words-next, word-shown}
 
 -- what holds at a number, and at each next one from there on, holds from there on
-from-on : (P : ℕ → Type 0) (first : ℕ) → P first → ((n : ℕ) → first ≤ n → P n → P (suc n)) → (n : ℕ) → first ≤ n → P n
+pub from-on : (P : ℕ → Type 0) (first : ℕ) → P first → ((n : ℕ) → first ≤ n → P n → P (suc n)) → (n : ℕ) → first ≤ n → P n
 from-on P first base next zero le = let none : first ≡ 0 = omega (arith, le) in subst P none base
 from-on P first base next (suc n) le = by_order (cases_lt n first) (from-on P first base next n)
   where
@@ -102,7 +102,7 @@ module _ (law : StepLaws Standing) (two : TwoVote) (duplex : DuplexLaw) (o : Tri
     nothing-said None bank = refl
     nothing-said (Some at) bank = rw (recoverable at bank) refl
 
-    judged-admissible : HasBanks o.opening.banks (read_at o n) → judged o n ≡ Admissible
+    pub judged-admissible : HasBanks o.opening.banks (read_at o n) → judged o n ≡ Admissible
     judged-admissible bank = ap (judged_logic o n) (module-none o.script n none) ∙ nothing-said (read_at o n) bank
 
   -- a read of the memory repairs nothing
@@ -146,7 +146,7 @@ module _ (law : StepLaws Standing) (two : TwoVote) (duplex : DuplexLaw) (o : Tri
         let p : PlainState = plain_in o v.steps in
         quiet o v (made p.stop p.hold p) (made-reads_none p.stop p.hold p)
 
-    repairs-none : HasBanks o.opening.banks (read_at o v.steps) → (voted_step o v).repairs ≡ v.repairs
+    pub repairs-none : HasBanks o.opening.banks (read_at o v.steps) → (voted_step o v).repairs ≡ v.repairs
     repairs-none bank = ap (λ (w : Wanted). (exchanges o v w).repairs) begun.wish ∙ phase-none (v.steps % 3) bank
 
   -- ---- the run

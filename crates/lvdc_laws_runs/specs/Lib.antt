@@ -1,3 +1,4 @@
 pub mod Guarded
 pub mod Early
 pub mod Joined
+pub mod Rejoined
