@@ -94,6 +94,14 @@ impl Bench for NoDevices {
             return Ok(row);
         }
         let mut devices = Vec::new(alloc);
-        study_script(alloc, program, plain, stations, named, &mut devices)
+        study_script(
+            alloc,
+            program,
+            plain,
+            stations,
+            waypoints,
+            named,
+            &mut devices,
+        )
     }
 }

@@ -87,6 +87,14 @@ impl Bench for Rack {
             return Ok(row);
         }
         let mut devices = sixteen_devices!(alloc);
-        study_script(alloc, program, plain, stations, named, &mut devices)
+        study_script(
+            alloc,
+            program,
+            plain,
+            stations,
+            waypoints,
+            named,
+            &mut devices,
+        )
     }
 }

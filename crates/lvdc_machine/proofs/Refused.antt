@@ -323,14 +323,14 @@ unjudged-on device_of faults mid after between new answer free mode h (Some e) i
     rw (h.answer, kept.0) (unjudged mid.end free verdict)
 
 -- the step is made, and then the others
-pub goes-through : {B : Type 0} (device_of : B → device.Device) (spare faults : B → ℕ) (m mid after : View) (old between new : List B) (rest : ℕ) (answer : Outcome)
-    → HasRefused m → 3 * m.limit ≡ m.steps + 1 + rest → MakesRefused device_of spare faults m mid old between
-    → MakesSteps device_of spare faults rest answer mid after between new → GoesThrough device_of spare faults answer m after old new
-goes-through device_of spare faults m mid after old between new rest answer refused all made more = record {
+pub goes-through : {B : Type 0} (device_of : B → device.Device) (spare faults : B → ℕ) (m mid after : View) (old between new : List B) (to rest : ℕ) (answer : Outcome)
+    → HasRefused m → to ≡ m.steps + 1 + rest → MakesRefused device_of spare faults m mid old between
+    → MakesSteps device_of spare faults rest answer mid after between new → GoesThrough device_of spare faults to answer m after old new
+goes-through device_of spare faults m mid after old between new to rest answer refused all made more = record {
   stands = λ o first n going h.
       let later = (refused-comes o first n m (map device_of old) going refused h).later in
-      let same : steps_since first.steps (m.steps + 1) + rest ≡ steps_since first.steps (3 * m.limit) =
-      omega (arith, all, later, since-difference first.steps (m.steps + 1), since-difference first.steps (3 * m.limit)) in
+      let same : steps_since first.steps (m.steps + 1) + rest ≡ steps_since first.steps to =
+      omega (arith, all, later, since-difference first.steps (m.steps + 1), since-difference first.steps to) in
       subst (λ (k : ℕ). StandsFrom o first k after (map device_of new)) same (more.stands o first _ (made.stands o first n going h));
   turns = record {
     banks = more.leaves.keeps.banks ∙ made.turns.banks;
@@ -340,6 +340,7 @@ goes-through device_of spare faults m mid after old between new rest answer refu
     mode = more.leaves.keeps.mode ∙ made.turns.mode;
     pace = more.leaves.keeps.pace ∙ made.turns.pace;
   };
+  most = let one = made.most in let rest_most = more.leaves.most in omega (arith, all, one, rest_most);
   answer = more.answers.answer;
   cause = cause-on device_of faults mid after old between new answer made.cause made.left more.leaves.left more.answers mid.end refl;
   unjudged = unjudged-on device_of faults mid after between new answer made.unjudged made.turns.mode more.answers mid.end refl;

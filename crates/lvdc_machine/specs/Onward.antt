@@ -59,11 +59,12 @@ pub record MakesRefused {B : Type 0} (device_of : B → device.Device) (spare fa
   pub left : (port : ℕ) → has_port device_of port new ≡ true → has_port device_of port old ≡ true
   pub fit : AreFit device_of spare (exchanges_to_come after) new
 
--- that step and all others up to the limit are made, or fewer where an end comes, which is answered, has its cause in this call, and is
--- no verdict
-pub record GoesThrough {B : Type 0} (device_of : B → device.Device) (spare faults : B → ℕ) (end : Outcome) (before after : View) (old new : List B) : Type 0 where
-  pub stands : StandsThrough (3 * before.limit) before after (map device_of old) (map device_of new)
+-- that step and all others up to the one of this number are made, or fewer where an end comes, which is answered, has its cause in this
+-- call, and is no verdict
+pub record GoesThrough {B : Type 0} (device_of : B → device.Device) (spare faults : B → ℕ) (to : ℕ) (end : Outcome) (before after : View) (old new : List B) : Type 0 where
+  pub stands : StandsThrough to before after (map device_of old) (map device_of new)
   pub turns : Turns before after
+  pub most : after.steps ≤ to
   pub answer : end ≡ answer_of_end after.end
   pub cause : EndHasCause device_of faults end old new
   pub unjudged : (verdict : Verdict) → end ≢ Inadmissible verdict

@@ -1,6 +1,6 @@
 //! A machine that has said something against a step goes on with it, through every fault.
 
-ghost use Rattle.std.specs.Prelude.{◌≡◌, ◌+◌, ◌*◌, ◌≤◌, length, map, OnOk, OnErr, IfOk};
+ghost use Rattle.std.specs.Prelude.{◌≡◌, ◌+◌, ◌*◌, ◌≤◌, ◌<◌, length, map, OnOk, OnErr, IfOk};
 ghost use Rattle.lvdc_port.specs.Devices.{AreDistinct};
 ghost use Rattle.lvdc_machine.specs.declared.mode.Mode.TheVariants.{Through};
 ghost use Rattle.lvdc_machine.specs.declared.mode.Pace.TheVariants.{ByStep};
@@ -52,25 +52,30 @@ impl Machine {
         Ok(())
     }
 
-    /// Makes the step that something was said against, which was begun, and all others up to the limit, or fewer where an end comes: as a
-    /// machine does that goes through every fault, in whose run it then stands. It makes room first for all that may still be noted and
-    /// for the devices' words. After a want of memory the machine is as it was, and no device holds anything else.
+    /// Makes the step that something was said against, which was begun, and all others up to the one of this number, or fewer where an end
+    /// comes: as a machine does that goes through every fault, in whose run it then stands. It makes room first for all that may still be
+    /// noted up to the limit and for the devices' words, so `run` may go on from there. After a want of memory the machine is as it was,
+    /// and no device holds anything else.
     pub fn go_through(
         &mut self,
         orders: &Orders,
+        to: u64,
         devices: &mut Vec<Box<dyn PortDevice>>,
     ) -> Result<Outcome, NoMemory>
         requires refused { HasRefused self.old }
+        requires later { self.old.steps < to }
+        requires within { to ≤ 3 * self.old.limit }
         requires distinct { AreDistinct (map device_of devices.old.items) }
 
         // The orders don't matter.
-        ensures goes { IfOk result (λ end. GoesThrough device_of spare faults end self.old self.new devices.old.items devices.new.items) }
+        ensures goes { IfOk result (λ end. GoesThrough device_of spare faults to end self.old self.new devices.old.items devices.new.items) }
         ensures unchanged { OnErr result (self.new ≡ self.old) }
         ensures devices { OnErr result (map device_of devices.new.items ≡ map device_of devices.old.items) }
         ensures faults { OnErr result (map faults devices.new.items ≡ map faults devices.old.items) }
     {
         let left = 3 * self.limit - self.steps;
+        let rest = to - self.steps - 1;
         self.make_refused(orders.at_step(self.steps), left, devices)?;
-        Ok(self.make_steps(orders, left - 1, devices))
+        Ok(self.make_steps(orders, rest, devices))
     }
 }

@@ -77,7 +77,7 @@ visible-same : (v : Voted) (p : PlainState) → ShowsRegisters (votes v) p → v
 visible-same v p r t = λ i. record { place = r.place i; a = r.a i; pq = r.pq i; saver = r.saver i; times = t i }
 
 -- a state that shows the plain run is the same
-shown-same : (o : Trial) (times : ℕ) (v : Voted) → ShowsTimes o times v → v.end ≡ stop_end (plain_at o times).stop (plain_at o times).times
+pub shown-same : (o : Trial) (times : ℕ) (v : Voted) → ShowsTimes o times v → v.end ≡ stop_end (plain_at o times).stop (plain_at o times).times
     → v.steps ≡ 3 * (plain_at o times).times → is_same_state o.opening.banks v (plain_at o times) ≡ true
 shown-same o times v shows end steps =
     let p = plain_at o times in

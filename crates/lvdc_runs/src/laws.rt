@@ -1,10 +1,12 @@
-ghost use Rattle.std.specs.Prelude.{◌≡◌, ℕ, ◌*◌, ◌/◌, List, [], true};
+ghost use Rattle.std.specs.Prelude.{◌≡◌, ℕ, ◌*◌, ◌/◌, ◌≤◌, List, [], All, true};
+ghost use Rattle.lvdc_fault.specs.Events.{IsEvent};
 ghost use Rattle.lvdc_fault.specs.declared.verdict.Verdict.TheVariants.{Admissible};
 ghost use Rattle.lvdc_port.specs.Device.{Device};
 ghost use Rattle.lvdc_plain.specs.Run.{Opening, run, IsOpening};
 ghost use Rattle.lvdc_plain.specs.Stands.{Stands};
 ghost use Rattle.lvdc_plain.specs.View as plain_view;
 ghost use Rattle.lvdc_laws_runs.specs.Guarded.{UnhurtBy};
+ghost use Rattle.lvdc_laws_runs.specs.Rejoined.{HasRejoined};
 ghost use Rattle.lvdc_machine.specs.Shows.{Shows};
 ghost use Rattle.lvdc_machine.specs.Stands as machine;
 ghost use Rattle.lvdc_machine.specs.View.{View};
@@ -87,4 +89,16 @@ pub fn window_tells_all()
     through_is_guarded();
     lvdc_laws_runs::joined_runs_stay_joined();
     lvdc_laws_runs::spared_memory_stores_words();
+}
+
+/// A law: where the run through every fault has rejoined the plain run, it comes in any more times to what the plain run comes to, and has
+/// counted and repaired then what it had.
+pub fn rejoined_is_same()
+    ensures same { (o : Trial) (times count : ℕ) → IsOpening o.opening → All IsEvent o.script → HasRejoined o times → times ≤ count → is_same o count ≡ true }
+    ensures counts { (o : Trial) (times count : ℕ) → IsOpening o.opening → All IsEvent o.script → HasRejoined o times → times ≤ count
+        → (through o (3 * count)).counts ≡ (through o (3 * times)).counts }
+    ensures repairs { (o : Trial) (times count : ℕ) → IsOpening o.opening → All IsEvent o.script → HasRejoined o times → times ≤ count
+        → (through o (3 * count)).repairs ≡ (through o (3 * times)).repairs }
+{
+    lvdc_laws_runs::rejoined_runs_stay_joined();
 }

@@ -45,7 +45,7 @@ fn all_spare_memory(script: &Script) -> bool
 }
 
 /// The times with whose steps the last event of a script has ended.
-fn times_to_the_last(script: &Script) -> u64
+pub fn times_to_the_last(script: &Script) -> u64
     ensures { AllEndBefore (3 * result) script.now }
 {
     let mut times = 0;

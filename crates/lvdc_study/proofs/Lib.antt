@@ -15,3 +15,5 @@ mod Waypointed
 mod Counted
 mod Again
 mod Lines
+mod Slices
+mod Rejoined

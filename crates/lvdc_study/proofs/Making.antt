@@ -23,7 +23,7 @@ use Rattle.lvdc_fault.specs.declared.event.Event.{Event}
 use Rattle.lvdc_model.specs.declared.outcome.Outcome.{Outcome}
 use Rattle.lvdc_model.specs.declared.outcome.Outcome.TheVariants.{Done, Stopped, Inadmissible, Device}
 use Rattle.lvdc_model.specs.Trial.{Trial}
-use Rattle.lvdc_machine.specs.Calls.{IsFresh}
+use Rattle.lvdc_machine.specs.Calls.{IsFresh, Answers}
 use Rattle.lvdc_machine.specs.Causes.{EndHasCause}
 use Rattle.lvdc_machine.specs.Room.{pace_of}
 use Rattle.lvdc_machine.specs.Stands.{Stands, EndsAs}
@@ -182,7 +182,7 @@ module _ (p : Program) (devices ready : List device.Device) (unplugs : List Unpl
 -- ---- devices that fail
 
 -- where none has failed each that is left has the count that it had
-none-rose : {B : Type 0} (device_of : B → device.Device) (faults : B → ℕ) (ready new : List B) (end : Option Outcome) → NoneFailed end
+pub none-rose : {B : Type 0} (device_of : B → device.Device) (faults : B → ℕ) (ready new : List B) (end : Option Outcome) → NoneFailed end
     → EndHasCause device_of faults (answer_of_end end) ready new → (port : ℕ) → has_port device_of port new ≡ true
     → count_at device_of faults port new ≡ count_at device_of faults port ready
 none-rose device_of faults ready new None u c = c
@@ -279,3 +279,21 @@ failed-since device_of faults old mid new since left NoMemory failed = tt
 failed-since device_of faults old mid new since left (DeviceFailed port) rose =
     subst (λ (k : ℕ). Rose k (count_at device_of faults port new))
     (since.counts port (left port (rose-has device_of faults port (count_at device_of faults port mid) new rose))) rose
+
+-- a machine that ran on, or had ended before, has let no device fail where none is the end
+pub run-since : {B : Type 0} (device_of : B → device.Device) (faults : B → ℕ) (old new : List B) (before after : View) (answer : Outcome)
+    → Answers device_of faults answer before after old new → ((port : ℕ) → has_port device_of port new ≡ true → has_port device_of port old ≡ true)
+    → NoneFailed after.end → (end : Option Outcome) → before.end ≡ end → Since device_of faults old new
+run-since device_of faults old new before after answer h left unfailed None is = record {
+  left = left;
+  counts = none-rose device_of faults old new after.end unfailed (rw (sym h.answer) (h.cause (rw is refl)));
+}
+run-since device_of faults old new before after answer h left unfailed (Some e) is =
+    let kept = h.kept (rw is refl) in
+    rw kept.1 (record { left = λ port has. has; counts = λ port has. refl })
+
+pub answer-since : {A B : Type 0} (device_of : B → device.Device) (faults : B → ℕ) (old mid new : List B) → Since device_of faults old mid
+    → ((port : ℕ) → has_port device_of port new ≡ true → has_port device_of port mid ≡ true) → (answer : Result A Unstudied)
+    → IfErr answer (λ e. HasFailed device_of faults e mid new) → IfErr answer (λ e. HasFailed device_of faults e old new)
+answer-since device_of faults old mid new since left (Ok a) failed = tt
+answer-since device_of faults old mid new since left (Err e) failed = failed-since device_of faults old mid new since left e failed

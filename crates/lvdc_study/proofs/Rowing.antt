@@ -23,6 +23,7 @@ use Rattle.lvdc_runs.specs.Window.{IsWindow, TellsAll}
 use Rattle.lvdc_study.specs.declared.difference.Difference.{Difference}
 use Rattle.lvdc_study.specs.declared.program.Program.{Program}
 use Rattle.lvdc_study.specs.Outcomes.{first_difference}
+use Rattle.lvdc_study.specs.Rejoins.{TellsRejoined}
 use Rattle.lvdc_study.specs.Waypoints.{HasReplayed}
 use Rattle.lvdc_study.specs.Study.{opening_over, row_with, row_of, IsSame}
 
@@ -100,6 +101,11 @@ module _ (p : Program) (devices : List Device) (named : Named) (judged : View) (
       let shown = shows o p.count m gone in
       row-is (opening_over p devices) p.count named verdict difference m.counts m.repairs form (tells o p.count run) (differs o p.count gone ran)
       shown.counts shown.repairs is_form
+
+  -- a machine has gone through faults until its run had rejoined the plain run
+  pub rejoined-row : (m : View) → TellsRejoined o p.count m → row_with named.name verdict None m.counts m.repairs form ≡ row_of (opening_over p devices) p.count named
+  rejoined-row m h =
+      row-is (opening_over p devices) p.count named verdict None m.counts m.repairs form (tells o p.count run) (sym h.difference) h.counts h.repairs is_form
 
   -- a script that masks by form is admissible
   pub form-admits : ((o : Trial) (count : ℕ) → IsOpening o.opening → masks o.script o.opening.banks count ≡ true → Masked o count)

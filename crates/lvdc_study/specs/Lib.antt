@@ -2,3 +2,4 @@ pub mod Outcomes
 pub mod Study
 pub mod Failures
 pub mod Waypoints
+pub mod Rejoins

@@ -12,10 +12,12 @@ ghost use Rattle.lvdc_runs.specs.Ran.{HasRunWithin};
 ghost use Rattle.lvdc_runs.specs.Stations.{IsStation};
 ghost use Rattle.lvdc_study.specs.Failures.{HasFailed, FailsUnder, FailsPlainly};
 ghost use Rattle.lvdc_study.specs.Study.{opening_over, IsProgram};
+ghost use Rattle.lvdc_study.specs.Waypoints.{IsWaypoint};
 
-use crate::laws::fails_early;
+use crate::laws::{fails_early, quiet_waypoints_are_stations};
 use crate::runs::{failed_port, run_plain, run_script};
-use crate::{Program, Unstudied};
+use crate::waypoint::waypoint_before;
+use crate::{Program, Unstudied, Waypoint};
 use lvdc_fault::Script;
 use lvdc_machine::{Machine, Mode, Snapshot};
 use lvdc_port::{PortDevice, supply_all};
@@ -144,7 +146,7 @@ fn run_from(
 
 /// The voted machine that judges, after so many of the times of a program under a script, over devices in their first states. It makes
 /// those from the last station before the first event.
-pub(crate) fn run_late(
+fn run_late(
     alloc: Global,
     program: &Program<'_>,
     stations: &[Snapshot],
@@ -168,4 +170,39 @@ pub(crate) fn run_late(
         Some(at) => run_from(alloc, program, &stations[at], script, times, devices),
         None => run_script(alloc, program, script, times, devices),
     }
+}
+
+/// The voted machine that judges, after so many of the times of a program under a script, over devices in their first states. It makes
+/// those from the waypoint before the first event, if nothing went over a port before that, so that it is a station; else from the last
+/// station.
+pub(crate) fn run_near(
+    alloc: Global,
+    program: &Program<'_>,
+    stations: &[Snapshot],
+    waypoints: &[Waypoint],
+    script: Script,
+    times: u64,
+    devices: &mut Vec<Box<dyn PortDevice>>,
+) -> Result<Machine, Unstudied>
+    requires program { IsProgram program.now }
+    requires within { times ≤ program.now.count }
+    requires few { length script ≤ MOST_EVENTS }
+    requires events { All IsEvent script }
+    requires stations { All (IsStation (opening_over program.now (map device_of devices.old.items)) program.now.count) stations.now }
+    requires waypoints { All (IsWaypoint (opening_over program.now (map device_of devices.old.items)) program.now.count) waypoints.now }
+    requires distinct { AreDistinct (map device_of devices.old.items) }
+    ensures judged { IfOk result (λ machine. HasRunWithin (trial_under (opening_over program.now (map device_of devices.old.items)) script) times program.now.count machine
+        (map device_of devices.new.items)) }
+    ensures since { OnOk result (Since device_of faults devices.old.items devices.new.items) }
+    ensures failed { IfErr result (λ e. HasFailed device_of faults e devices.old.items devices.new.items) }
+    ensures fails { IfErr result (λ e. FailsUnder (trial_under (opening_over program.now (map device_of devices.old.items)) script) program.now.count e) }
+{
+    quiet_waypoints_are_stations();
+    if let Some(at) = waypoint_before(waypoints, &script, times) {
+        if waypoints[at].lines == 0 {
+            let station = &waypoints[at].snapshot;
+            return run_from(alloc, program, station, script, times, devices);
+        }
+    }
+    run_late(alloc, program, stations, script, times, devices)
 }

@@ -12,11 +12,13 @@ ghost use Rattle.lvdc_model.specs.Trial.{Trial};
 ghost use Rattle.lvdc_runs.specs.Same.{is_same};
 ghost use Rattle.lvdc_runs.specs.Scripts.{trial_under};
 ghost use Rattle.lvdc_runs.specs.Ran.{HasRun};
+ghost use Rattle.lvdc_runs.specs.Stations.{IsStation};
 ghost use Rattle.lvdc_study.specs.Failures.{FailsPlainly, FailsUnder};
 ghost use Rattle.lvdc_study.specs.Outcomes.{first_difference};
 ghost use Rattle.lvdc_study.specs.Study.{rows_of, IsSame, KeepsLaws};
-ghost use Rattle.lvdc_study.specs.Waypoints.{HasReplayed};
+ghost use Rattle.lvdc_study.specs.Waypoints.{IsWaypoint, HasReplayed};
 ghost use Rattle.lvdc_study.specs.declared.fault.Unstudied.{Unstudied};
+ghost use Rattle.lvdc_study.specs.declared.waypoint.Waypoint.{Waypoint};
 
 /// A law, which does nothing when it runs: under a script whose steps are all admissible the run through every fault comes to
 /// what the plain run comes to, port log and devices included.
@@ -70,4 +72,13 @@ pub(crate) fn fails_early()
     lvdc_laws_voted::step_begun();
     lvdc_plain::stopped_run_stays();
     lvdc_runs::through_is_guarded();
+}
+
+/// A law: a waypoint before which nothing went over a port is a station.
+pub(crate) fn quiet_waypoints_are_stations()
+    ensures { (program : Opening) (count : ℕ) (w : Waypoint) → IsWaypoint program count w → w.lines ≡ 0 → IsStation program count w.snapshot }
+{
+    lvdc_laws_voted::no_faults_no_verdict();
+    lvdc_laws_voted::judges_alone();
+    lvdc_laws_voted::guarded_times();
 }

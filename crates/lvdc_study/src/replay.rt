@@ -45,7 +45,7 @@ pub(crate) fn lines_from(log: &[Exchange], from: usize) -> &[Exchange]
 }
 
 /// Does a log begin with these lines?
-fn begins_with(log: &[Exchange], lines: &[Exchange]) -> bool
+pub(crate) fn begins_with(log: &[Exchange], lines: &[Exchange]) -> bool
     ensures { IsTrue result → IsPrefix lines.now log.now }
 {
     log.strip_prefix(lines).is_some()

@@ -1,23 +1,24 @@
 //! Runs of one program, each over devices in their first states.
 
-ghost use Rattle.std.specs.Prelude.{◌≡◌, ◌≤◌, ℕ, true, length, map, All, OnOk, IfOk, IfErr, MatchOption};
+ghost use Rattle.std.specs.Prelude.{◌≡◌, ◌+◌, ◌*◌, ◌≤◌, ◌<◌, ℕ, true, length, map, All, OnOk, IfOk, IfErr, MatchOption};
 ghost use Rattle.lvdc_fault.specs.Events.{IsEvent};
 ghost use Rattle.lvdc_port.specs.Devices.{has_port, AreDistinct};
-ghost use Rattle.lvdc_plain.specs.Lists.{Since};
+ghost use Rattle.lvdc_plain.specs.Lists.{Since, AreFit};
 ghost use Rattle.lvdc_plain.specs.Run.{run};
 ghost use Rattle.lvdc_machine.specs.Onward.{HasRefused};
-ghost use Rattle.lvdc_machine.specs.declared.mode.Mode.TheVariants.{Through};
+ghost use Rattle.lvdc_machine.specs.Room.{exchanges_to_come};
 ghost use Rattle.lvdc_model.specs.Trial.{Trial};
 ghost use Rattle.lvdc_fault.specs.declared.TheConstants.{MOST_EVENTS};
 ghost use Rattle.lvdc_runs.specs.Scripts.{trial_under};
-ghost use Rattle.lvdc_runs.specs.Ran.{HasRun, HasRunPlainly, HasRunGuarded, HasRunWithin, NoneFailed, NonePlainlyFailed};
+ghost use Rattle.lvdc_runs.specs.Ran.{HasRunPlainly, HasRunGuarded, HasRunWithin, NoneFailed, NonePlainlyFailed};
 ghost use Rattle.lvdc_study.specs.Failures.{HasFailed, FailsUnder, FailsPlainly, EndsIn, EndsPlainlyIn};
+ghost use Rattle.lvdc_study.specs.Rejoins.{GoesOn};
 ghost use Rattle.lvdc_study.specs.Study.{opening_over, IsProgram};
 
 use crate::{Program, Unstudied};
 use lvdc_fault::Script;
 use lvdc_machine::{Machine, Mode, Outcome};
-use lvdc_plain::{Plain, PlainEnd, Stop};
+use lvdc_plain::{Plain, PlainEnd};
 use lvdc_port::{PortDevice, supply_all};
 use lvdc_runs::plain_machine_has_run;
 use lvdc_word::NoMemory;
@@ -116,29 +117,63 @@ pub(crate) fn run_script(
     }
 }
 
-/// Lets a machine that has said something against a step go on from there, through every fault, over the same devices.
-pub(crate) fn go_through(
+/// Lets a machine that has said something against a step go on with it, through every fault, up to the step of this number.
+pub(crate) fn go_past(
     program: &Program<'_>,
+    to: u64,
     machine: &mut Machine,
     devices: &mut Vec<Box<dyn PortDevice>>,
 ) -> Result<(), Unstudied>
     requires refused { HasRefused machine.old }
+    requires later { machine.old.steps < to }
+    requires within { to ≤ 3 * machine.old.limit }
     requires distinct { AreDistinct (map device_of devices.old.items) }
-    ensures run { OnOk result ((o : Trial) (times : ℕ) → HasRunGuarded o times machine.old (map device_of devices.old.items) → HasRun Through o times machine.new) }
+    ensures goes { OnOk result ((o : Trial) (times : ℕ) → HasRunGuarded o times machine.old (map device_of devices.old.items)
+        → GoesOn o to times machine.new (map device_of devices.new.items)) }
+    ensures limit { OnOk result (machine.new.limit ≡ machine.old.limit) }
+    ensures most { OnOk result (machine.new.steps ≤ to) }
+    ensures unfailed { OnOk result (NoneFailed machine.new.end) }
+    ensures fit { OnOk result (AreFit device_of spare (exchanges_to_come machine.new) devices.new.items) }
+    ensures since { OnOk result (Since device_of faults devices.old.items devices.new.items) }
     ensures left { (port : ℕ) → has_port device_of port devices.new.items ≡ true → has_port device_of port devices.old.items ≡ true }
     ensures failed { IfErr result (λ e. HasFailed device_of faults e devices.old.items devices.new.items) }
     ensures fails { IfErr result (λ e. (o : Trial) (times : ℕ) → HasRunGuarded o times machine.old (map device_of devices.old.items) → FailsUnder o times e) }
 {
-    match machine.go_through(program.orders, devices) {
-        Ok(Outcome::Device { port, .. }) => Err(Unstudied::Device(port)),
-        Ok(
-            Outcome::Done
-            | Outcome::Inadmissible(_)
-            | Outcome::Stopped {
-                stop: Stop::Shift | Stop::Exm | Stop::Memory(_),
-                ..
-            },
-        ) => Ok(()),
-        Err(NoMemory) => Err(Unstudied::NoMemory),
+    match machine.go_through(program.orders, to, devices) {
+        Ok(_) => {}
+        Err(NoMemory) => return Err(Unstudied::NoMemory),
+    }
+    match failed_port(machine) {
+        Some(port) => Err(Unstudied::Device(port)),
+        None => Ok(()),
+    }
+}
+
+/// Lets a machine that goes through every fault make so many times more.
+pub(crate) fn run_on(
+    program: &Program<'_>,
+    more: u64,
+    machine: &mut Machine,
+    devices: &mut Vec<Box<dyn PortDevice>>,
+) -> Result<(), Unstudied>
+    requires left { machine.old.steps + 3 * more ≤ 3 * machine.old.limit }
+    requires fit { AreFit device_of spare (exchanges_to_come machine.old) devices.old.items }
+    requires unfailed { NoneFailed machine.old.end }
+    ensures goes { OnOk result ((o : Trial) (steps times : ℕ) → GoesOn o steps times machine.old (map device_of devices.old.items)
+        → GoesOn o (steps + 3 * more) times machine.new (map device_of devices.new.items)) }
+    ensures limit { machine.new.limit ≡ machine.old.limit }
+    ensures most { machine.new.steps ≤ machine.old.steps + 3 * more }
+    ensures unfailed { OnOk result (NoneFailed machine.new.end) }
+    ensures fit { AreFit device_of spare (exchanges_to_come machine.new) devices.new.items }
+    ensures since { OnOk result (Since device_of faults devices.old.items devices.new.items) }
+    ensures left { (port : ℕ) → has_port device_of port devices.new.items ≡ true → has_port device_of port devices.old.items ≡ true }
+    ensures failed { IfErr result (λ e. HasFailed device_of faults e devices.old.items devices.new.items) }
+    ensures fails { IfErr result (λ e. (o : Trial) (steps times : ℕ) → GoesOn o steps times machine.old (map device_of devices.old.items)
+        → steps + 3 * more ≤ 3 * times → FailsUnder o times e) }
+{
+    machine.run(program.orders, more, devices);
+    match failed_port(machine) {
+        Some(port) => Err(Unstudied::Device(port)),
+        None => Ok(()),
     }
 }

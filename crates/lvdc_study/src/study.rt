@@ -11,12 +11,13 @@ ghost use Rattle.lvdc_runs.specs.Ran.{HasRunPlainly};
 ghost use Rattle.lvdc_runs.specs.Stations.{IsStation};
 ghost use Rattle.lvdc_study.specs.Failures.{HasFailed, FailsUnder};
 ghost use Rattle.lvdc_study.specs.Study.{opening_over, IsProgram, first_step, row_with, row_of};
+ghost use Rattle.lvdc_study.specs.Waypoints.{IsWaypoint};
 
 use crate::compare::first_difference;
-use crate::late::run_late;
+use crate::late::run_near;
 use crate::laws::{admissible_comes_to_the_same, judged_goes_through};
-use crate::runs::go_through;
-use crate::{Difference, Program, Row, Unstudied};
+use crate::onward::go_through;
+use crate::{Difference, Program, Row, Unstudied, Waypoint};
 use lvdc_fault::{Named, Script, Verdict};
 use lvdc_machine::{Machine, Snapshot};
 use lvdc_map::{is_hop_constant, places_words};
@@ -24,7 +25,9 @@ use lvdc_model::Repair;
 use lvdc_plain::Plain;
 use lvdc_port::{PortDevice, prepare_all, supplies_words, words_stay};
 use lvdc_report::all_counts;
-use lvdc_runs::{is_admissible, through_is_shown, verdict_of, window_of, window_tells_all};
+use lvdc_runs::{
+    is_admissible, through_is_shown, times_to_the_last, verdict_of, window_of, window_tells_all,
+};
 use lvdc_withstands::{first_unmet, form_masks};
 use lvdc_word::{NoMemory, Seq};
 use std::alloc::Global;
@@ -98,18 +101,21 @@ pub(crate) fn masks(alloc: Global, program: &Program<'_>, script: &Script) -> Re
 
 /// The row of a script, beside the plain run of the same program, over devices in their first states. The machine that judges makes the
 /// times from the last station before the first event up to the last event, or all that are left where an event is on memory; where the
-/// script isn't admissible it goes on from there, through every fault. Where no event is in the run, no machine is made.
+/// script isn't admissible it goes on from there, through every fault, until it has rejoined the plain run at a waypoint. Where no event is
+/// in the run, no machine is made.
 pub fn study_script(
     alloc: Global,
     program: &Program<'_>,
     plain: &Plain,
     stations: &[Snapshot],
+    waypoints: &[Waypoint],
     named: Named,
     devices: &mut Vec<Box<dyn PortDevice>>,
 ) -> Result<Row, Unstudied>
     requires program { IsProgram program.now }
     requires plain { HasRunPlainly (opening_over program.now (map device_of devices.old.items)) program.now.count plain.now }
     requires stations { All (IsStation (opening_over program.now (map device_of devices.old.items)) program.now.count) stations.now }
+    requires waypoints { All (IsWaypoint (opening_over program.now (map device_of devices.old.items)) program.now.count) waypoints.now }
     requires script { IsScript named }
     requires distinct { AreDistinct (map device_of devices.old.items) }
 
@@ -134,13 +140,23 @@ pub fn study_script(
         opens_with_words(program, devices)?;
         return Ok(idle_row(name, masks));
     }
-    let mut machine = run_late(alloc, program, stations, script, times, devices)?;
+    let over = times_to_the_last(&script);
+    let mut machine = run_near(alloc, program, stations, waypoints, script, times, devices)?;
     let verdict = verdict_of(&machine);
     if is_admissible(&verdict) {
         return Ok(row_with(name, verdict, None, &machine, masks));
     }
-    match go_through(program, &mut machine, devices) {
-        Ok(()) => {}
+    match go_through(
+        alloc,
+        program,
+        plain,
+        waypoints,
+        over,
+        &mut machine,
+        devices,
+    ) {
+        Ok(true) => return Ok(row_with(name, verdict, None, &machine, masks)),
+        Ok(false) => {}
         Err(e) => return Err(e),
     }
     let difference = first_difference(&machine, plain);

@@ -13,16 +13,19 @@ ghost use Rattle.lvdc_snapshot.specs.Snapshot.{IsWhole, Means};
 use crate::Program;
 use lvdc_fault::Script;
 use lvdc_machine::{Machine, Snapshot};
+use lvdc_plain::Visible;
 use lvdc_runs::station_before;
 use lvdc_word::{NoMemory, Seq};
 use std::alloc::Global;
 use std::slice;
 
-/// What a machine that judges has after some times of the fault-free run, but for the log; and how many lines the log has there.
+/// What a machine that judges has after some times of the fault-free run, but for the log; how many lines the log has there; and the voted
+/// registers, by which a run is seen soon not to be there.
 #[derive(Drop)]
 pub struct Waypoint {
     pub snapshot: Snapshot,
     pub lines: usize,
+    pub registers: Visible,
 }
 
 /// So many times, at least, lie between two waypoints.
@@ -103,5 +106,9 @@ pub(crate) fn waypoint_of(
 {
     let mut snapshot = machine.snapshot(alloc)?;
     snapshot.log = Seq::from_vec(Vec::new(alloc));
-    Ok(Waypoint { snapshot, lines })
+    Ok(Waypoint {
+        snapshot,
+        lines,
+        registers: machine.visible(),
+    })
 }

@@ -74,11 +74,19 @@ impl Bench for OneTape {
         program: &Program<'_>,
         plain: &Plain,
         stations: &[Snapshot],
-        _waypoints: &[Waypoint],
+        waypoints: &[Waypoint],
         named: Named,
     ) -> Result<Row, Unstudied> {
         let mut devices = one_tape(alloc, self.fails)?;
-        study_script(alloc, program, plain, stations, named, &mut devices)
+        study_script(
+            alloc,
+            program,
+            plain,
+            stations,
+            waypoints,
+            named,
+            &mut devices,
+        )
     }
 }
 

@@ -1,0 +1,88 @@
+//! Whether a run through every fault has rejoined the plain run: it has what the fault-free run has at a waypoint.
+
+ghost use Rattle.std.specs.Prelude.{◌≡◌, ℕ, ◌*◌, ◌/◌, ◌≤◌, List, All, IsTrue, IfOk};
+ghost use Rattle.lvdc_port.specs.Device as device;
+ghost use Rattle.lvdc_plain.specs.Run.{Opening};
+ghost use Rattle.lvdc_fault.specs.Events.{IsEvent};
+ghost use Rattle.lvdc_fault.specs.declared.event.Event.{Event};
+ghost use Rattle.lvdc_laws_runs.specs.Joined.{AllEndBefore};
+ghost use Rattle.lvdc_snapshot.specs.Snapshot.{IsWhole};
+ghost use Rattle.lvdc_runs.specs.Scripts.{trial_under};
+ghost use Rattle.lvdc_runs.specs.Ran.{HasRunPlainly};
+ghost use Rattle.lvdc_study.specs.Rejoins.{GoesOn, TellsRejoined};
+ghost use Rattle.lvdc_study.specs.Waypoints.{IsWaypoint};
+
+use crate::Waypoint;
+use crate::replay::begins_with;
+use lvdc_machine::{Machine, Snapshot};
+use lvdc_map::Placed;
+use lvdc_plain::Plain;
+use lvdc_runs::{are_same_registers, rejoined_is_same};
+use lvdc_twin::Held;
+use lvdc_word::{NoMemory, Word};
+use std::alloc::Global;
+
+/// Are they the same latches?
+fn are_same_latches(one: &[Word], other: &[Word]) -> bool
+    ensures { IsTrue result → one.now ≡ other.now }
+{
+    one == other
+}
+
+/// Are they the same cells?
+fn are_same_cells(one: &[Held], other: &[Held]) -> bool
+    ensures { IsTrue result → one.now ≡ other.now }
+{
+    one == other
+}
+
+/// Are they the same words at the same addresses?
+fn are_same_words(one: &[Placed], other: &[Placed]) -> bool
+    ensures { IsTrue result → one.now ≡ other.now }
+{
+    one == other
+}
+
+/// Have two snapshots the same latches, cells and intended words?
+fn are_alike(one: &Snapshot, other: &Snapshot) -> bool
+    ensures latches { IsTrue result → one.now.latches ≡ other.now.latches }
+    ensures cells { IsTrue result → one.now.cells ≡ other.now.cells }
+    ensures words { IsTrue result → one.now.words ≡ other.now.words }
+{
+    are_same_latches(one.latches.items(), other.latches.items())
+        && are_same_cells(one.cells.items(), other.cells.items())
+        && are_same_words(one.words.items(), other.words.items())
+}
+
+/// Has a machine that goes through every fault rejoined the plain run at a waypoint? Registers and log are looked at first, since they cost
+/// little.
+pub(crate) fn has_rejoined(
+    alloc: Global,
+    plain: &Plain,
+    waypoint: &Waypoint,
+    machine: &Machine,
+) -> Result<bool, NoMemory>
+    requires whole { IsWhole waypoint.now.snapshot }
+
+    // Then it tells what that run comes to, of each program whose waypoint it is, and whose plain run the plain machine has made.
+    ensures { IfOk result (λ is. IsTrue is → (p : Opening) (script : List Event) (count steps : ℕ) (left : List device.Device)
+        → IsWaypoint p count waypoint.now → HasRunPlainly p count plain.now → All IsEvent script → AllEndBefore waypoint.now.snapshot.steps script
+        → GoesOn (trial_under p script) steps count machine.now left → TellsRejoined (trial_under p script) count machine.now) }
+{
+    rejoined_is_same();
+    lvdc_laws_voted::judges_alone();
+    lvdc_laws_voted::no_faults_no_verdict();
+    lvdc_laws_voted::guarded_times();
+    lvdc_laws_voted::ports_match();
+    if machine.ended().is_some() || machine.steps() != waypoint.snapshot.steps {
+        return Ok(false);
+    }
+    if !are_same_registers(&machine.visible(), &waypoint.registers) {
+        return Ok(false);
+    }
+    if machine.log().len() != waypoint.lines || !begins_with(plain.log(), machine.log()) {
+        return Ok(false);
+    }
+    let now = machine.snapshot(alloc)?;
+    Ok(are_alike(&now, &waypoint.snapshot))
+}
