@@ -19,7 +19,7 @@ ghost use Rattle.lvdc_study.specs.Failures.{HasFailed, FailsUnder};
 ghost use Rattle.lvdc_study.specs.Rejoins.{GoesOn, TellsRejoined};
 ghost use Rattle.lvdc_study.specs.Waypoints.{IsWaypoint};
 
-use crate::rejoin::has_rejoined;
+use crate::rejoin::{has_rejoined, is_near};
 use crate::runs::{go_past, run_on};
 use crate::{Program, Unstudied, Waypoint};
 use lvdc_machine::Machine;
@@ -64,7 +64,8 @@ fn steps_to(waypoints: &[Waypoint], at: usize, made: u64, most: u64) -> u64
 }
 
 /// Lets a machine that goes through every fault, and has made so many steps, go on from waypoint to waypoint until it has rejoined the plain
-/// run there, after so many times, in which the events are over, or to the end. Has it?
+/// run there, after so many times, in which the events are over, or to the end. Has it? After a look in vain it goes on as far again before
+/// the next one.
 fn go_on(
     alloc: Global,
     program: &Program<'_>,
@@ -94,13 +95,17 @@ fn go_on(
     let most = 3 * machine.limit();
     let first = first_from(waypoints, from.max(3 * over.min(machine.limit())));
     let mut made = from;
+    let mut again = first;
     for at in first..waypoints.len() {
         if made >= most {
             return Ok(false);
         }
         let waypoint = &waypoints[at];
-        if waypoint.snapshot.steps / 3 >= over && has_rejoined(alloc, plain, waypoint, machine)? {
-            return Ok(true);
+        if at >= again && waypoint.snapshot.steps / 3 >= over && is_near(waypoint, machine) {
+            if has_rejoined(alloc, plain, waypoint, machine)? {
+                return Ok(true);
+            }
+            again = at.saturating_add(at - first).saturating_add(1);
         }
         let next = steps_to(waypoints, at + 1, made, most);
         match run_on(program, (next - made) / 3, machine, devices) {

@@ -54,8 +54,12 @@ fn are_alike(one: &Snapshot, other: &Snapshot) -> bool
         && are_same_words(one.words.items(), other.words.items())
 }
 
-/// Has a machine that goes through every fault rejoined the plain run at a waypoint? Registers and log are looked at first, since they cost
-/// little.
+/// Is it worth asking whether a machine has rejoined the plain run at a waypoint, since it has the voted registers that are there?
+pub(crate) fn is_near(waypoint: &Waypoint, machine: &Machine) -> bool {
+    are_same_registers(&machine.visible(), &waypoint.registers)
+}
+
+/// Has a machine that goes through every fault rejoined the plain run at a waypoint?
 pub(crate) fn has_rejoined(
     alloc: Global,
     plain: &Plain,
@@ -75,9 +79,6 @@ pub(crate) fn has_rejoined(
     lvdc_laws_voted::guarded_times();
     lvdc_laws_voted::ports_match();
     if machine.ended().is_some() || machine.steps() != waypoint.snapshot.steps {
-        return Ok(false);
-    }
-    if !are_same_registers(&machine.visible(), &waypoint.registers) {
         return Ok(false);
     }
     if machine.log().len() != waypoint.lines || !begins_with(plain.log(), machine.log()) {
