@@ -143,6 +143,8 @@ INFIX = {"+": "({0} + {1})", "*": "({0} * {1})", "-": "max(0, {0} - {1})", "/": 
 LIBRARY = {"Some": 1, "None": 0, "Ok": 1, "Err": 1, "Interrupted": 0, "TimedOut": 0}
 FACTS = {"IsTrue": "({0}) is True", "IsFalse": "({0}) is False", "IsSome": "({0})[0] == 'Some'", "IsNone": "({0})[0] == 'None'",
          "IsOk": "({0})[0] == 'Ok'", "IsErr": "({0})[0] == 'Err'"}
+# Facts that say something of what a variant has; of another variant they are true.
+CASES = {"IfOk": ("Ok",), "IfErr": ("Err",), "IfSome": ("Some",), "MatchResult": ("Ok", "Err")}
 # The crates whose clauses are those of the programs.
 PROGRAMS = ("lvdc_cli", "lvdc_console", "lvdc_service")
 SAMPLES = tuple({"pair": p, "sector": s, "loc": x} for p in range(8) for s in (0, 1, 2, 3, 4, 15) for x in (*range(10), *range(252, 256)))
@@ -466,15 +468,24 @@ class Compiler:
         if word in FACTS and len(parts) == 2:
             return f"({FACTS[word].format(self.value(parts[1], local))})"
         if word == "All" and len(parts) == 3:
-            test = parts[1].parts[0] if parts[1].kind == "brackets" else parts[1]
-            if test.kind == "function":
-                heads = "".join(f"lambda v_{identifier(it)}: " for it in test.names)
-                return f"all(map({heads}{self.fact(test.parts[0], local | set(test.names))}, {self.value(parts[2], local)}))"
-            return f"all(map({self.value(test, local)}, {self.value(parts[2], local)}))"
+            return f"all(map({self.test(parts[1], local)}, {self.value(parts[2], local)}))"
+        if word in CASES and len(parts) == len(CASES[word]) + 2:
+            value, tests = self.value(parts[1], local), [self.test(it, local) for it in parts[2:]]
+            answers = [f"it[0] == {name!r} and {test}(it[1])" for name, test in zip(CASES[word], tests)]
+            others = [f"it[0] not in {CASES[word]!r}"]
+            return f"(lambda it: {' or '.join(answers + others)})({value})"
         entity = self.entity(word)
         if entity and entity.kind == "definition" and entity.arity == len(parts) - 1 and self.is_fact(entity):
             return self.called(entity, [self.value(it, local) for it in parts[1:]])
         raise Uncomputed(word)
+
+    def test(self, term: Term, local: set[str]) -> str:
+        """What is said of a value, as a function of Python that tests it."""
+        inner = term.parts[0] if term.kind == "brackets" else term
+        if inner.kind != "function":
+            return self.value(inner, local)
+        heads = "".join(f"lambda v_{identifier(it)}: " for it in inner.names)
+        return f"({heads}{self.fact(inner.parts[0], local | set(inner.names))})"
 
     def is_fact(self, entity: Entity) -> bool:
         """Is a definition one of a fact?"""

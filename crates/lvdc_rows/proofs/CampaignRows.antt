@@ -1,9 +1,13 @@
 -- Worked campaigns, and refusals where each is the first.
-use Rattle.std.proofs.Common.{◌≡◌, [], refl}
-use Rattle.std.specs.Prelude.{codes}
+use Rattle.std.proofs.Common.{◌≡◌, ℕ, zero, suc, true, List, [], ◌∷◌, ◌++◌, Result, Err, is_ok, replicate, refl}
+use Rattle.std.specs.Prelude.{codes, decimal}
+use Rattle.lvdc_text.specs.Joined.{text_of}
 use Rattle.lvdc_runs.specs.Same.{are_same_below}
-use Rattle.lvdc_campaign_deck.specs.Campaign.{from_campaign}
+use Rattle.lvdc_campaign_deck.specs.Campaign.{from_campaign, campaign_of}
 use Rattle.lvdc_campaign_deck.specs.Scripts.{scripts_from}
+use Rattle.lvdc_campaign_deck.specs.declared.deck.CampaignDeck.{CampaignDeck}
+use Rattle.lvdc_campaign_deck.specs.declared.fault.CampaignFault.{CampaignFault}
+use Rattle.lvdc_campaign_deck.specs.declared.fault.CampaignFault.TheVariants.{TooManyScripts}
 use Rattle.lvdc_command_campaign.specs.Answers.{campaign_answer}
 use Rattle.lvdc_deck.specs.Deck.{commands_from, told_from, deck_from}
 use Rattle.lvdc_image.specs.Reading.{entry_in, words_from as words_told, banks_named, banks_in, image_of}
@@ -120,3 +124,40 @@ campaign_with_a_word : campaign_answer (codes "IMAGE\nLVDC 1\n0 00 000 000010000
     ≡ answer_with 2 (codes "REFUSED BadSection 6\n") []
 unfolding lines_from words_from octal_text word_in commands_from told_from deck_from entry_in words_told banks_named banks_in image_of step_in twin_in pair_in cell_in module_copy_in index_in span_in place_in is_name with_stuck majority flipped forced lines_of lines_below digits from_campaign scripts_from are_same_below
 campaign_with_a_word = refl
+
+-- the line has 120 bytes, and one more
+longest_campaign : campaign_answer (codes "IMAGE\nLVDC 1\n0 00 000 000010000\nEND\nRUN 2\nCAMPAIGN" ++ replicate 112 32 ++ codes "\nSCRIPT A\n") []
+    ≡ answer_with 0 (codes "SCRIPT A ADMISSIBLE SAME\nCAMPAIGN 1 ADMISSIBLE 1 SAME 1\n") []
+unfolding lines_from words_from octal_text word_in commands_from told_from deck_from entry_in words_told banks_named banks_in image_of step_in twin_in pair_in cell_in module_copy_in index_in span_in place_in is_name with_stuck majority flipped forced lines_of lines_below digits from_campaign scripts_from are_same_below
+longest_campaign = refl
+
+too_long_campaign : campaign_answer (codes "IMAGE\nLVDC 1\n0 00 000 000010000\nEND\nRUN 2\nCAMPAIGN" ++ replicate 113 32 ++ codes "\nSCRIPT A\n") []
+    ≡ answer_with 2 (codes "REFUSED BadLine 6\n") []
+unfolding lines_from words_from octal_text word_in commands_from told_from deck_from entry_in words_told banks_named banks_in image_of step_in twin_in pair_in cell_in module_copy_in index_in span_in place_in is_name with_stuck majority flipped forced lines_of lines_below digits from_campaign scripts_from are_same_below
+too_long_campaign = refl
+
+-- ---- a simplex pair has one cell for a word, which isn't repaired
+
+simplex : campaign_answer (codes "IMAGE\nLVDC 2\nSTART 000000016\nSIMPLEX 0\n0 00 000 000010000\nEND\nRUN 2\nCAMPAIGN\nSCRIPT A\nDAMAGE 0 0 00 000 0 1\n") []
+    ≡ answer_with 0 (codes "SCRIPT A MEMORY 0 0 00 000 DIFFERS\nCAMPAIGN 1 ADMISSIBLE 0 SAME 0\n") []
+unfolding lines_from words_from octal_text word_in commands_from told_from deck_from entry_in words_told banks_named banks_in image_of step_in twin_in pair_in cell_in module_copy_in index_in span_in place_in is_name with_stuck majority flipped forced lines_of lines_below digits from_campaign scripts_from are_same_below
+simplex = refl
+
+-- ---- 256 scripts, and one more
+
+-- lines SCRIPT with the names S1, S2 and so on, from this number on
+script_lines : ℕ → ℕ → List (List ℕ)
+script_lines first zero = []
+script_lines first (suc more) = (codes "SCRIPT S" ++ decimal first) ∷ script_lines (suc first) more
+
+-- the campaign of so many of them, from line 6 on
+with_scripts : ℕ → Result CampaignDeck CampaignFault
+with_scripts count = campaign_of (text_of (codes "IMAGE" ∷ codes "LVDC 1" ∷ codes "END" ∷ codes "RUN 1" ∷ codes "CAMPAIGN" ∷ script_lines 1 count)) []
+
+last_script : is_ok (with_scripts 256) ≡ true
+unfolding with_scripts script_lines digits lines_from words_from word_in commands_from told_from deck_from words_told image_of is_name from_campaign scripts_from
+last_script = refl
+
+one_script_more : with_scripts 257 ≡ Err (TooManyScripts 262)
+unfolding with_scripts script_lines digits lines_from words_from word_in commands_from told_from deck_from words_told image_of is_name from_campaign scripts_from
+one_script_more = refl

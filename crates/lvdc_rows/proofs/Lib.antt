@@ -64,3 +64,4 @@ mod BusRows
 mod AnswerRows
 mod SoakRows
 mod MessageRows
+mod StudyRows

@@ -1,5 +1,5 @@
 -- Worked sources with macros: what is answered of each; and lines of bodies, as calls write them.
-use Rattle.std.proofs.Common.{◌≡◌, ℕ, List, [], ◌∷◌, Result, Err, length, refl}
+use Rattle.std.proofs.Common.{◌≡◌, ℕ, false, List, [], ◌∷◌, Result, Err, length, refl}
 use Rattle.std.specs.Prelude.{codes}
 use Rattle.lvdc_asm.specs.Locations.{nothing}
 use Rattle.lvdc_command_asm.specs.Expanded.{macro_answer}
@@ -7,7 +7,7 @@ use Rattle.lvdc_command_asm.specs.declared.expand.Form.TheVariants.{Source, Imag
 use Rattle.lvdc_image.specs.Image.{image_text}
 use Rattle.lvdc_macro.specs.Expansion.{Piece, pieces, unless_longer, called, start, expanded_from, bytes_of}
 use Rattle.lvdc_macro.specs.Macros.{body_of}
-use Rattle.lvdc_macro.specs.Substitution.{substituted}
+use Rattle.lvdc_macro.specs.Substitution.{arguments_of, substituted}
 use Rattle.lvdc_macro.specs.declared.fault.MacroFault.{MacroFault}
 use Rattle.lvdc_macro.specs.declared.fault.MacroFault.TheVariants.{ExpansionTooLong}
 use Rattle.lvdc_place.specs.Placement.{placement}
@@ -69,3 +69,9 @@ a_longer_line text piece long = rw long refl
 -- nothing is written before the first line
 before_the_first_line : start.progress ≡ record { calls = 0; size = 0 }
 before_the_first_line = refl
+
+-- of a call in line 7, where two levels are left behind it
+a_longer_line_of_a_body : (text : List ℕ) → length (substituted 1 (arguments_of []) text) ≡ 1048576
+    → called 3 [] 7 (record { calls = 0; size = 0 }) false [] (text ∷ []) ≡ Err (ExpansionTooLong 7)
+unfolding called pieces
+a_longer_line_of_a_body text long = rw long refl
