@@ -95,6 +95,11 @@ two_times_through : run_answer (job.Deck Through) (only 0o10000 []) 2
 unfolding only holds digits octal_text lines_of lines_below with_stuck majority flipped counts_below
 two_times_through = refl
 
+one_time_through : run_answer (job.Deck Through) (only 0o10000 (Flip 5 1 3 3 0 1 ∷ [])) 1
+    ≡ answer_with 0 (codes "LVDC THROUGH\nEND DONE\nTIMES 1\nPLACE 0 00 0 000\nDATA 0 01\nDUP 1 1\nA 000000000\nPQ 000000000\nSAVER 000002016\nMEM 0 00 000 000010000\n") []
+unfolding only holds digits octal_text lines_of lines_below with_stuck majority flipped counts_below
+one_time_through = refl
+
 -- two copies of A are wrong in step 0, and one in step 1; of the first two the third one differs
 two_copies : List Event
 two_copies = Flip 5 1 0 0 0 1 ∷ Flip 5 2 0 0 0 1 ∷ Flip 5 1 1 1 0 2 ∷ []

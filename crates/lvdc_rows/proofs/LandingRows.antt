@@ -116,3 +116,8 @@ a_stopped_machine_loses_no_device = refl
 the_ticker_tells_the_time : (step (before 0o12416 0) (record { port = 0o16; kind = Ticker; state = [] } ∷ [])).plain.a ≡ 7
 unfolding before word_in spot
 the_ticker_tells_the_time = refl
+
+-- the time 2 ^ 26 + 2 ^ 25 + 5, of which a device is told 2 ^ 25 + 5
+the_ticker_tells_a_late_time : (step (record (before 0o12416 0) { times = 100663301 }) (record { port = 0o16; kind = Ticker; state = [] } ∷ [])).plain.a ≡ 33554437
+unfolding before word_in spot
+the_ticker_tells_a_late_time = refl

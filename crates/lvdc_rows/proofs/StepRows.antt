@@ -154,6 +154,13 @@ mended_where_bad : (is_mended (load (Stick 0 (at 0 1) 1 1 1 0 ∷ [])) 1 0 (at 0
 unfolding load trial holds_word at with_stuck
 mended_where_bad = (refl, refl)
 
+-- twin 1 of pair 0 is dead: it shows 0, and keeps what it stores at a read and at a store
+a_dead_twin_keeps_its_cell : (is_mended (load (Dead 1 0 0 9 ∷ [])) 1 1 (at 0 1) (code_of 5) ≡ false)
+    × (overwritten (load (Dead 1 0 0 9 ∷ [])) 5 1 (at 0 1) (Some (record { at = at 0 1; word = 7 })) 9 ≡ 9)
+    × (overwritten (load (Dead 1 0 0 9 ∷ [])) 5 0 (at 0 1) (Some (record { at = at 0 1; word = 7 })) 9 ≡ code_of 7)
+unfolding load trial holds_word at with_stuck
+a_dead_twin_keeps_its_cell = (refl, refl, refl)
+
 -- two changed bits of a half show good, and so they stay
 not_mended_where_good : (is_mended (load []) 1 0 (at 0 1) (bit_xor (code_of 5) 3) ≡ false) × (mended (load []) 1 0 (at 0 1) (bit_xor (code_of 5) 3) ≡ bit_xor (code_of 5) 3)
 unfolding load trial holds_word at with_stuck
