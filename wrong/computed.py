@@ -404,6 +404,9 @@ class Compiler:
         if name.startswith("◌") and name.strip("◌") in INFIX:
             return f"(lambda x: lambda y: {INFIX[name.strip('◌')].format('x', 'y')})" + "".join(f"({it})" for it in args)
         entity = self.entity(name)
+        if entity is None and name in NATIVE:
+            # a change may put a word of the library that the file doesn't use
+            entity = Entity("native", name, "", NATIVE[name][0])
         if entity is None:
             raise Uncomputed(name)
         return self.called(entity, args)

@@ -67,6 +67,9 @@ a_campaign_without_its_section = refl
 a_byte_too_many : (bytes : List ℕ) → length bytes ≡ 1048577 → answer (codes "run" ∷ []) bytes [] ≡ answer_with 11 (codes "REFUSED TooLong\n") []
 a_byte_too_many bytes many = rw many refl
 
+as_many_bytes_as_may_be : (bytes : List ℕ) → length bytes ≡ 1048576 → answer (codes "run" ∷ []) bytes [] ≡ command_answer (Run Guarded) bytes []
+as_many_bytes_as_may_be bytes many = rw many refl
+
 few_bytes : answer (codes "asm" ∷ []) [] [] ≡ answer_with 3 (codes "REFUSED MissingEnd 1\n") []
 unfolding lines_from digits items_from
 few_bytes = refl

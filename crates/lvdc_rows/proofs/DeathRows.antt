@@ -35,6 +35,11 @@ a_dead_twin_with_stuck_bits : shown_of (Stick 1 (place 0) 0 9 0o1000020000 0o100
 unfolding place with_stuck
 a_dead_twin_with_stuck_bits = refl
 
+-- of the bits of the mask those of the value are stuck at 1, the others at 0
+stuck_bits : (with_stuck 5 3 1 ≡ 5) × (with_stuck 5 3 2 ≡ 6) × (with_stuck 5 3 0 ≡ 4) × (with_stuck 4 3 3 ≡ 7)
+unfolding with_stuck
+stuck_bits = (refl, refl, refl, refl)
+
 alive_again : shown_of (Dead 1 0 2 4 ∷ []) 5 1 (place 0) (code_of 5) ≡ code_of 5
 unfolding place with_stuck
 alive_again = refl

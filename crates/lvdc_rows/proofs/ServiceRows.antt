@@ -1,13 +1,16 @@
 -- Worked parts of the service: the bytes of a word, what is held and is to come, the requests that several frames are, and inquiries.
-use Rattle.std.proofs.Common.{◌≡◌, ℕ, List, true, false, [], ◌∷◌, Some, None, length, refl}
+use Rattle.std.proofs.Common.{◌≡◌, ℕ, List, true, false, [], ◌∷◌, ◌++◌, Some, None, length, refl}
 use Rattle.std.specs.Prelude.{codes}
 use Rattle.std.specs.Fmt.{digits}
 use Rattle.lvdc_text.specs.Lines.{lines_from}
 use Rattle.lvdc_deck.specs.Deck.{deck_from}
-use Rattle.lvdc_service.specs.Frames.{is_graphic, with_requests, most_frames, frames_of, frames_within}
+use Rattle.lvdc_console.specs.declared.words.Inquiry.TheVariants.{Form}
+use Rattle.lvdc_console.specs.Rack.{rack}
+use Rattle.lvdc_console.specs.Replies.{inquiry_answer}
+use Rattle.lvdc_service.specs.Frames.{is_graphic, is_word, with_requests, most_frames, frames_of, frames_within}
 use Rattle.lvdc_service.specs.Parts.{part_of}
 use Rattle.lvdc_service.specs.Reading.{to_come}
-use Rattle.lvdc_service.specs.Served.{reply_with, reply_to}
+use Rattle.lvdc_service.specs.Served.{reply_with, reply_of, reply_to}
 
 -- ---- words
 
@@ -19,6 +22,9 @@ a_space = refl
 
 the_second_word : part_of (codes "run --plain") (record { start = 4; end = 11 }) ≡ codes "--plain"
 the_second_word = refl
+
+a_word_with_a_byte_that_is_none : is_word (codes "A" ++ 127 ∷ codes "B") ≡ false
+a_word_with_a_byte_that_is_none = refl
 
 -- ---- frames
 
@@ -50,3 +56,7 @@ a_form_of_nothing = refl
 
 a_byte_too_many : (input : List ℕ) → length input ≡ 1048577 → reply_to (record { words = codes "form" ∷ []; input = input }) ≡ reply_with 11 (codes "REFUSED TooLong\n")
 a_byte_too_many input many = rw many refl
+
+as_many_bytes_as_may_be : (input : List ℕ) → length input ≡ 1048576
+    → reply_to (record { words = codes "form" ∷ []; input = input }) ≡ reply_of (inquiry_answer Form input rack)
+as_many_bytes_as_may_be input many = rw many refl

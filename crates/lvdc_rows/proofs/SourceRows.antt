@@ -7,6 +7,8 @@ use Rattle.lvdc_command_asm.specs.declared.reply.Product.TheVariants.{Image, Lis
 use Rattle.lvdc_deck.specs.Deck.{told_from, deck_from, deck_of}
 use Rattle.lvdc_deck.specs.declared.deck.Deck.{Deck}
 use Rattle.lvdc_deck.specs.declared.fault.DeckFault.{DeckFault}
+use Rattle.lvdc_deck.specs.declared.fault.DeckFault.TheVariants.{Asm}
+use Rattle.lvdc_asm.specs.declared.fault.AsmFault.TheVariants.{UndefinedName, OutOfSector}
 use Rattle.lvdc_image.specs.Image.{image_text}
 use Rattle.lvdc_map.specs.Hop.{HopConstant}
 use Rattle.lvdc_listing.specs.Listing.{listing_text}
@@ -94,3 +96,12 @@ without_start : start_and_banks (deck_of (codes "SOURCE\n        CODE\n        C
     ≡ Some (record { imod = 0; isec = 0; syl = 0; loc = 0; dmod = 0; dsec = 1; dupin = true; dupdn = true }, 0)
 unfolding start_and_banks lines_from words_from told_from deck_from is_name parts_of signed_of octals_of address_in literal_in body_in operation_of meaning_of after_end items_from placement least nothing
 without_start = refl
+
+-- START in line 5, with a name that no line has, and with that of a word
+start_of_no_name : deck_of (codes "SOURCE\n        CODE\nGO      TRA   GO\n        END\nSTART NOPE\nRUN 1\n") [] false ≡ Err (Asm (UndefinedName 5))
+unfolding lines_from words_from told_from deck_from is_name parts_of signed_of octals_of address_in literal_in body_in operation_of meaning_of after_end items_from placement least nothing
+start_of_no_name = refl
+
+start_of_a_word : deck_of (codes "SOURCE\n        WORDS 0,01,000\nX       OCT   5\n        END\nSTART X\nRUN 1\n") [] false ≡ Err (Asm (OutOfSector 5))
+unfolding lines_from words_from told_from deck_from is_name parts_of signed_of octals_of address_in literal_in body_in operation_of meaning_of after_end items_from placement least nothing
+start_of_a_word = refl
