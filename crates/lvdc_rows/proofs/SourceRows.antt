@@ -99,9 +99,9 @@ without_start = refl
 
 -- START in line 5, with a name that no line has, and with that of a word
 start_of_no_name : deck_of (codes "SOURCE\n        CODE\nGO      TRA   GO\n        END\nSTART NOPE\nRUN 1\n") [] false ≡ Err (Asm (UndefinedName 5))
-unfolding lines_from words_from told_from deck_from is_name parts_of signed_of octals_of address_in literal_in body_in operation_of meaning_of after_end items_from placement least nothing
+unfolding lines_from words_from told_from deck_from is_name parts_of signed_of octals_of address_in literal_in body_in operation_of meaning_of after_end items_from placement least nothing word_in
 start_of_no_name = refl
 
 start_of_a_word : deck_of (codes "SOURCE\n        WORDS 0,01,000\nX       OCT   5\n        END\nSTART X\nRUN 1\n") [] false ≡ Err (Asm (OutOfSector 5))
-unfolding lines_from words_from told_from deck_from is_name parts_of signed_of octals_of address_in literal_in body_in operation_of meaning_of after_end items_from placement least nothing
+unfolding lines_from words_from told_from deck_from is_name parts_of signed_of octals_of address_in literal_in body_in operation_of meaning_of after_end items_from placement least nothing word_in
 start_of_a_word = refl
