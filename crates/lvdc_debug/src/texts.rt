@@ -18,7 +18,7 @@ use lvdc_map::Address;
 use lvdc_modules::latches;
 use lvdc_plain::Visible;
 use lvdc_report::{put_end, put_memory_line, put_registers, put_unknown_line};
-use lvdc_text::{Piece, put, put_line, put_octal};
+use lvdc_text::{Piece, fill_octal, put, put_decimal, put_line, put_octal};
 use lvdc_word::{NoMemory, Syllable, Word};
 
 /// Adds pair or module, sector, syllable and location, as `p ss s lll`.
@@ -219,12 +219,23 @@ fn put_dis(
     Ok(())
 }
 
+/// The word of a latch, with a blank before it.
+#[inline(always)]
+fn latch_text(word: Word) -> [u8; 10]
+    ensures { result ≡ latch_text word }
+{
+    let mut text = *b" 000000000";
+    fill_octal(&mut text[1..10], u64::from(word.value()));
+    text
+}
+
 /// Adds the word of a latch.
 pub fn put_latch(out: &mut Vec<u8>, word: Word) -> Result<(), NoMemory>
     ensures text { OnOk result (out.new.items ≡ out.old.items ++ latch_text word) }
     ensures short { OnOk result (length out.new.items ≤ length out.old.items + 10) }
 {
-    put(out, &[Piece::Bytes(b" "), Piece::Word(word)])
+    out.extend_from_slice(&latch_text(word))?;
+    Ok(())
 }
 
 /// Adds the latches of a copy in order.
@@ -245,11 +256,10 @@ pub fn put_copy(out: &mut Vec<u8>, machine: &Machine, number: u8, copy: u8) -> R
     ensures line { OnOk result (out.new.items ≡ out.old.items ++ copy_line machine.now.copies number copy) }
     ensures short { OnOk result (length out.new.items ≤ length out.old.items + 100) }
 {
-    let (name, blank) = (Piece::Bytes(b"COPY "), Piece::Bytes(b" "));
-    put(
-        out,
-        &[name, Piece::Small(number), blank, Piece::Small(copy)],
-    )?;
+    out.extend_from_slice(b"COPY ")?;
+    put_decimal(out, u64::from(number))?;
+    out.extend_from_slice(b" ")?;
+    put_decimal(out, u64::from(copy))?;
     put_latches(out, machine, number, copy)?;
     out.extend_from_slice(b"\n")?;
     Ok(())
