@@ -6,7 +6,7 @@ use Rattle.std.specs.Str.Lines.{strip_carriage_return}
 use Rattle.std.proofs.lemmas.List.Elements.{All-from_recursion}
 use Rattle.std.proofs.lemmas.List.Kept.{AllPairs-cons}
 use Rattle.lvdc_map.specs.Hop.{HopConstant}
-use Rattle.lvdc_text.specs.Lines.{part_at, is_line_feed, lines_from, lines_of, part_of, is_long, is_comment}
+use Rattle.lvdc_text.specs.Lines.{numbered_part, is_line_feed, lines_from, lines_of, part_of, is_long, is_comment}
 use Rattle.lvdc_text.specs.declared.cutting.Line.{Line}
 use Rattle.lvdc_port.specs.Device.{Device}
 use Rattle.lvdc_deck.specs.declared.deck.Deck.{Deck}
@@ -37,11 +37,11 @@ length-either false text = omega arith
 stripped_fits : (text : List ℕ) → length (strip_carriage_return text) ≤ length text
 stripped_fits text = length-either (get_or text (length text - 1) 0 == 13) text
 
-last-after : (place number start count : ℕ) (empty : Bool) → place < start → After place (if empty then [] else part_at number start count ∷ [])
+last-after : (place number start count : ℕ) (empty : Bool) → place < start → After place (if empty then [] else numbered_part number start count ∷ [])
 last-after place number start count true later = tt
 last-after place number start count false later = (later, tt)
 
-last-apart : (number start count : ℕ) (empty : Bool) → Apart (if empty then [] else part_at number start count ∷ [])
+last-apart : (number start count : ℕ) (empty : Bool) → Apart (if empty then [] else numbered_part number start count ∷ [])
 last-apart number start count true = tt
 last-apart number start count false = (tt, tt)
 

@@ -3,7 +3,7 @@ use Rattle.std.proofs.Common.{◌≡◌, ℕ, zero, suc, ◌+◌, ◌-◌, ◌�
 use Rattle.std.specs.Bool.{if◌then◌else◌}
 use Rattle.std.specs.Prelude.{option_map}
 use Rattle.std.specs.List.{slice_split}
-use Rattle.lvdc_text.specs.Lines.{part_at, part_of, is_line_feed, lines_from, lines_of, texts_of, NumberedLine, numbered}
+use Rattle.lvdc_text.specs.Lines.{numbered_part, part_of, is_line_feed, lines_from, lines_of, texts_of, NumberedLine, numbered}
 use Rattle.lvdc_text.specs.declared.cutting.Line.{Line}
 use Rattle.lvdc_text.proofs.Texts.{texts-lines_of}
 use Rattle.lvdc_image.specs.Reading.{texts}
@@ -26,7 +26,7 @@ AreOneByOne (line ∷ lines) = (1 ≤ line.number) × AreCounted (line.number + 
 
 -- ---- the lines of bytes
 
-last-counted : (bytes : List ℕ) (number start count : ℕ) (b : Bool) → AreCounted number (numbered bytes (if b then [] else part_at number start count ∷ []))
+last-counted : (bytes : List ℕ) (number start count : ℕ) (b : Bool) → AreCounted number (numbered bytes (if b then [] else numbered_part number start count ∷ []))
 last-counted bytes number start count true = tt
 last-counted bytes number start count false = (refl, tt)
 

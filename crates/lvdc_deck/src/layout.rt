@@ -1,18 +1,10 @@
 ghost use Rattle.std.specs.Prelude.{◌≡◌, ◌<◌, ◌-◌, ◌^◌, length, map, All};
-ghost use Rattle.std.specs.Str.{bytes_eq};
 ghost use Rattle.lvdc_text.specs.Lines.{IsWithin, part_of};
 ghost use Rattle.lvdc_deck.specs.Sections.{section_of};
 ghost use Rattle.lvdc_deck.specs.Deck.{opened_by, opening_of, end_of, after_program};
 
 use crate::section::{Opening, ProgramKind, Section};
-use lvdc_text::{Line, few_tokens, is_comment, is_long, is_word, place_of};
-
-/// Does the text spell this word?
-pub(crate) fn spells(text: &[u8], word: &[u8]) -> bool
-    ensures { result ≡ bytes_eq text.now word.now }
-{
-    text == word
-}
+use lvdc_text::{Line, few_tokens, is_comment, is_long, is_word, place_of, spells};
 
 /// The section that a first word opens.
 pub(crate) fn section_of(word: &[u8]) -> Option<Section>

@@ -6,11 +6,10 @@ ghost use Rattle.lvdc_deck.specs.Sections.{is_unplugged, kind_left, tape_line, u
 
 use crate::DeckFault;
 use crate::fields::{port_in, supplies_in, time_in};
-use crate::layout::spells;
 use crate::said::Said;
 use lvdc_plain::Unplug;
 use lvdc_port::{Kind, PortDevice, kind_at};
-use lvdc_text::{Line, part};
+use lvdc_text::{Line, part, spells};
 use std::alloc::Global;
 
 impl Said {

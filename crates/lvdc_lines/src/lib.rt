@@ -1,5 +1,5 @@
-//! Lines that several texts share. Those of a fault script and of a deck's orders: events with their numbers in range, and orders of
-//! latching (this project's profile). Those of what a run notes: exchanges with devices, and repairs.
+//! The lines of faults, orders, exchanges and repairs, which several texts share. What is read: the events of a fault script, with their
+//! numbers in range, and orders of latching (this project's profile). What is written: what a run notes of its devices and repairs.
 #![tactic(auto)]
 
 mod cells;

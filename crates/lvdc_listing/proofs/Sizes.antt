@@ -9,7 +9,7 @@ use Rattle.std.proofs.lemmas.List.Elements.{All-head, All-tail}
 use Rattle.std.proofs.lemmas.List.Splits.{slice_split-cons_yes, slice_split-cons_no, length-slice_split}
 use Rattle.lvdc_map.specs.Address.{Spot}
 use Rattle.lvdc_map.specs.Memory.{Memory, memory_of, word_at}
-use Rattle.lvdc_text.specs.Lines.{is_line_feed, lines_from, lines_of, part_at, part_of, IsWithin, NumberedLine, numbered, is_comment}
+use Rattle.lvdc_text.specs.Lines.{is_line_feed, lines_from, lines_of, numbered_part, part_of, IsWithin, NumberedLine, numbered, is_comment}
 use Rattle.lvdc_text.specs.Numbers.{octal_text}
 use Rattle.lvdc_text.specs.declared.cutting.Line.{Line}
 use Rattle.lvdc_text.specs.Joined.{text_of}
@@ -162,7 +162,7 @@ length-either false text = omega arith
 stripped_fits : (text : List ℕ) → length (strip_carriage_return text) ≤ length text
 stripped_fits text = length-either (get_or text (length text - 1) 0 == 13) text
 
-length-part : (bytes : List ℕ) (number start n : ℕ) → length (part_of bytes (part_at number start n)) ≤ n
+length-part : (bytes : List ℕ) (number start n : ℕ) → length (part_of bytes (numbered_part number start n)) ≤ n
 length-part bytes number start n = omega (arith, length-take (start + n - start) (drop start bytes))
 
 -- lines take no more bytes than their pieces, and there are fewer of them
@@ -170,7 +170,7 @@ record FitIn (bytes : List ℕ) (lines : List Line) (size : ℕ) : Type 0 where
   whole : weight (numbered bytes lines) ≤ size
   count : length lines ≤ size - 1
 
-last-fits : (bytes : List ℕ) (number start n : ℕ) (v : Bool) → (n == 0) ≡ v → FitIn bytes (if v then [] else part_at number start n ∷ []) (n + 1)
+last-fits : (bytes : List ℕ) (number start n : ℕ) (v : Bool) → (n == 0) ≡ v → FitIn bytes (if v then [] else numbered_part number start n ∷ []) (n + 1)
 last-fits bytes number start n true e = record { whole = omega arith; count = omega arith }
 last-fits bytes number start zero false e = absurd (cc)
 last-fits bytes number start (suc n) false e = record { whole = omega (arith, length-part bytes number start (suc n)); count = omega arith }
@@ -180,7 +180,7 @@ unfolding lines_from
 lines_from-fit bytes number start [] = record { whole = omega arith; count = omega arith }
 lines_from-fit bytes number start (piece ∷ []) =
     let size : length piece + 1 ≡ size_of (piece ∷ []) = omega arith in
-    subst (FitIn bytes (if length piece == 0 then [] else part_at number start (length piece) ∷ [])) size (last-fits bytes number start (length piece) (length piece == 0) refl)
+    subst (FitIn bytes (if length piece == 0 then [] else numbered_part number start (length piece) ∷ [])) size (last-fits bytes number start (length piece) (length piece == 0) refl)
 lines_from-fit bytes number start (piece ∷ next ∷ pieces) =
     let rest = lines_from-fit bytes (number + 1) (start + length piece + 1) (next ∷ pieces) in
     record {

@@ -6,7 +6,7 @@ use Rattle.std.proofs.lemmas.Bool.{leb-true}
 use Rattle.std.proofs.lemmas.Bool.Decides.{nat_tests}
 use Rattle.std.proofs.lemmas.List.Elements.{All-nil, All-cons}
 use Rattle.std.proofs.lemmas.List.Splits.{slice_split_at, length-slice_split}
-use Rattle.lvdc_text.specs.Lines.{NumberedLine, is_line_feed, part_at, part_of, lines_from, lines_of, texts_of, numbered_line, numbered}
+use Rattle.lvdc_text.specs.Lines.{NumberedLine, is_line_feed, numbered_part, part_of, lines_from, lines_of, texts_of, numbered_line, numbered}
 use Rattle.lvdc_text.proofs.Texts.{texts-lines_of}
 use Rattle.lvdc_save.proofs.Below.{both}
 use Rattle.lvdc_save.proofs.Words.{is_printing}
@@ -60,8 +60,8 @@ counted number [] = []
 counted number (text ∷ texts) = record { number = number; text = text } ∷ counted (number + 1) texts
 
 open_part : (bytes : List ℕ) (number start size : ℕ) (none : Bool) →
-    numbered bytes (if none then [] else part_at number start size ∷ [])
-    ≡ counted number (map (part_of bytes) (if none then [] else part_at number start size ∷ []))
+    numbered bytes (if none then [] else numbered_part number start size ∷ [])
+    ≡ counted number (map (part_of bytes) (if none then [] else numbered_part number start size ∷ []))
 open_part bytes number start size true = refl
 open_part bytes number start size false = refl
 
@@ -71,7 +71,7 @@ unfolding lines_from
 numbered-from bytes number start [] = refl
 numbered-from bytes number start (piece ∷ []) = open_part bytes number start (length piece) (length piece == 0)
 numbered-from bytes number start (piece ∷ next ∷ pieces) =
-    ap (λ (rest : List NumberedLine). numbered_line bytes (part_at number start (length (strip_carriage_return piece))) ∷ rest)
+    ap (λ (rest : List NumberedLine). numbered_line bytes (numbered_part number start (length (strip_carriage_return piece))) ∷ rest)
     (numbered-from bytes (number + 1) (start + length piece + 1) (next ∷ pieces))
 
 -- the numbered lines of a text of such lines

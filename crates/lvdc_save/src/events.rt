@@ -4,9 +4,10 @@ ghost use Rattle.std.specs.Prelude.{◌≡◌, ◌++◌, OnOk};
 ghost use Rattle.lvdc_fault.specs.declared.event.Event.TheVariants as happens;
 ghost use Rattle.lvdc_save.specs.Lines.{fault_line};
 
-use crate::parts::{put_acts_on, put_cell, put_number, put_spot, put_text, put_word};
+use crate::parts::{put_acts_on, put_cell, put_number, put_spot, put_word};
 use lvdc_fault::Event;
 use lvdc_map::Address;
+use lvdc_text::put_text;
 use lvdc_word::{Cell, NoMemory, Word};
 
 fn put_flip(

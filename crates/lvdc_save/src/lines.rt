@@ -10,14 +10,14 @@ ghost use Rattle.lvdc_save.specs.Printed.{IsSupply, IsUnplug};
 
 use crate::Entry;
 use crate::events::put_fault;
-use crate::parts::{put_cell, put_number, put_spot, put_text, put_twins, put_word, put_words};
+use crate::parts::{put_cell, put_number, put_spot, put_twins, put_word, put_words};
 use lvdc_image::put_simplex;
 use lvdc_lines::{put_exchange_line, put_repair_line};
 use lvdc_map::{Banks, Placed};
 use lvdc_orders::Order;
 use lvdc_plain::Unplug;
 use lvdc_port::Supply;
-use lvdc_text::put_octal;
+use lvdc_text::{put_octal, put_text};
 use lvdc_twin::Held;
 use lvdc_word::{NoMemory, Word};
 

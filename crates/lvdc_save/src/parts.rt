@@ -7,16 +7,8 @@ ghost use Rattle.lvdc_save.specs.Lines.{number_after, word_after, cell_after, sp
 
 use lvdc_image::put_address;
 use lvdc_map::Address;
-use lvdc_text::{put_decimal, put_octal};
+use lvdc_text::{put_decimal, put_octal, put_text};
 use lvdc_word::{Cell, NoMemory, Word};
-
-/// Adds a text.
-pub(crate) fn put_text(out: &mut Vec<u8>, text: &[u8]) -> Result<(), NoMemory>
-    ensures { OnOk result (out.new.items ≡ out.old.items ++ text.now) }
-{
-    out.extend_from_slice(text)?;
-    Ok(())
-}
 
 /// Adds a decimal number after a blank.
 pub(crate) fn put_number(out: &mut Vec<u8>, number: u64) -> Result<(), NoMemory>

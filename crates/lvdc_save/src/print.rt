@@ -19,7 +19,6 @@ use crate::lines::{
     put_copy, put_count, put_held, put_order, put_placed, put_select, put_simplex_line, put_state,
     put_steps, put_unplug,
 };
-use crate::parts::put_text;
 use lvdc_fault::Script;
 use lvdc_lines::{put_log, put_repairs};
 use lvdc_map::{Banks, Placed};
@@ -28,6 +27,7 @@ use lvdc_orders::{COPIES, Orders};
 use lvdc_plain::Unplug;
 use lvdc_port::Supply;
 use lvdc_snapshot::Snapshot;
+use lvdc_text::put_text;
 use lvdc_twin::Held;
 use lvdc_word::NoMemory;
 use std::alloc::Global;

@@ -17,7 +17,7 @@ use lvdc_model::Repair;
 use lvdc_plain::{Exchange, Unplug};
 use lvdc_port::Supply;
 use lvdc_save::{CopyState, Entry, put_entry};
-use lvdc_text::{Line, octal_word, part, tokens};
+use lvdc_text::{Line, octal_word, part, spells, tokens};
 use lvdc_twin::Held;
 use lvdc_word::{Cell, NoMemory, Seq, Word};
 use std::alloc::Global;
@@ -353,13 +353,6 @@ fn end_in(fields: &[Line]) -> Option<Entry>
         [] => Some(Entry::End),
         _ => None,
     }
-}
-
-/// Does the text spell this word?
-fn spells(text: &[u8], word: &[u8]) -> bool
-    ensures { result ≡ bytes_eq text.now word.now }
-{
-    text == word
 }
 
 /// What a line of a list with these tokens says, of which the first has this text.

@@ -1,6 +1,6 @@
 ghost use Rattle.std.specs.Prelude.{◌≡◌, ◌≢◌, ◌<◌, ◌≤◌, ◌+◌, ◌++◌, ◌∷◌, List, ℕ, true, false, [], length, take, drop, slice_range, Ok, Err, IfOk, IfSome, IfNone, OnErr, IsErrOf, vec_len, vec_capacity};
 ghost use Rattle.std.specs.Io.KnownBytes.{Consumes, IsAtEnd};
-ghost use Rattle.lvdc_text.specs.Causes.{HasCause, Rose};
+ghost use Rattle.lvdc_text.specs.Causes.{CountsFailures, Rose};
 ghost use Rattle.lvdc_service.specs.Reading.{Uses, to_come, IsShort, IsLine};
 
 use arrayvec::ArrayVec;
@@ -79,7 +79,7 @@ impl Reader {
         ensures taken { IfOk result (λ _. Consumes (S.state source.old).left (S.state source.new).left self.new) }
         ensures end { IfOk result (λ _. self.new ≡ [] → IsAtEnd (S.state source.new).left) }
         ensures failed { OnErr result ((self.new ≡ []) × Consumes (S.state source.old).left (S.state source.new).left []) }
-        ensures cause { HasCause (S.state source.old).faults (S.state source.new).faults result }
+        ensures cause { CountsFailures (S.state source.old).faults (S.state source.new).faults result }
     {
         self.at = 0;
         self.end = 0;
@@ -92,7 +92,7 @@ impl Reader {
         ensures used { Uses self.old (S.state source.old).left self.new (S.state source.new).left [] }
         ensures some { result ≡ Ok true → 0 < length self.new }
         ensures none { result ≡ Ok false → to_come self.new (S.state source.new).left ≡ [] }
-        ensures cause { HasCause (S.state source.old).faults (S.state source.new).faults result }
+        ensures cause { CountsFailures (S.state source.old).faults (S.state source.new).faults result }
     {
         if self.is_empty() {
             self.fill(source)?;
@@ -141,7 +141,7 @@ impl Reader {
         ensures none { IfOk result (λ next. IfNone next (Uses self.old (S.state source.old).left self.new (S.state source.new).left []
             × (to_come self.new (S.state source.new).left ≡ []))) }
         ensures failed { OnErr result (Uses self.old (S.state source.old).left self.new (S.state source.new).left []) }
-        ensures cause { HasCause (S.state source.old).faults (S.state source.new).faults result }
+        ensures cause { CountsFailures (S.state source.old).faults (S.state source.new).faults result }
     {
         if self.more(source)? {
             Ok(Some(self.first()))
@@ -155,7 +155,7 @@ impl Reader {
     pub fn line<S: Source>(&mut self, source: &mut S) -> Result<Line, Failed>
         ensures line { IfOk result (λ line. IsLine line self.old (S.state source.old).left self.new (S.state source.new).left) }
         ensures failed { OnErr result ((used : List ℕ) × Uses self.old (S.state source.old).left self.new (S.state source.new).left used) }
-        ensures cause { HasCause (S.state source.old).faults (S.state source.new).faults result }
+        ensures cause { CountsFailures (S.state source.old).faults (S.state source.new).faults result }
     {
         let mut line = ArrayVec::new();
         loop {

@@ -9,7 +9,7 @@ use Rattle.std.specs.Str.Lines.{strip_carriage_return}
 use Rattle.std.proofs.lemmas.Bool.Decides.{nat_tests}
 use Rattle.std.proofs.lemmas.Grind.{common_steps}
 use Rattle.lvdc_text.specs.declared.cutting.Line.{Line}
-use Rattle.lvdc_text.specs.Lines.{part_at, is_line_feed, lines_from, is_blank, words_from, words_left}
+use Rattle.lvdc_text.specs.Lines.{numbered_part, is_line_feed, lines_from, is_blank, words_from, words_left}
 
 -- whether the byte doesn't end a part
 abbrev pub goes_on : (ℕ → Bool) → ℕ → Bool
@@ -29,14 +29,14 @@ pub not_zero : (n : ℕ) → 0 < n → (n == 0) ≡ false
 not_zero n l = grind (arith, nat_tests)
 
 pub lines_from-ended : (number start : ℕ) (piece : List ℕ) (pieces : List (List ℕ)) → 0 < length pieces
-    → lines_from number start (piece ∷ pieces) ≡ part_at number start (length (strip_carriage_return piece)) ∷ lines_from (number + 1) (start + length piece + 1) pieces
+    → lines_from number start (piece ∷ pieces) ≡ numbered_part number start (length (strip_carriage_return piece)) ∷ lines_from (number + 1) (start + length piece + 1) pieces
 unfolding lines_from
 lines_from-ended number start piece [] l = absurd (omega arith)
 lines_from-ended number start piece (next ∷ pieces) l = refl
 
-pub lines_from-open : (number start : ℕ) (piece : List ℕ) → 0 < length piece → lines_from number start (piece ∷ []) ≡ part_at number start (length piece) ∷ []
+pub lines_from-open : (number start : ℕ) (piece : List ℕ) → 0 < length piece → lines_from number start (piece ∷ []) ≡ numbered_part number start (length piece) ∷ []
 unfolding lines_from
-lines_from-open number start piece l = ap (λ empty. if empty then [] else part_at number start (length piece) ∷ []) (not_zero (length piece) l)
+lines_from-open number start piece l = ap (λ empty. if empty then [] else numbered_part number start (length piece) ∷ []) (not_zero (length piece) l)
 
 pub lines_from-none : (number start : ℕ) → lines_from number start [] ≡ []
 unfolding lines_from
@@ -48,13 +48,13 @@ lines_from-empty number start = refl
 
 -- a line that LF ends
 pub first_line : (number start : ℕ) (text rest : List ℕ) → All (λ b. is_line_feed b ≡ false) text
-    → lines_from number start (slice_split is_line_feed (text ++ 10 ∷ rest)) ≡ part_at number start (length (strip_carriage_return text)) ∷ lines_from (number + 1) (start + length text + 1) (slice_split is_line_feed rest)
+    → lines_from number start (slice_split is_line_feed (text ++ 10 ∷ rest)) ≡ numbered_part number start (length (strip_carriage_return text)) ∷ lines_from (number + 1) (start + length text + 1) (slice_split is_line_feed rest)
 first_line number start text rest h =
     ap (lines_from number start) (slice_split_at is_line_feed text 10 rest h refl) ∙ lines_from-ended number start text (slice_split is_line_feed rest) (some_piece is_line_feed rest)
 
 -- a line that nothing ends
 pub last_line : (number start : ℕ) (text : List ℕ) → All (λ b. is_line_feed b ≡ false) text → 0 < length text
-    → lines_from number start (slice_split is_line_feed text) ≡ part_at number start (length text) ∷ []
+    → lines_from number start (slice_split is_line_feed text) ≡ numbered_part number start (length text) ∷ []
 last_line number start text h l = ap (lines_from number start) (slice_split_none is_line_feed text h) ∙ lines_from-open number start text l
 
 pub words_from-empty : (number start : ℕ) (pieces : List (List ℕ)) → words_from number start ([] ∷ pieces) ≡ words_from number (start + 1) pieces
@@ -66,10 +66,10 @@ unfolding words_from
 words_from-none number start = refl
 
 pub words_from-some : (number start : ℕ) (piece : List ℕ) (pieces : List (List ℕ)) → 0 < length piece
-    → words_from number start (piece ∷ pieces) ≡ part_at number start (length piece) ∷ words_from (number + 1) (start + length piece + 1) pieces
+    → words_from number start (piece ∷ pieces) ≡ numbered_part number start (length piece) ∷ words_from (number + 1) (start + length piece + 1) pieces
 unfolding words_from
 words_from-some number start piece pieces l =
-    ap (λ empty. if empty then words_from number (start + 1) pieces else part_at number start (length piece) ∷ words_from (number + 1) (start + length piece + 1) pieces) (not_zero (length piece) l)
+    ap (λ empty. if empty then words_from number (start + 1) pieces else numbered_part number start (length piece) ∷ words_from (number + 1) (start + length piece + 1) pieces) (not_zero (length piece) l)
 
 -- a blank is passed over
 pub blank_first : (number start b : ℕ) (rest : List ℕ) → is_blank b ≡ true
@@ -78,16 +78,16 @@ blank_first number start b rest h = ap (words_from number start) (slice_split-co
 
 -- a word that a blank ends
 pub first_word : (number start b : ℕ) (text rest : List ℕ) → All (λ b. is_blank b ≡ false) text → 0 < length text → is_blank b ≡ true
-    → words_from number start (slice_split is_blank (text ++ b ∷ rest)) ≡ part_at number start (length text) ∷ words_from (number + 1) (start + length text + 1) (slice_split is_blank rest)
+    → words_from number start (slice_split is_blank (text ++ b ∷ rest)) ≡ numbered_part number start (length text) ∷ words_from (number + 1) (start + length text + 1) (slice_split is_blank rest)
 first_word number start b text rest h l k =
     ap (words_from number start) (slice_split_at is_blank text b rest h k) ∙ words_from-some number start text (slice_split is_blank rest) l
 
 -- a word that nothing ends
 pub last_word : (number start : ℕ) (text : List ℕ) → All (λ b. is_blank b ≡ false) text → 0 < length text
-    → words_from number start (slice_split is_blank text) ≡ part_at number start (length text) ∷ []
+    → words_from number start (slice_split is_blank text) ≡ numbered_part number start (length text) ∷ []
 last_word number start text h l =
     ap (words_from number start) (slice_split_none is_blank text h) ∙ words_from-some number start text [] l
-    ∙ ap (λ rest. part_at number start (length text) ∷ rest) (words_from-none (number + 1) (start + length text + 1))
+    ∙ ap (λ rest. numbered_part number start (length text) ∷ rest) (words_from-none (number + 1) (start + length text + 1))
 
 -- the bytes up to this place, and from it
 cut_at : (start at : ℕ) (bytes : List ℕ) → start ≤ at → at < length bytes
@@ -118,14 +118,14 @@ none_more p at rest = let none : at - at ≡ 0 = omega arith in rw none refl
 -- LF ends the line in hand
 pub line_ended : (number start at : ℕ) (bytes : List ℕ) (lines all : List Line) → start ≤ at → at < length bytes → list_all (goes_on is_line_feed) (take (at - start) (drop start bytes)) ≡ true → get_or bytes at 0 ≡ 10
     → lines ++ lines_from number start (slice_split is_line_feed (drop start bytes)) ≡ all
-    → (lines ++ part_at number start (length (strip_carriage_return (take (at - start) (drop start bytes)))) ∷ []) ++ lines_from (number + 1) (at + 1) (slice_split is_line_feed (drop (at + 1) bytes)) ≡ all
+    → (lines ++ numbered_part number start (length (strip_carriage_return (take (at - start) (drop start bytes)))) ∷ []) ++ lines_from (number + 1) (at + 1) (slice_split is_line_feed (drop (at + 1) bytes)) ≡ all
 line_ended number start at bytes lines all o l h k e =
     let text = take (at - start) (drop start bytes) in
     let size = cut_length start at bytes o (omega arith) in
     let place : start + length (take (at - start) (drop start bytes)) + 1 ≡ at + 1 = omega arith in
     let cut : drop start bytes ≡ text ++ (10 ∷ drop (at + 1) bytes) = cut_at start at bytes o l ∙ ap (λ b. text ++ (b ∷ drop (at + 1) bytes)) k in
     let first = ap (λ bs. lines_from number start (slice_split is_line_feed bs)) cut ∙ first_line number start text (drop (at + 1) bytes) (ends_nowhere is_line_feed text h)
-    ∙ ap (λ n. part_at number start (length (strip_carriage_return text)) ∷ lines_from (number + 1) n (slice_split is_line_feed (drop (at + 1) bytes))) place in
+    ∙ ap (λ n. numbered_part number start (length (strip_carriage_return text)) ∷ lines_from (number + 1) n (slice_split is_line_feed (drop (at + 1) bytes))) place in
     append_assoc lines _ _ ∙ ap (λ rest. lines ++ rest) (sym first) ∙ e
 
 rest_length : (start : ℕ) (bytes : List ℕ) → start < length bytes → start + length (drop start bytes) ≡ length bytes
@@ -136,7 +136,7 @@ rest_whole : (p : ℕ → Bool) (start : ℕ) (bytes : List ℕ) → list_all p 
 rest_whole p start bytes h = ap (list_all p) (sym (take_all (length bytes - start) (drop start bytes) (omega (arith, length-drop start bytes)))) ∙ h
 
 -- the part that goes up to the end
-part_to_end : (number start : ℕ) (bytes : List ℕ) → start < length bytes → part_at number start (length (drop start bytes)) ≡ record { number = number; start = start; end = length bytes }
+part_to_end : (number start : ℕ) (bytes : List ℕ) → start < length bytes → numbered_part number start (length (drop start bytes)) ≡ record { number = number; start = start; end = length bytes }
 part_to_end number start bytes l = ap (λ n. record { number = number; start = start; end = n }) (rest_length start bytes l)
 
 -- nothing ends the last line

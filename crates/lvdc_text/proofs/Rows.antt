@@ -5,7 +5,7 @@ use Rattle.std.specs.Fmt.{digits}
 use Rattle.std.specs.IoError.{error_kind}
 use Rattle.std.specs.declared.io.Error.{Error}
 use Rattle.std.specs.declared.io.ErrorKind.TheVariants.{Interrupted}
-use Rattle.lvdc_text.specs.Lines.{part_at, lines_from, lines_of, words_from, words_of}
+use Rattle.lvdc_text.specs.Lines.{numbered_part, lines_from, lines_of, words_from, words_of}
 use Rattle.lvdc_text.specs.Numbers.{number_of, octal_text}
 use Rattle.lvdc_text.specs.Pieces.{pieces_text, fields_text}
 use Rattle.lvdc_text.specs.declared.pieces.Piece.TheVariants.{Decimal, Small, Octal, Word, Cell, Address}
@@ -13,15 +13,15 @@ use Rattle.lvdc_text.specs.Room.{TakesSome, UsesRoom}
 use Rattle.lvdc_text.specs.Tries.{WereInterrupted, IsTried, most_tries}
 use Rattle.lvdc_text.specs.Tries.IsTried.{answered, given_up}
 
-cr_stays_at_the_end : lines_of (65 ∷ 13 ∷ 10 ∷ 66 ∷ 13 ∷ []) ≡ part_at 1 0 1 ∷ part_at 2 3 2 ∷ []
+cr_stays_at_the_end : lines_of (65 ∷ 13 ∷ 10 ∷ 66 ∷ 13 ∷ []) ≡ numbered_part 1 0 1 ∷ numbered_part 2 3 2 ∷ []
 unfolding lines_from
 cr_stays_at_the_end = refl
 
-nothing_after_the_last : lines_of (10 ∷ 13 ∷ 10 ∷ []) ≡ part_at 1 0 0 ∷ part_at 2 1 0 ∷ []
+nothing_after_the_last : lines_of (10 ∷ 13 ∷ 10 ∷ []) ≡ numbered_part 1 0 0 ∷ numbered_part 2 1 0 ∷ []
 unfolding lines_from
 nothing_after_the_last = refl
 
-blanks_part_words : words_of (32 ∷ 65 ∷ 66 ∷ 9 ∷ 32 ∷ 55 ∷ []) ≡ part_at 1 1 2 ∷ part_at 2 5 1 ∷ []
+blanks_part_words : words_of (32 ∷ 65 ∷ 66 ∷ 9 ∷ 32 ∷ 55 ∷ []) ≡ numbered_part 1 1 2 ∷ numbered_part 2 5 1 ∷ []
 unfolding words_from
 blanks_part_words = refl
 

@@ -5,7 +5,7 @@ use Rattle.std.specs.Str.Lines.{strip_carriage_return, lines_of_parts}
 use Rattle.std.proofs.lemmas.List.{take-append-drop, take-append-le, drop-drop}
 use Rattle.std.proofs.Math.Seq.{take-length}
 use Rattle.std.proofs.lemmas.List.Splits.{slice_split-cons_yes, slice_split-cons_no, length-slice_split}
-use Rattle.lvdc_text.specs.Lines.{part_at, part_of, is_line_feed, lines_from, lines_of, texts_of, is_blank, words_from, words_of, word_texts_of, has_bytes}
+use Rattle.lvdc_text.specs.Lines.{numbered_part, part_of, is_line_feed, lines_from, lines_of, texts_of, is_blank, words_from, words_of, word_texts_of, has_bytes}
 use Rattle.lvdc_text.proofs.FirstParts.{not_zero, lines_from-ended, lines_from-open, lines_from-empty, lines_from-none, words_from-empty, words_from-none, words_from-some}
 use Rattle.lvdc_text.proofs.Bounds.{stripped_fits}
 
@@ -35,20 +35,20 @@ stands-slice_split : (ends : ℕ → Bool) (bytes : List ℕ) (start : ℕ) (res
 stands-slice_split ends bytes start [] e = (refl, tt)
 stands-slice_split ends bytes start (b ∷ rest) e = stands-next ends bytes start b rest e (stands-slice_split ends bytes (start + 1) rest (next_rest bytes start b rest e)) (ends b) refl
 
-part_is : (number start n : ℕ) (piece bytes : List ℕ) → take (length piece) (drop start bytes) ≡ piece → n ≤ length piece → part_of bytes (part_at number start n) ≡ take n piece
+part_is : (number start n : ℕ) (piece bytes : List ℕ) → take (length piece) (drop start bytes) ≡ piece → n ≤ length piece → part_of bytes (numbered_part number start n) ≡ take n piece
 part_is number start n piece bytes e l =
     let size : start + n - start ≡ n = omega arith in
     ap (λ k. take k (drop start bytes)) size ∙ ap (take n) (sym (take-append-drop (length piece) (drop start bytes)))
     ∙ ap (λ front. take n (front ++ drop (length piece) (drop start bytes))) e ∙ take-append-le n piece (drop (length piece) (drop start bytes)) l
 
-part_whole : (number start : ℕ) (piece bytes : List ℕ) → take (length piece) (drop start bytes) ≡ piece → part_of bytes (part_at number start (length piece)) ≡ piece
+part_whole : (number start : ℕ) (piece bytes : List ℕ) → take (length piece) (drop start bytes) ≡ piece → part_of bytes (numbered_part number start (length piece)) ≡ piece
 part_whole number start piece bytes e = part_is number start (length piece) piece bytes e (omega arith) ∙ take-length piece
 
 front_kept : (cr : Bool) (text : List ℕ) → take (length (if cr then take (length text - 1) text else text)) text ≡ (if cr then take (length text - 1) text else text)
 front_kept true text = let size : length (take (length text - 1) text) ≡ length text - 1 = omega (arith, length-take (length text - 1) text) in ap (λ n. take n text) size
 front_kept false text = take-length text
 
-part_stripped : (number start : ℕ) (piece bytes : List ℕ) → take (length piece) (drop start bytes) ≡ piece → part_of bytes (part_at number start (length (strip_carriage_return piece))) ≡ strip_carriage_return piece
+part_stripped : (number start : ℕ) (piece bytes : List ℕ) → take (length piece) (drop start bytes) ≡ piece → part_of bytes (numbered_part number start (length (strip_carriage_return piece))) ≡ strip_carriage_return piece
 part_stripped number start piece bytes e =
     part_is number start (length (strip_carriage_return piece)) piece bytes e (stripped_fits piece) ∙ front_kept (get_or piece (length piece - 1) 0 == 13) piece
 
@@ -61,11 +61,11 @@ texts-lines_from number start ([] ∷ []) bytes h = ap (map (part_of bytes)) (li
 texts-lines_from number start ((b ∷ bs) ∷ []) bytes h =
     let some : (length (b ∷ bs) == 0) ≡ false = not_zero (length (b ∷ bs)) (omega arith) in
     ap (map (part_of bytes)) (lines_from-open number start (b ∷ bs) (omega arith))
-    ∙ same_cons (part_of bytes (part_at number start (length (b ∷ bs)))) (b ∷ bs) [] [] (part_whole number start (b ∷ bs) bytes h.0) refl
+    ∙ same_cons (part_of bytes (numbered_part number start (length (b ∷ bs)))) (b ∷ bs) [] [] (part_whole number start (b ∷ bs) bytes h.0) refl
     ∙ ap (λ empty. if empty then [] else (b ∷ bs) ∷ []) (sym some)
 texts-lines_from number start (piece ∷ next ∷ pieces) bytes h =
     ap (map (part_of bytes)) (lines_from-ended number start piece (next ∷ pieces) (omega arith))
-    ∙ same_cons (part_of bytes (part_at number start (length (strip_carriage_return piece)))) (strip_carriage_return piece) (map (part_of bytes) (lines_from (number + 1) (start + length piece + 1) (next ∷ pieces))) (lines_of_parts (next ∷ pieces)) (part_stripped number start piece bytes h.0) (texts-lines_from (number + 1) (start + length piece + 1) (next ∷ pieces) bytes h.1)
+    ∙ same_cons (part_of bytes (numbered_part number start (length (strip_carriage_return piece)))) (strip_carriage_return piece) (map (part_of bytes) (lines_from (number + 1) (start + length piece + 1) (next ∷ pieces))) (lines_of_parts (next ∷ pieces)) (part_stripped number start piece bytes h.0) (texts-lines_from (number + 1) (start + length piece + 1) (next ∷ pieces) bytes h.1)
 
 texts-words_from : (number start : ℕ) (pieces : List (List ℕ)) (text : List ℕ) → StandsFrom text start pieces → map (part_of text) (words_from number start pieces) ≡ filter has_bytes pieces
 texts-words_from number start [] text h = ap (map (part_of text)) (words_from-none number start)
@@ -75,7 +75,7 @@ texts-words_from number start ([] ∷ pieces) text h =
 texts-words_from number start ((b ∷ bs) ∷ pieces) text h =
     let some : (length (b ∷ bs) == 0) ≡ false = not_zero (length (b ∷ bs)) (omega arith) in
     ap (map (part_of text)) (words_from-some number start (b ∷ bs) pieces (omega arith))
-    ∙ same_cons (part_of text (part_at number start (length (b ∷ bs)))) (b ∷ bs) (map (part_of text) (words_from (number + 1) (start + length (b ∷ bs) + 1) pieces)) (filter has_bytes pieces) (part_whole number start (b ∷ bs) text h.0) (texts-words_from (number + 1) (start + length (b ∷ bs) + 1) pieces text h.1)
+    ∙ same_cons (part_of text (numbered_part number start (length (b ∷ bs)))) (b ∷ bs) (map (part_of text) (words_from (number + 1) (start + length (b ∷ bs) + 1) pieces)) (filter has_bytes pieces) (part_whole number start (b ∷ bs) text h.0) (texts-words_from (number + 1) (start + length (b ∷ bs) + 1) pieces text h.1)
     ∙ ap (λ empty. if not empty then (b ∷ bs) ∷ filter has_bytes pieces else filter has_bytes pieces) (sym some)
 
 pub texts-lines_of : (bytes : List ℕ) → map (part_of bytes) (lines_of bytes) ≡ texts_of bytes

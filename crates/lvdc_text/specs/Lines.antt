@@ -6,8 +6,8 @@ use Rattle.lvdc_text.specs.declared.cutting.Line.{Line}
 use Rattle.lvdc_text.specs.declared.comment.TheConstants.{LONGEST_LINE}
 
 -- the part with this number, from this place on, of this length
-abbrev pub part_at : ℕ → ℕ → ℕ → Line
-part_at number start count = record { number = number; start = start; end = start + count }
+abbrev pub numbered_part : ℕ → ℕ → ℕ → Line
+numbered_part number start count = record { number = number; start = start; end = start + count }
 
 -- LF, which ends a line
 abbrev pub is_line_feed : ℕ → Bool
@@ -17,9 +17,9 @@ is_line_feed b = b == 10
 -- feed loses a CR at its end; the last piece keeps it, and is a line only where it isn't empty.
 unfoldable pub lines_from : ℕ → ℕ → List (List ℕ) → List Line
 lines_from number start [] = []
-lines_from number start (piece ∷ []) = if length piece == 0 then [] else part_at number start (length piece) ∷ []
+lines_from number start (piece ∷ []) = if length piece == 0 then [] else numbered_part number start (length piece) ∷ []
 lines_from number start (piece ∷ next ∷ pieces) =
-    part_at number start (length (strip_carriage_return piece)) ∷ lines_from (number + 1) (start + length piece + 1) (next ∷ pieces)
+    numbered_part number start (length (strip_carriage_return piece)) ∷ lines_from (number + 1) (start + length piece + 1) (next ∷ pieces)
 
 -- the lines of the bytes, from 1
 abbrev pub lines_of : List ℕ → List Line
@@ -38,7 +38,7 @@ unfoldable pub words_from : ℕ → ℕ → List (List ℕ) → List Line
 words_from number start [] = []
 words_from number start (piece ∷ pieces) =
     if length piece == 0 then words_from number (start + 1) pieces
-    else part_at number start (length piece) ∷ words_from (number + 1) (start + length piece + 1) pieces
+    else numbered_part number start (length piece) ∷ words_from (number + 1) (start + length piece + 1) pieces
 
 -- the words of the text from a place on, where the first has this number
 abbrev pub words_left : ℕ → ℕ → List ℕ → List Line

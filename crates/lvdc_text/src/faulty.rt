@@ -1,7 +1,7 @@
 ghost use Rattle.std.specs.Prelude.{◌≡◌, ◌+◌, ◌-◌, ◌^◌, ◌<◌, ◌≤◌, ◌↔◌, [], drop, length, min, Some, IsErr, IfOk, OnErr, Contains, vec_len, vec_capacity};
 ghost use Rattle.std.specs.Io.{ReadsAtMost};
 ghost use Rattle.std.specs.Io.KnownBytes.{ReadConsumes, WriteAppends};
-ghost use Rattle.lvdc_text.specs.Causes.{HasCause};
+ghost use Rattle.lvdc_text.specs.Causes.{CountsFailures};
 ghost use Rattle.lvdc_text.specs.Room.{HasRoom, TakesSome, UsesRoom};
 
 use crate::memory::copy_from;
@@ -35,7 +35,7 @@ impl Calls {
 
     /// Counts one more call, which fails where it is named.
     fn begin(&mut self) -> Result<(), Failed>
-        ensures cause { HasCause self.old.faults self.new.faults result }
+        ensures cause { CountsFailures self.old.faults self.new.faults result }
         // A failure is counted once, up to the greatest u64.
         ensures by_one { OnErr result (self.new.faults ≡ min (self.old.faults + 1) (2 ^ 64 - 1)) }
         ensures fails { IsErr result ↔ Contains self.old.fails.items self.new.made }
@@ -83,7 +83,7 @@ impl Source for FaultySource {
         ensures bound { ReadsAtMost result buf.new }
         ensures bytes { ReadConsumes (Some (drop self.old.at self.old.bytes.items))
             (Some (drop self.new.at self.new.bytes.items)) result buf.new }
-        ensures cause { HasCause self.old.calls.faults self.new.calls.faults result }
+        ensures cause { CountsFailures self.old.calls.faults self.new.calls.faults result }
         // A failure is counted once, up to the greatest u64.
         ensures by_one { OnErr result
             (self.new.calls.faults ≡ min (self.old.calls.faults + 1) (2 ^ 64 - 1)) }
@@ -141,7 +141,7 @@ impl Sink for FaultySink {
         ensures bytes { WriteAppends (Some self.old.bytes.items) (Some self.new.bytes.items)
             result piece.now }
         ensures room { UsesRoom (Some self.old.room) (Some self.new.room) result }
-        ensures cause { HasCause self.old.calls.faults self.new.calls.faults result }
+        ensures cause { CountsFailures self.old.calls.faults self.new.calls.faults result }
         // A failure is counted once, up to the greatest u64.
         ensures by_one { OnErr result
             (self.new.calls.faults ≡ min (self.old.calls.faults + 1) (2 ^ 64 - 1)) }

@@ -1,10 +1,18 @@
-//! Lines that are one word alone.
+//! Words, and lines that are one word alone.
 
 ghost use Rattle.std.specs.Prelude.{◌≡◌, ◌<◌, ◌-◌, ◌^◌, length, map, All};
+ghost use Rattle.std.specs.Str.{bytes_eq};
 ghost use Rattle.lvdc_text.specs.Lines.{IsWithin, part_of};
 ghost use Rattle.lvdc_text.specs.Headings.{is_word, is_alone, place_of};
 
 use crate::cutting::{Line, few_tokens, part};
+
+/// Does the text spell this word?
+pub fn spells(text: &[u8], word: &[u8]) -> bool
+    ensures { result ≡ bytes_eq text.now word.now }
+{
+    text == word
+}
 
 /// Are the tokens this word alone?
 pub fn is_word(word: &[u8], text: &[u8], tokens: &[Line]) -> bool

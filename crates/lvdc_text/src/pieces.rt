@@ -62,6 +62,15 @@ fn address_text(at: Address) -> [u8; 8]
     ]
 }
 
+/// Appends a text. After a want of memory `out` is as before.
+pub fn put_text(out: &mut Vec<u8>, text: &[u8]) -> Result<(), NoMemory>
+    ensures text { OnOk result (out.new.items ≡ out.old.items ++ text.now) }
+    ensures err { OnErr result (out.new.items ≡ out.old.items) }
+{
+    out.extend_from_slice(text)?;
+    Ok(())
+}
+
 /// Appends a piece.
 fn put_piece(out: &mut Vec<u8>, piece: &Piece) -> Result<(), NoMemory>
     requires { IsFit piece.now }

@@ -2,7 +2,7 @@ ghost use Rattle.std.specs.Prelude.{◌≡◌, ◌+◌, ◌-◌, ◌^◌, ℕ, m
 ghost use Rattle.std.specs.Io.{ReadsAtMost};
 ghost use Rattle.std.specs.Io.KnownBytes.{ReadConsumes, WriteAppends};
 ghost use Rattle.std.specs.declared.io.Error.{Error};
-ghost use Rattle.lvdc_text.specs.Causes.{HasCause};
+ghost use Rattle.lvdc_text.specs.Causes.{CountsFailures};
 ghost use Rattle.lvdc_text.specs.Room.{TakesSome, UsesRoom};
 ghost use Rattle.lvdc_text.specs.Tries.{IsTried, TellsRead, TellsWrite};
 
@@ -33,7 +33,7 @@ impl<R: Reads> Source for StdSource<R> {
     fn read(&mut self, buf: &mut [u8]) -> Result<usize, Failed>
         ensures bound { ReadsAtMost result buf.new }
         ensures bytes { ReadConsumes (R.left self.old.inner) (R.left self.new.inner) result buf.new }
-        ensures cause { HasCause self.old.faults self.new.faults result }
+        ensures cause { CountsFailures self.old.faults self.new.faults result }
         // A failure is counted once, up to the greatest u64.
         ensures by_one { OnErr result (self.new.faults ≡ min (self.old.faults + 1) (2 ^ 64 - 1)) }
         // It answers what the reader answered, once it wasn't interrupted.
@@ -75,7 +75,7 @@ impl<W: Writes> Sink for StdSink<W> {
         ensures count { TakesSome result piece.now }
         ensures bytes { WriteAppends (W.written self.old.inner) (W.written self.new.inner) result piece.now }
         ensures room { UsesRoom None None result }
-        ensures cause { HasCause self.old.faults self.new.faults result }
+        ensures cause { CountsFailures self.old.faults self.new.faults result }
         // A failure is counted once, up to the greatest u64.
         ensures by_one { OnErr result (self.new.faults ≡ min (self.old.faults + 1) (2 ^ 64 - 1)) }
         // It answers what the writer answered, once it wasn't interrupted.

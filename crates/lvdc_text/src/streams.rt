@@ -1,7 +1,7 @@
 ghost use Rattle.std.specs.Prelude.{◌<◌, length};
 ghost use Rattle.std.specs.Io.{ReadsAtMost};
 ghost use Rattle.std.specs.Io.KnownBytes.{ReadConsumes, WriteAppends};
-ghost use Rattle.lvdc_text.specs.Causes.{HasCause};
+ghost use Rattle.lvdc_text.specs.Causes.{CountsFailures};
 ghost use Rattle.lvdc_text.specs.Room.{HasRoom, TakesSome, UsesRoom};
 ghost use Rattle.lvdc_text.specs.Streams.{SourceState, SinkState};
 
@@ -21,7 +21,7 @@ pub trait Source {
     fn read(&mut self, buf: &mut [u8]) -> Result<usize, Failed>
         ensures bound { ReadsAtMost result buf.new }
         ensures bytes { ReadConsumes (state self.old).left (state self.new).left result buf.new }
-        ensures cause { HasCause (state self.old).faults (state self.new).faults result };
+        ensures cause { CountsFailures (state self.old).faults (state self.new).faults result };
 }
 
 /// Where bytes go.
@@ -35,5 +35,5 @@ pub trait Sink {
         ensures count { TakesSome result piece.now }
         ensures bytes { WriteAppends (state self.old).written (state self.new).written result piece.now }
         ensures room { UsesRoom (state self.old).room (state self.new).room result }
-        ensures cause { HasCause (state self.old).faults (state self.new).faults result };
+        ensures cause { CountsFailures (state self.old).faults (state self.new).faults result };
 }

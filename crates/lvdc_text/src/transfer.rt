@@ -1,6 +1,6 @@
 ghost use Rattle.std.specs.Prelude.{◌≡◌, ◌+◌, ◌<◌, ◌≤◌, ◌-◌, ◌≢◌, length, take, IfOk, IfErr, OnOk, OnErr, IsErrOf, vec_len};
 ghost use Rattle.std.specs.Io.KnownBytes.{Consumes, Appends, IsAtEnd};
-ghost use Rattle.lvdc_text.specs.Causes.{HasCause, Rose};
+ghost use Rattle.lvdc_text.specs.Causes.{CountsFailures, Rose};
 ghost use Rattle.lvdc_text.specs.Room.{HasRoom, RoomFalls};
 ghost use Rattle.lvdc_text.specs.Transfer.{KeepsWhatItTakes, TookCount, TookAtMost};
 
@@ -37,7 +37,7 @@ pub fn write_all<K: Sink>(sink: &mut K, bytes: &[u8]) -> Result<(), WriteFault>
     ensures part { IfErr result (λ e. (e.written < length bytes.now)
         × Appends (K.state sink.old).written (K.state sink.new).written (take e.written bytes.now)) }
     ensures room { OnOk result (RoomFalls (K.state sink.old).room (K.state sink.new).room (length bytes.now)) }
-    ensures cause { HasCause (K.state sink.old).faults (K.state sink.new).faults result }
+    ensures cause { CountsFailures (K.state sink.old).faults (K.state sink.new).faults result }
 {
     let mut written = 0;
     while written < bytes.len() {

@@ -6,16 +6,8 @@ ghost use Rattle.lvdc_uplink.specs.History.{answers_from, link_after};
 ghost use Rattle.lvdc_uplink.specs.Answers.{answer_line, answers_text};
 
 use crate::{Answer, Uplink};
-use lvdc_text::{Line, part, put_decimal, put_octal};
+use lvdc_text::{Line, part, put_decimal, put_octal, put_text};
 use lvdc_word::{NoMemory, Word};
-
-/// Appends a text.
-fn put_text(out: &mut Vec<u8>, text: &[u8]) -> Result<(), NoMemory>
-    ensures text { OnOk result (out.new.items ≡ out.old.items ++ text.now) }
-{
-    out.extend_from_slice(text)?;
-    Ok(())
-}
 
 /// Appends a text and a number.
 fn put_number(out: &mut Vec<u8>, text: &[u8], number: u32) -> Result<(), NoMemory>

@@ -20,7 +20,7 @@ use Rattle.lvdc_save.proofs.print.put_saved.Goals as goal
 pub returns-clause-text : goal.returns-clause-text
 returns-clause-text c =
     whole_text c.args.saved.now _ _ _ _ _ _ _ _ _ _ _ _ _ _ _
-    (c.in_ok-put_text.ensures ∙ ap (λ (t : List ℕ). t ++ codes "LVDC SAVE 1\n") c.requires.empty)
+    (c.in_ok-put_text.ensures.text ∙ ap (λ (t : List ℕ). t ++ codes "LVDC SAVE 1\n") c.requires.empty)
     c.in_ok-put_steps.ensures c.in_ok-put_count.ensures c.in_ok-put_banks.ensures.lines c.in_ok-put_copies.ensures.lines
     (c.in_ok-put_select.ensures ∙ ap (λ (ts : List ℕ). c.put_copies.new.out.items ++ select_line ts) c.items.ensures)
     (c.in_ok-put_cells.ensures.lines ∙ ap (λ xs. c.put_select.new.out.items ++ lines_of entry_line (map says.Cell xs)) c.items-2.ensures)
@@ -32,12 +32,12 @@ returns-clause-text c =
     (c.in_ok-put_states.ensures.lines ∙ ap (λ xs. c.put_repairs.new.out.items ++ lines_of entry_line (map says.State xs)) c.items-6.ensures)
     (c.in_ok-put_unplugs.ensures.lines ∙ ap (λ xs. c.put_states.new.out.items ++ lines_of entry_line (map says.Unplug xs)) c.items-7.ensures)
     c.in_ok-put_script.ensures c.in_ok-put_orders.ensures.lines
-    c.in_ok-put_text-2.ensures
+    c.in_ok-put_text-2.ensures.text
 
 pub returns-clause-short : goal.returns-clause-short
 returns-clause-short c = λ bounded.
     whole_short c.args.saved.now c.requires.whole bounded (All-weaker IsPlaced (λ (p : Placed). IsAddress p.at) (λ p is. is.at) c.args.saved.now.snapshot.words (subst (All IsPlaced) c.items-3.ensures c.in_ok-put_words.ensures.placed)) _ _ _ _ _ _ _ _ _ _ _ _ _ _ _
-    (c.in_ok-put_text.ensures ∙ ap (λ (t : List ℕ). t ++ codes "LVDC SAVE 1\n") c.requires.empty)
+    (c.in_ok-put_text.ensures.text ∙ ap (λ (t : List ℕ). t ++ codes "LVDC SAVE 1\n") c.requires.empty)
     c.in_ok-put_steps.ensures c.in_ok-put_count.ensures c.in_ok-put_banks.ensures.lines c.in_ok-put_copies.ensures.lines
     (c.in_ok-put_select.ensures ∙ ap (λ (ts : List ℕ). c.put_copies.new.out.items ++ select_line ts) c.items.ensures)
     (c.in_ok-put_cells.ensures.lines ∙ ap (λ xs. c.put_select.new.out.items ++ lines_of entry_line (map says.Cell xs)) c.items-2.ensures)
@@ -49,7 +49,7 @@ returns-clause-short c = λ bounded.
     (c.in_ok-put_states.ensures.lines ∙ ap (λ xs. c.put_repairs.new.out.items ++ lines_of entry_line (map says.State xs)) c.items-6.ensures)
     (c.in_ok-put_unplugs.ensures.lines ∙ ap (λ xs. c.put_states.new.out.items ++ lines_of entry_line (map says.Unplug xs)) c.items-7.ensures)
     c.in_ok-put_script.ensures c.in_ok-put_orders.ensures.short
-    c.in_ok-put_text-2.ensures
+    c.in_ok-put_text-2.ensures.text
 
 pub returns-clause-printed : goal.returns-clause-printed
 returns-clause-printed c = λ deck.
