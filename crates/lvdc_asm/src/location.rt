@@ -12,16 +12,6 @@ pub(crate) struct Location {
 }
 
 impl Location {
-    /// Nothing stands there.
-    pub(crate) fn empty() -> Location
-        ensures { result ≡ no_syllables }
-    {
-        Location {
-            one: None,
-            zero: None,
-        }
-    }
-
     /// So many locations where nothing stands.
     pub(crate) fn none(alloc: Global, count: usize) -> Result<Vec<Location>, NoMemory>
         ensures { IfOk result (λ locations. locations.items ≡ replicate count no_syllables) }

@@ -10,9 +10,3 @@ mod rows;
 pub use laws::{admissible_rows_are_same, rows_are_of_a_study};
 pub use row::Row;
 pub use rows::campaign;
-
-/// The most instruction times of a campaign (this project's profile).
-pub const MOST_TIMES: u64 = 10_000;
-
-/// The most scripts of a campaign (this project's profile).
-pub const MOST_SCRIPTS: usize = 256;

@@ -3,9 +3,9 @@
 ghost use Rattle.std.specs.Prelude.{◌≡◌, ◌≤◌, length, map, true, IfOk, All};
 ghost use Rattle.lvdc_map.specs.Memory.{are_rising, AllThere};
 ghost use Rattle.lvdc_plain.specs.Run.{IsOpening};
+ghost use Rattle.lvdc_fault.specs.declared.TheConstants.{MOST_TIMES};
 ghost use Rattle.lvdc_fault.specs.declared.verdict.Verdict.TheVariants as verdicts;
 ghost use Rattle.lvdc_runs.specs.Scripts.{IsScript};
-ghost use Rattle.lvdc_campaign.specs.declared.TheConstants.{MOST_TIMES, MOST_SCRIPTS};
 ghost use Rattle.lvdc_campaign.specs.Campaign.{program_of, short_row, rows_of};
 
 use crate::Row;
@@ -61,7 +61,6 @@ pub fn campaign<'a>(
     requires count { count ≤ MOST_TIMES }
     requires rising { are_rising image.now ≡ true }
     requires there { AllThere banks image.now }
-    requires few { length scripts.items ≤ MOST_SCRIPTS }
     requires scripts { All IsScript scripts.items }
 
     // The rows of the scripts, in their order. The orders of latching don't matter.

@@ -16,14 +16,14 @@ use Rattle.lvdc_campaign_deck.specs.Campaign.{from_campaign, by_count, campaign_
 use Rattle.lvdc_campaign_deck.specs.Faults.{name_of, line_of}
 use Rattle.lvdc_campaign_deck.specs.Scripts.{Scripts, named, nothing_said, with_script, with_event, scripts_from}
 use Rattle.lvdc_fault.specs.declared.TheConstants.{MOST_EVENTS}
-use Rattle.lvdc_campaign_deck.specs.declared.TheConstants.{MOST_TIMES, MOST_SCRIPTS}
+use Rattle.lvdc_campaign_deck.specs.declared.TheConstants.{MOST_CAMPAIGN_TIMES, MOST_CAMPAIGN_SCRIPTS}
 use Rattle.lvdc_campaign_deck.specs.declared.deck.CampaignDeck.{CampaignDeck}
 use Rattle.lvdc_campaign_deck.specs.declared.fault.CampaignFault.{CampaignFault}
 use Rattle.lvdc_campaign_deck.specs.declared.fault.CampaignFault.TheVariants.{NoMemory, BadSection, BadLine, CountTooLarge, TooManyScripts, TooManyEvents, Deck as InDeck}
 
 -- ---- limits
 
-limits : (MOST_TIMES ≡ 10000) × (MOST_SCRIPTS ≡ 256) × (MOST_EVENTS ≡ 65536)
+limits : (MOST_CAMPAIGN_TIMES ≡ 10000) × (MOST_CAMPAIGN_SCRIPTS ≡ 256) × (MOST_EVENTS ≡ 65536)
 limits = (refl, refl, refl)
 
 most_times : (d : Deck) → by_count (record d { count = 10000 }) ≡ Ok (record d { count = 10000 })

@@ -10,7 +10,7 @@ use Rattle.lvdc_fault.specs.declared.named.Named.{Named}
 use Rattle.lvdc_deck.specs.Deck.{after_program, deck_of}
 use Rattle.lvdc_deck.specs.declared.deck.Deck.{Deck}
 use Rattle.lvdc_deck.specs.declared.fault.DeckFault.{DeckFault}
-use Rattle.lvdc_campaign_deck.specs.declared.TheConstants.{MOST_TIMES, MOST_SCRIPTS}
+use Rattle.lvdc_campaign_deck.specs.declared.TheConstants.{MOST_CAMPAIGN_TIMES, MOST_CAMPAIGN_SCRIPTS}
 use Rattle.lvdc_campaign_deck.specs.declared.deck.CampaignDeck.{CampaignDeck}
 use Rattle.lvdc_campaign_deck.specs.declared.fault.CampaignFault.{CampaignFault}
 use Rattle.lvdc_campaign_deck.specs.declared.fault.CampaignFault.TheVariants.{BadSection, CountTooLarge, Deck as InDeck}
@@ -41,7 +41,7 @@ by_others deck (Some number) = Err (BadSection number)
 
 -- RUN's count isn't above the greatest of a campaign
 abbrev pub by_count : Deck → Result Deck CampaignFault
-by_count deck = if nat_lt MOST_TIMES deck.count then Err (CountTooLarge deck.run_line) else Ok deck
+by_count deck = if nat_lt MOST_CAMPAIGN_TIMES deck.count then Err (CountTooLarge deck.run_line) else Ok deck
 
 -- both
 abbrev pub checked : Deck → Result Deck CampaignFault
@@ -63,7 +63,7 @@ abbrev pub by_lines : List ℕ → List Device → ℕ → List Line → Result 
 by_lines bytes devices next [] = and_then (program_of bytes devices) (λ deck. Err (BadSection next))
 by_lines bytes devices next (line ∷ lines) =
     and_then (program_of (take line.start bytes) devices)
-    (λ deck. and_then (scripts_from bytes (nothing_said MOST_SCRIPTS) lines) (λ scripts. Ok (campaign_with deck scripts)))
+    (λ deck. and_then (scripts_from bytes (nothing_said MOST_CAMPAIGN_SCRIPTS) lines) (λ scripts. Ok (campaign_with deck scripts)))
 
 -- the campaign that the bytes mean, its deck over these devices; or its first refusal
 abbrev pub campaign_of : List ℕ → List Device → Result CampaignDeck CampaignFault

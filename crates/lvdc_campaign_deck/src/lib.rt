@@ -22,10 +22,10 @@ pub use study::StudyDeck;
 pub use study_read::read_study;
 
 /// The most instruction times of a campaign (this project's profile).
-pub const MOST_TIMES: u64 = 10_000;
+pub const MOST_CAMPAIGN_TIMES: u64 = 10_000;
 
 /// The most scripts of a campaign (this project's profile).
-pub const MOST_SCRIPTS: usize = 256;
+pub const MOST_CAMPAIGN_SCRIPTS: usize = 256;
 
 /// The most scripts of a study (this project's profile).
 pub const MOST_STUDY_SCRIPTS: usize = 65_536;

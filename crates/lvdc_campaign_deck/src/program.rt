@@ -1,10 +1,10 @@
 ghost use Rattle.std.specs.Prelude.{◌≡◌, ◌≢◌, ◌<◌, ◌≤◌, ◌-◌, ◌^◌, length, map, true, IfOk, IfErr, OnOk, Ok, Err};
 ghost use Rattle.lvdc_map.specs.Memory.{are_rising, AllThere};
-ghost use Rattle.lvdc_campaign_deck.specs.declared.TheConstants.{MOST_TIMES};
+ghost use Rattle.lvdc_campaign_deck.specs.declared.TheConstants.{MOST_CAMPAIGN_TIMES};
 ghost use Rattle.lvdc_campaign_deck.specs.declared.fault.CampaignFault.TheVariants.{NoMemory as WantsMemory};
 ghost use Rattle.lvdc_campaign_deck.specs.Campaign.{checked, program_of};
 
-use crate::{CampaignFault, MOST_TIMES};
+use crate::{CampaignFault, MOST_CAMPAIGN_TIMES};
 use lvdc_deck::{Deck, read_deck};
 use lvdc_port::PortDevice;
 use std::alloc::Global;
@@ -13,12 +13,12 @@ use std::alloc::Global;
 fn check(deck: &Deck) -> Result<(), CampaignFault>
     ensures ok { OnOk result (checked deck.now ≡ Ok deck.now) }
     ensures refusal { IfErr result (λ fault. checked deck.now ≡ Err fault) }
-    ensures count { OnOk result (deck.now.count ≤ MOST_TIMES) }
+    ensures count { OnOk result (deck.now.count ≤ MOST_CAMPAIGN_TIMES) }
 {
     if let Some(number) = deck.other_line {
         return Err(CampaignFault::BadSection(number));
     }
-    if deck.count > MOST_TIMES {
+    if deck.count > MOST_CAMPAIGN_TIMES {
         return Err(CampaignFault::CountTooLarge(deck.run_line));
     }
     Ok(())
@@ -33,7 +33,7 @@ pub(crate) fn read_program(
     requires { length text.now < 2 ^ 32 - 1 }
     ensures program { IfOk result (λ deck. program_of text.now (map device_of devices.now.items) ≡ Ok deck) }
     ensures refusal { IfErr result (λ fault. fault ≢ WantsMemory → program_of text.now (map device_of devices.now.items) ≡ Err fault) }
-    ensures count { IfOk result (λ deck. deck.count ≤ MOST_TIMES) }
+    ensures count { IfOk result (λ deck. deck.count ≤ MOST_CAMPAIGN_TIMES) }
     ensures rising { IfOk result (λ deck. are_rising deck.image.words ≡ true) }
     ensures there { IfOk result (λ deck. AllThere deck.banks deck.image.words) }
 {

@@ -1,7 +1,7 @@
 ghost use Rattle.std.specs.Prelude.{◌≡◌, ◌≢◌, ◌<◌, ◌≤◌, ◌-◌, ◌^◌, length, map, true, IfOk, IfErr, All, Ok, Err};
 ghost use Rattle.lvdc_map.specs.Memory.{are_rising, AllThere};
 ghost use Rattle.lvdc_fault.specs.declared.TheConstants.{MOST_EVENTS};
-ghost use Rattle.lvdc_campaign_deck.specs.declared.TheConstants.{MOST_TIMES, MOST_SCRIPTS};
+ghost use Rattle.lvdc_campaign_deck.specs.declared.TheConstants.{MOST_CAMPAIGN_TIMES, MOST_CAMPAIGN_SCRIPTS};
 ghost use Rattle.lvdc_campaign_deck.specs.declared.fault.CampaignFault.TheVariants.{NoMemory as WantsMemory};
 ghost use Rattle.lvdc_campaign_deck.specs.Campaign.{campaign_of, campaign_with};
 ghost use Rattle.lvdc_campaign_deck.specs.Scripts.{CanRun};
@@ -9,7 +9,7 @@ ghost use Rattle.lvdc_campaign_deck.specs.Scripts.{CanRun};
 use crate::layout::from_campaign;
 use crate::program::read_program;
 use crate::scripts::read_scripts;
-use crate::{CampaignDeck, CampaignFault, MOST_SCRIPTS};
+use crate::{CampaignDeck, CampaignFault, MOST_CAMPAIGN_SCRIPTS};
 use lvdc_deck::{Deck, after_program};
 use lvdc_fault::Named;
 use lvdc_port::PortDevice;
@@ -50,10 +50,10 @@ pub fn read_campaign(
     // Each refusal comes where it is the first.
     ensures deck { IfOk result (λ deck. campaign_of bytes.now (map device_of devices.now.items) ≡ Ok deck) }
     ensures refusal { IfErr result (λ fault. fault ≢ WantsMemory → campaign_of bytes.now (map device_of devices.now.items) ≡ Err fault) }
-    ensures count { IfOk result (λ deck. deck.count ≤ MOST_TIMES) }
+    ensures count { IfOk result (λ deck. deck.count ≤ MOST_CAMPAIGN_TIMES) }
     ensures rising { IfOk result (λ deck. are_rising deck.image.words ≡ true) }
     ensures there { IfOk result (λ deck. AllThere deck.banks deck.image.words) }
-    ensures few { IfOk result (λ deck. length deck.scripts ≤ MOST_SCRIPTS) }
+    ensures few { IfOk result (λ deck. length deck.scripts ≤ MOST_CAMPAIGN_SCRIPTS) }
     ensures run { IfOk result (λ deck. All (CanRun MOST_EVENTS) deck.scripts) }
 {
     let found = lines(alloc, bytes)?;
@@ -64,7 +64,7 @@ pub fn read_campaign(
                 Ok(deck) => deck,
                 Err(fault) => return Err(fault),
             };
-            match read_scripts(alloc, bytes, rest, MOST_SCRIPTS) {
+            match read_scripts(alloc, bytes, rest, MOST_CAMPAIGN_SCRIPTS) {
                 Ok(scripts) => Ok(join(deck, scripts)),
                 Err(fault) => Err(fault),
             }

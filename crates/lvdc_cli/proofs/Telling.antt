@@ -13,7 +13,7 @@ use Rattle.lvdc_plain.specs.declared.records.Unplug.{Unplug}
 use Rattle.lvdc_deck.specs.Deck.{and_then, deck_of}
 use Rattle.lvdc_deck.specs.Named.{NameDevices}
 use Rattle.lvdc_fault.specs.declared.TheConstants.{MOST_TIMES}
-use Rattle.lvdc_deck.specs.declared.TheConstants.{MOST_ORDERS}
+use Rattle.lvdc_orders.specs.declared.orders.TheConstants.{MOST_ORDERS}
 use Rattle.lvdc_deck.specs.declared.deck.Deck.{Deck}
 use Rattle.lvdc_deck.specs.declared.fault.DeckFault.{DeckFault}
 use Rattle.lvdc_deck.specs.declared.fault.DeckFault.TheVariants.{CountTooLarge}

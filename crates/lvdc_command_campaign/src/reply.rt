@@ -3,7 +3,7 @@ ghost use Rattle.lvdc_map.specs.Memory.{are_rising, AllThere};
 ghost use Rattle.lvdc_reply.specs.Answer.{refusal_text};
 ghost use Rattle.lvdc_report.specs.declared.report.TheConstants.{LONGEST_REPORT};
 ghost use Rattle.lvdc_fault.specs.declared.TheConstants.{MOST_EVENTS};
-ghost use Rattle.lvdc_campaign.specs.declared.TheConstants.{MOST_TIMES, MOST_SCRIPTS};
+ghost use Rattle.lvdc_campaign_deck.specs.declared.TheConstants.{MOST_CAMPAIGN_TIMES, MOST_CAMPAIGN_SCRIPTS};
 ghost use Rattle.lvdc_campaign_deck.specs.Campaign.{campaign_of};
 ghost use Rattle.lvdc_campaign_deck.specs.Faults.{name_of, line_of};
 ghost use Rattle.lvdc_campaign_deck.specs.Scripts.{CanRun};
@@ -21,10 +21,10 @@ use std::alloc::Global;
 
 /// Runs a campaign, and tells its rows.
 fn run(alloc: Global, deck: CampaignDeck) -> Result<Reply, NoMemory>
-    requires count { deck.count ≤ MOST_TIMES }
+    requires count { deck.count ≤ MOST_CAMPAIGN_TIMES }
     requires rising { are_rising deck.image.words ≡ true }
     requires there { AllThere deck.banks deck.image.words }
-    requires few { length deck.scripts ≤ MOST_SCRIPTS }
+    requires few { length deck.scripts ≤ MOST_CAMPAIGN_SCRIPTS }
     requires run { All (CanRun MOST_EVENTS) deck.scripts }
     ensures status { IfOk result (λ reply. reply.status ≡ 0) }
     ensures text { IfOk result (λ reply. reply.text ≡ campaign_text (rows_in deck)) }

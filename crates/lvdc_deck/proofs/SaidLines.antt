@@ -22,7 +22,7 @@ use Rattle.lvdc_deck.specs.Deck.{and_then, Told, with_commands, by_debug, comman
 use Rattle.lvdc_deck.specs.Named.{NameDevices}
 use Rattle.lvdc_deck.specs.Sections.{Sections, nothing_said, section_of, rank, is_debug, port_in, time_in, words_in, entry_in, pairs_from, with_start, start_line, with_simplex, simplex_line, ports_line, faults_line, order_line, with_count, run_line, debug_line, opens, is_unplugged, kind_left, tape_at, with_tape, tape_line, unplug_at, with_unplug, unplug_line, port_line, with_event, with_order, belongs, by_word, by_tokens, after_line}
 use Rattle.lvdc_fault.specs.declared.TheConstants.{MOST_TIMES, MOST_EVENTS}
-use Rattle.lvdc_deck.specs.declared.TheConstants.{MOST_ORDERS}
+use Rattle.lvdc_orders.specs.declared.orders.TheConstants.{MOST_ORDERS}
 use Rattle.lvdc_deck.specs.declared.deck.Deck.{Deck}
 use Rattle.lvdc_deck.specs.declared.entry.EntryPoint.{EntryPoint}
 use Rattle.lvdc_deck.specs.declared.fault.DeckFault.{DeckFault}

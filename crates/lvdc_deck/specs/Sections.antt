@@ -17,7 +17,7 @@ use Rattle.lvdc_fault.specs.declared.event.Event.{Event}
 use Rattle.lvdc_lines.specs.Lines.{fault_in, order_in}
 use Rattle.lvdc_source.specs.Names.{is_name}
 use Rattle.lvdc_fault.specs.declared.TheConstants.{MOST_TIMES, MOST_EVENTS}
-use Rattle.lvdc_deck.specs.declared.TheConstants.{MOST_ORDERS}
+use Rattle.lvdc_orders.specs.declared.orders.TheConstants.{MOST_ORDERS}
 use Rattle.lvdc_deck.specs.declared.entry.EntryPoint.{EntryPoint}
 use Rattle.lvdc_deck.specs.declared.entry.EntryPoint.TheVariants.{Constant, Name}
 use Rattle.lvdc_deck.specs.declared.fault.DeckFault.{DeckFault}

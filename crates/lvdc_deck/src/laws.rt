@@ -9,7 +9,7 @@ ghost use Rattle.lvdc_deck.specs.Loading.{source_in, HasLines, IsImageOf};
 ghost use Rattle.lvdc_deck.specs.Moving.{assembly_moved};
 ghost use Rattle.lvdc_deck.specs.Named.{NameDevices};
 ghost use Rattle.lvdc_fault.specs.declared.TheConstants.{MOST_TIMES};
-ghost use Rattle.lvdc_deck.specs.declared.TheConstants.{MOST_ORDERS};
+ghost use Rattle.lvdc_orders.specs.declared.orders.TheConstants.{MOST_ORDERS};
 ghost use Rattle.lvdc_deck.specs.declared.deck.Deck.{Deck};
 
 /// The image of a deck that begins with a source is the one that assembling the source's lines gives.

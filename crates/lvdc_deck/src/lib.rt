@@ -21,6 +21,3 @@ pub use laws::{
 };
 pub use layout::after_program;
 pub use read::read_deck;
-
-/// The most lines of ORDER (this project's profile).
-pub const MOST_ORDERS: usize = 16;

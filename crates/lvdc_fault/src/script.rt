@@ -53,11 +53,4 @@ impl Script {
     {
         &self.events[index]
     }
-
-    /// The events, in their order.
-    pub(crate) fn events(&self) -> &[Event]
-        ensures { result.now ≡ self.now }
-    {
-        &self.events
-    }
 }

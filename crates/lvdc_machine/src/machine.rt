@@ -101,12 +101,6 @@ impl Drop for Machine {
 }
 
 impl Machine {
-    /// The most instruction times that a machine may be made for.
-    pub const LIMIT: u64 = 1_000_000;
-
-    /// The most events that a script may have.
-    pub const EVENTS: usize = 65_536;
-
     /// A machine before its first step, with the words of the image, which rise by address. It makes room for all that may
     /// be noted and for the devices' words. After a want of memory no device holds anything else than before.
     pub fn new(

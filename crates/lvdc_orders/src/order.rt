@@ -1,4 +1,4 @@
-ghost use Rattle.std.specs.Prelude.{◌≡◌, ◌↔◌, ◌<◌, true, nat_lt, length, slice_index, IsSome};
+ghost use Rattle.std.specs.Prelude.{◌≡◌, ◌↔◌, ◌<◌, true, nat_lt, length, IsSome};
 ghost use Rattle.std.specs.List.{list_all};
 ghost use Rattle.lvdc_vote.specs.Copies.{IsFullOrder};
 ghost use Rattle.lvdc_orders.specs.Orders.{names_once, is_order, order_of, plain_order};
@@ -77,15 +77,6 @@ impl Order {
         ensures full { IsFullOrder 21 result.now }
     {
         self.copies.as_slice()
-    }
-
-    /// The number of the copy whose turn is at this index, from 0.
-    pub fn at(&self, index: usize) -> u8
-        requires { index < 21 }
-        ensures value { result ≡ slice_index self.now index }
-        ensures small { result < 21 }
-    {
-        self.copies()[index]
     }
 }
 

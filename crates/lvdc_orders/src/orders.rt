@@ -5,7 +5,7 @@ use crate::{Order, OrdersFull};
 use arrayvec::ArrayVec;
 use std::marker::Model;
 
-/// The most orders.
+/// The most orders of a run (this project's profile).
 pub const MOST_ORDERS: usize = 16;
 
 /// One to sixteen orders, which take turns step by step. Contracts see the list of those that were added; while there are

@@ -2,6 +2,7 @@
 
 ghost use Rattle.std.specs.Prelude.{◌≡◌, ◌*◌, ◌≤◌, ℕ, List, length, IfOk};
 ghost use Rattle.lvdc_port.specs.Device.{Device};
+ghost use Rattle.lvdc_fault.specs.declared.TheConstants.{MOST_TIMES};
 ghost use Rattle.lvdc_model.specs.Trial.{Trial};
 ghost use Rattle.lvdc_model.specs.Voted.{Voted};
 ghost use Rattle.lvdc_machine.specs.Resumed.{state_from, StandsFrom};
@@ -21,7 +22,7 @@ fn three_counts(machine: &Machine, number: u8) -> u64
     requires first { 1 ≤ number }
     requires last { number ≤ 7 }
     ensures sum { result ≡ three_counts machine.now.counts number }
-    ensures few { result ≤ 9 * Machine.LIMIT }
+    ensures few { result ≤ 9 * MOST_TIMES }
 {
     machine.differed(number, 1) + machine.differed(number, 2) + machine.differed(number, 3)
 }

@@ -4,7 +4,7 @@ use Rattle.lvdc_text.specs.declared.comment.TheConstants.{LONGEST_LINE}
 use Rattle.lvdc_fault.specs.Events.{TIMES, STEPS, EVENTS}
 use Rattle.lvdc_fault.specs.declared.TheConstants.{MOST_TIMES, MOST_EVENTS}
 use Rattle.lvdc_orders.specs.Orders.{ORDERS}
-use Rattle.lvdc_deck.specs.declared.TheConstants.{MOST_ORDERS}
+use Rattle.lvdc_orders.specs.declared.orders.TheConstants.{MOST_ORDERS}
 
 bytes_of_a_line : LONGEST_LINE ≡ 120
 bytes_of_a_line = refl

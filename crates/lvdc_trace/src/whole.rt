@@ -2,6 +2,7 @@
 
 ghost use Rattle.std.specs.Prelude.{◌≡◌, ℕ, ◌+◌, ◌-◌, ◌*◌, ◌≤◌, ◌<◌, ◌^◌, ◌++◌, List, map, length, IfOk, OnOk, OnErr, None};
 ghost use Rattle.lvdc_plain.specs.Lists.{AreFit};
+ghost use Rattle.lvdc_fault.specs.declared.TheConstants.{MOST_TIMES};
 ghost use Rattle.lvdc_model.specs.Trial.{Trial};
 ghost use Rattle.lvdc_model.specs.Voted.{Voted};
 ghost use Rattle.lvdc_machine.specs.Resumed.{StandsFrom};
@@ -80,7 +81,7 @@ fn put_steps(
     devices: &mut Vec<Box<dyn PortDevice>>,
 ) -> Result<(), NoMemory>
     requires left { machine.old.steps + count ≤ 3 * machine.old.limit }
-    requires limit { machine.old.limit ≤ Machine.LIMIT }
+    requires limit { machine.old.limit ≤ MOST_TIMES }
     requires fit { AreFit device_of spare (exchanges_to_come machine.old) devices.old.items }
     ensures goes { OnOk result (GoesOn device_of spare faults count machine.old machine.new devices.old.items devices.new.items) }
     ensures part { OnErr result (GoesPart device_of spare faults count machine.old machine.new devices.old.items devices.new.items) }
@@ -105,7 +106,7 @@ pub fn trace(
     devices: &mut Vec<Box<dyn PortDevice>>,
 ) -> Result<Vec<u8>, NoMemory>
     requires steps { machine.old.steps ≤ 3 * machine.old.limit }
-    requires limit { machine.old.limit ≤ Machine.LIMIT }
+    requires limit { machine.old.limit ≤ MOST_TIMES }
     requires first { window.first ≤ Window.LAST }
     requires count { window.count ≤ Window.MOST }
     requires fit { AreFit device_of spare (exchanges_to_come machine.old) devices.old.items }
