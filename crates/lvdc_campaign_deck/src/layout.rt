@@ -1,7 +1,9 @@
 //! Where the scripts of a campaign begin among its lines.
 
-ghost use Rattle.std.specs.Prelude.{◌≡◌, ◌<◌, ◌-◌, ◌^◌, length, All};
-ghost use Rattle.lvdc_text.specs.Lines.{IsWithin};
+ghost use Rattle.std.specs.Prelude.{◌≡◌, ◌<◌, ◌≤◌, ◌-◌, ◌^◌, ◌∷◌, List, length, take, All};
+ghost use Rattle.lvdc_text.specs.Lines.{lines_of, IsWithin};
+ghost use Rattle.lvdc_text.specs.declared.cutting.Line.{Line};
+ghost use Rattle.lvdc_deck.specs.Deck.{after_program};
 ghost use Rattle.lvdc_campaign_deck.specs.Campaign.{is_campaign, from_campaign};
 
 use lvdc_text::{Line, is_alone, is_long, part};
@@ -27,4 +29,15 @@ pub fn from_campaign<'a>(bytes: &[u8], lines: &'a [Line]) -> &'a [Line]
         }
     }
     &[]
+}
+
+/// The lines before the line CAMPAIGN, which are those of the bytes before it, where these begin with it.
+pub(crate) fn before_campaign<'a>(bytes: &[u8], lines: &'a [Line], from: &[Line]) -> &'a [Line]
+    requires lines { lines.now ≡ lines_of bytes.now }
+    requires from { from.now ≡ from_campaign bytes.now (after_program bytes.now lines.now) }
+    ensures lines { (line : Line) (rest : List Line) → from.now ≡ line ∷ rest → result.now ≡ lines_of (take line.start bytes.now) }
+    ensures within { (line : Line) (rest : List Line) → from.now ≡ line ∷ rest → All (IsWithin (take line.start bytes.now)) result.now }
+    ensures few { (line : Line) (rest : List Line) → from.now ≡ line ∷ rest → length result.now ≤ length (take line.start bytes.now) }
+{
+    &lines[..lines.len() - from.len()]
 }

@@ -1,12 +1,14 @@
-ghost use Rattle.std.specs.Prelude.{◌≡◌, ◌≢◌, ◌<◌, ◌≤◌, ◌-◌, ◌^◌, length, map, true, IfOk, IfErr, OnOk, Ok, Err};
+ghost use Rattle.std.specs.Prelude.{◌≡◌, ◌≢◌, ◌<◌, ◌≤◌, ◌-◌, ◌^◌, length, map, true, All, IfOk, IfErr, OnOk, Ok, Err};
 ghost use Rattle.lvdc_map.specs.Memory.{are_rising, AllThere};
+ghost use Rattle.lvdc_text.specs.Lines.{lines_of, IsWithin};
 ghost use Rattle.lvdc_campaign_deck.specs.declared.TheConstants.{MOST_CAMPAIGN_TIMES};
 ghost use Rattle.lvdc_campaign_deck.specs.declared.fault.CampaignFault.TheVariants.{NoMemory as WantsMemory};
 ghost use Rattle.lvdc_campaign_deck.specs.Campaign.{checked, program_of};
 
 use crate::{CampaignFault, MOST_CAMPAIGN_TIMES};
-use lvdc_deck::{Deck, read_deck};
+use lvdc_deck::{Deck, read_deck_lines};
 use lvdc_port::PortDevice;
+use lvdc_text::Line;
 use std::alloc::Global;
 
 /// Looks for what a deck may say and a campaign's may not.
@@ -24,20 +26,24 @@ fn check(deck: &Deck) -> Result<(), CampaignFault>
     Ok(())
 }
 
-/// Reads the deck before CAMPAIGN.
+/// Reads the deck before CAMPAIGN, which was cut into these lines.
 pub(crate) fn read_program(
     alloc: Global,
     text: &[u8],
+    lines: &[Line],
     devices: &Vec<Box<dyn PortDevice>>,
 ) -> Result<Deck, CampaignFault>
-    requires { length text.now < 2 ^ 32 - 1 }
+    requires size { length text.now < 2 ^ 32 - 1 }
+    requires lines { lines.now ≡ lines_of text.now }
+    requires within { All (IsWithin text.now) lines.now }
+    requires few { length lines.now ≤ length text.now }
     ensures program { IfOk result (λ deck. program_of text.now (map device_of devices.now.items) ≡ Ok deck) }
     ensures refusal { IfErr result (λ fault. fault ≢ WantsMemory → program_of text.now (map device_of devices.now.items) ≡ Err fault) }
     ensures count { IfOk result (λ deck. deck.count ≤ MOST_CAMPAIGN_TIMES) }
     ensures rising { IfOk result (λ deck. are_rising deck.image.words ≡ true) }
     ensures there { IfOk result (λ deck. AllThere deck.banks deck.image.words) }
 {
-    let deck = read_deck(alloc, text, devices, false)?;
+    let deck = read_deck_lines(alloc, text, lines, devices, false)?;
     match check(&deck) {
         Ok(()) => Ok(deck),
         Err(fault) => Err(fault),

@@ -6,7 +6,7 @@ ghost use Rattle.lvdc_campaign_deck.specs.declared.fault.CampaignFault.TheVarian
 ghost use Rattle.lvdc_campaign_deck.specs.Campaign.{campaign_of, campaign_with};
 ghost use Rattle.lvdc_campaign_deck.specs.Scripts.{CanRun};
 
-use crate::layout::from_campaign;
+use crate::layout::{before_campaign, from_campaign};
 use crate::program::read_program;
 use crate::scripts::read_scripts;
 use crate::{CampaignDeck, CampaignFault, MOST_CAMPAIGN_SCRIPTS};
@@ -58,9 +58,11 @@ pub fn read_campaign(
 {
     let found = lines(alloc, bytes)?;
     let next = found.len() as u32 + 1;
-    match from_campaign(bytes, after_program(bytes, &found)) {
+    let from = from_campaign(bytes, after_program(bytes, &found));
+    let before = before_campaign(bytes, &found, from);
+    match from {
         [line, rest @ ..] => {
-            let deck = match read_program(alloc, &bytes[..line.start], devices) {
+            let deck = match read_program(alloc, &bytes[..line.start], before, devices) {
                 Ok(deck) => deck,
                 Err(fault) => return Err(fault),
             };
@@ -69,7 +71,7 @@ pub fn read_campaign(
                 Err(fault) => Err(fault),
             }
         }
-        [] => match read_program(alloc, bytes, devices) {
+        [] => match read_program(alloc, bytes, &found, devices) {
             Ok(_) => Err(CampaignFault::BadSection(next)),
             Err(fault) => Err(fault),
         },

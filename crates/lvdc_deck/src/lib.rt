@@ -20,4 +20,4 @@ pub use laws::{
     commands_are_apart, session_is_run, source_is_assembled, source_is_moved, unplugs_are_apart,
 };
 pub use layout::after_program;
-pub use read::read_deck;
+pub use read::{read_deck, read_deck_lines};

@@ -1,6 +1,6 @@
 ghost use Rattle.std.specs.Prelude.{◌≡◌, ◌≢◌, ◌-◌, ◌^◌, ◌<◌, ◌≤◌, length, map, true, IfOk, IfErr, All, Ok, Err};
 ghost use Rattle.lvdc_map.specs.Memory.{are_rising, AllThere};
-ghost use Rattle.lvdc_text.specs.Lines.{IsWithin, part_of};
+ghost use Rattle.lvdc_text.specs.Lines.{lines_of, IsWithin, part_of};
 ghost use Rattle.lvdc_fault.specs.Events.{IsEvent};
 ghost use Rattle.lvdc_deck.specs.Deck.{end_of, with_program, by_end, deck_of};
 ghost use Rattle.lvdc_text.specs.declared.comment.TheConstants.{LONGEST_LINE};
@@ -87,6 +87,51 @@ fn read_program(
     }
 }
 
+/// Reads bytes that were cut into these lines, as `read_deck` does.
+pub fn read_deck_lines(
+    alloc: Global,
+    bytes: &[u8],
+    lines: &[Line],
+    devices: &Vec<Box<dyn PortDevice>>,
+    debugging: bool,
+) -> Result<Deck, DeckFault>
+    requires size { length bytes.now < 2 ^ 32 - 1 }
+    requires lines { lines.now ≡ lines_of bytes.now }
+    requires within { All (IsWithin bytes.now) lines.now }
+    requires few { length lines.now ≤ length bytes.now }
+    ensures deck { IfOk result (λ deck. deck_of bytes.now (map device_of devices.now.items) debugging ≡ Ok deck) }
+    ensures refusal { IfErr result (λ fault. fault ≢ WantsMemory →
+        deck_of bytes.now (map device_of devices.now.items) debugging ≡ Err fault) }
+    ensures count { IfOk result (λ deck. deck.count ≤ MOST_TIMES) }
+    ensures rising { IfOk result (λ deck. are_rising deck.image.words ≡ true) }
+    ensures there { IfOk result (λ deck. AllThere deck.banks deck.image.words) }
+    ensures few { IfOk result (λ deck. length deck.script ≤ MOST_EVENTS) }
+    ensures events { IfOk result (λ deck. All IsEvent deck.script) }
+    // The commands are lines of these bytes, none of them too long.
+    ensures within { IfOk result (λ deck. All (IsWithin bytes.now) deck.commands) }
+    ensures short { IfOk result (λ deck. All (λ line. length (part_of bytes.now line) ≤ LONGEST_LINE) deck.commands) }
+{
+    let next = lines.len() as u32 + 1;
+    for (at, line) in lines.iter().enumerate() {
+        match opening_of(part(bytes, line)) {
+            Opening::Long => return Err(DeckFault::BadLine(line.number)),
+            Opening::Skipped => {}
+            Opening::Program(kind) => return read_program(
+                alloc,
+                kind,
+                bytes,
+                devices,
+                debugging,
+                next,
+                line.number,
+                &lines[at + 1..],
+            ),
+            Opening::Other => return Err(DeckFault::NoProgram(line.number)),
+        }
+    }
+    Err(DeckFault::NoProgram(next))
+}
+
 /// Reads the bytes as a deck over these devices, which stay as they are: its kinds say where a TAPE or an UNPLUG line may
 /// stand. `debugging` says that a debugger's session is asked for, so that DEBUG must be there.
 pub fn read_deck(
@@ -109,24 +154,5 @@ pub fn read_deck(
     ensures short { IfOk result (λ deck. All (λ line. length (part_of bytes.now line) ≤ LONGEST_LINE) deck.commands) }
 {
     let found = lines(alloc, bytes)?;
-    let all = found.as_slice();
-    let next = all.len() as u32 + 1;
-    for (at, line) in all.iter().enumerate() {
-        match opening_of(part(bytes, line)) {
-            Opening::Long => return Err(DeckFault::BadLine(line.number)),
-            Opening::Skipped => {}
-            Opening::Program(kind) => return read_program(
-                alloc,
-                kind,
-                bytes,
-                devices,
-                debugging,
-                next,
-                line.number,
-                &all[at + 1..],
-            ),
-            Opening::Other => return Err(DeckFault::NoProgram(line.number)),
-        }
-    }
-    Err(DeckFault::NoProgram(next))
+    read_deck_lines(alloc, bytes, found.as_slice(), devices, debugging)
 }

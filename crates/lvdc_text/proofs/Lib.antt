@@ -5,6 +5,7 @@ pub mod Bounds
 pub mod Places
 pub mod Texts
 pub mod Joining
+pub mod LinesBefore
 mod Found
 pub mod ReadBack
 mod Rows

@@ -1,3 +1,4 @@
+use Rattle.lvdc_campaign_deck.proofs.Split.{first-rest, rest-within}
 use Rattle.lvdc_campaign_deck.proofs.read.read_campaign.Goals as goal
 
 pub returns-in-Ok-read_scripts-clause-count : goal.returns-in-Ok-read_scripts-clause-count
@@ -14,3 +15,10 @@ returns-in-Ok-read_scripts-clause-few g c = rw c.join.ensures c.in-Ok-read_scrip
 
 pub returns-in-Ok-read_scripts-clause-run : goal.returns-in-Ok-read_scripts-clause-run
 returns-in-Ok-read_scripts-clause-run g c = rw c.join.ensures c.in-Ok-read_scripts.ensures.run
+
+pub read_program-requires-in-len1-up-clause-within : goal.read_program-requires-in-len1-up-clause-within
+read_program-requires-in-len1-up-clause-within g c =
+    c.before_campaign-before.ensures.within _ _ (first-rest c.from_campaign-from.result.now _ c.in-len1-up.len_at_least)
+
+pub read_scripts-requires-clause-within : goal.read_scripts-requires-clause-within
+read_scripts-requires-clause-within g c = rest-within c.args.bytes.now c.from_campaign-from.result.now c.from_campaign-from.ensures.within

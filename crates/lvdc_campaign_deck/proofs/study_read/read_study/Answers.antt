@@ -1,4 +1,5 @@
 use Rattle.std.proofs.lemmas.Result.{IfOk-weaker}
+use Rattle.lvdc_campaign_deck.proofs.Split.{first-rest, rest-within}
 use Rattle.lvdc_campaign_deck.proofs.study_read.read_study.Goals as goal
 
 pub returns-in-Ok-read_scripts-clause-count : goal.returns-in-Ok-read_scripts-clause-count
@@ -24,3 +25,10 @@ returns-in-Ok-read_scripts-clause-run g c = IfOk-weaker c.join.result _ _ (λ st
 
 pub returns-in-Ok-read_scripts-clause-times : goal.returns-in-Ok-read_scripts-clause-times
 returns-in-Ok-read_scripts-clause-times g c = c.join.ensures.times
+
+pub read_program-requires-in-len1-up-clause-within : goal.read_program-requires-in-len1-up-clause-within
+read_program-requires-in-len1-up-clause-within g c =
+    c.before_campaign-before.ensures.within _ _ (first-rest c.from_campaign-from.result.now _ c.in-len1-up.len_at_least)
+
+pub read_scripts-requires-clause-within : goal.read_scripts-requires-clause-within
+read_scripts-requires-clause-within g c = rest-within c.args.bytes.now c.from_campaign-from.result.now c.from_campaign-from.ensures.within
