@@ -1,6 +1,6 @@
 //! The rows of a campaign.
 
-ghost use Rattle.std.specs.Prelude.{◌≡◌, ◌≤◌, length, map, true, IfOk, All};
+ghost use Rattle.std.specs.Prelude.{◌≡◌, ◌≤◌, map, true, IfOk, All};
 ghost use Rattle.lvdc_map.specs.Memory.{are_rising, AllThere};
 ghost use Rattle.lvdc_plain.specs.Run.{IsOpening};
 ghost use Rattle.lvdc_fault.specs.declared.TheConstants.{MOST_TIMES};

@@ -1,4 +1,4 @@
-ghost use Rattle.std.specs.Prelude.{◌≡◌, ◌↔◌, ◌<◌, true, nat_lt, length, IsSome};
+ghost use Rattle.std.specs.Prelude.{◌≡◌, ◌↔◌, true, nat_lt, length, IsSome};
 ghost use Rattle.std.specs.List.{list_all};
 ghost use Rattle.lvdc_vote.specs.Copies.{IsFullOrder};
 ghost use Rattle.lvdc_orders.specs.Orders.{names_once, is_order, order_of, plain_order};
