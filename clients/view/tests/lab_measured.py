@@ -90,6 +90,11 @@ CUT_CHOICES = """(() => {
     });
 })()""".replace("ARROW", "28")
 
+# names of memories over which the words that move are drawn
+COVERED_NAMES = """(() => {
+    const moving = document.querySelector('#board .moving'), names = [...document.querySelectorAll('#board .twin-name')];
+    return names.filter((it) => !(moving.compareDocumentPosition(it) & Node.DOCUMENT_POSITION_FOLLOWING)).map((it) => it.textContent);
+})()"""
 
 
 def try_state(page: Visitor, tally: Tally, name: str, is_whole: bool) -> None:
@@ -109,6 +114,7 @@ def try_size(page: Visitor, tally: Tally, address: str, size: tuple[int, int]) -
     for state, steps in STATES.items():
         page.visit(address)
         page.wait()
+        tally.expect(f"{size[0]} by {size[1]}: {state}: names that are covered", page.run(COVERED_NAMES), [])
         for step in steps:
             page.run(f"{step}; 0")
             page.wait()
