@@ -8,6 +8,7 @@ from urllib.parse import urlencode
 FORMS = {
     "show": re.compile("flight|kiosk|lab"), "language": re.compile("[a-z]{2,3}(-[a-z0-9]{2,8})?"), "idle": re.compile("[1-9][0-9]{0,4}"),
     "sound": re.compile("button|none"), "brightness": re.compile("100|[2-9][0-9]"), "browser": re.compile(r"\S.*")}
+MOST_BYTES = 65_536
 
 
 class WrongSettings(Exception):
@@ -36,14 +37,32 @@ class Settings:
         return urlencode({"kiosk": self.language, "idle": self.idle, "sound": self.sound, "brightness": self.brightness})
 
 
+def text_of(path: pathlib.Path) -> str:
+    """The text of a file, which may be a device without an end. Raises WrongSettings."""
+    with path.open("rb") as file:
+        text = file.read(MOST_BYTES + 1)
+    if len(text) > MOST_BYTES:
+        raise WrongSettings(f"{path} has more than {MOST_BYTES} bytes, which settings can't have")
+    return text.decode("utf-8")
+
+
+def is_command(words: str) -> bool:
+    """Whether these words name a program, and no quote among them stays open."""
+    try:
+        return any(shlex.split(words)[:1])
+    except ValueError:
+        return False
+
+
 def read(path: pathlib.Path) -> Settings:
     """The settings of a file; what isn't there is as at first. Raises WrongSettings."""
     found: dict[str, str] = {}
-    for number, line in enumerate(path.read_text(encoding="utf-8").splitlines(), 1):
+    for number, line in enumerate(text_of(path).splitlines(), 1):
         name, sign, value = (it.strip() for it in line.partition("="))
         if not name or name.startswith("#"):
             continue
-        if not sign or name not in FORMS or name in found or not FORMS[name].fullmatch(value):
+        is_value = name in FORMS and FORMS[name].fullmatch(value) and (name != "browser" or is_command(value))
+        if not sign or name in found or not is_value:
             raise WrongSettings(f"{path.name}, line {number}: this can't be a setting: {line.strip()}")
         found[name] = value
     return Settings(**found)

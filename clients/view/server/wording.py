@@ -13,6 +13,8 @@ ENGLISH = "en"
 NAME = re.compile("[a-z]{2,3}(-[a-z0-9]{2,8})?")
 # words that stand on a lamp, which is as wide as a finger on a phone
 ON_LAMPS, MOST_ON_A_LAMP = ("op.", "request."), 5
+# a file of words may be a device without an end
+MOST_BYTES = 1_048_576
 IN_BRACES = re.compile(r"\{\w*\}")
 
 # the sentences of a language, by their keys
@@ -40,8 +42,15 @@ class WrongWords(Exception):
 
 
 def lines_of(path: pathlib.Path) -> Iterator[tuple[int, str]]:
-    """The lines that aren't comments, with their numbers. Raises WrongWords where the file is no UTF-8."""
-    for number, line in enumerate(path.read_bytes().split(b"\n"), 1):
+    """The lines that aren't comments, with their numbers. Raises WrongWords where the file can't be read, is too long or is no UTF-8."""
+    try:
+        with path.open("rb") as file:
+            whole = file.read(MOST_BYTES + 1)
+    except OSError as wrong:
+        raise WrongWords([Fault(path.name, 0, f"it can't be read: {wrong.strerror}")]) from wrong
+    if len(whole) > MOST_BYTES:
+        raise WrongWords([Fault(path.name, 0, f"it has more than {MOST_BYTES} bytes")])
+    for number, line in enumerate(whole.split(b"\n"), 1):
         try:
             text = line.decode().removeprefix("\ufeff").strip()
         except UnicodeDecodeError as wrong:

@@ -100,7 +100,11 @@ def try_box(tally: Tally, worker: str, folder: pathlib.Path) -> None:
         box.wait(SECONDS_TO_BE_BACK)
         left = [it for it in below if pathlib.Path(f"/proc/{it}").exists()]
         tally.expect("box: it ends, and leaves nothing behind", [box.returncode, left], [0, []])
-    for wrong in ("show = film\n", "idle = 0\n", "brightness\n", "idle = 5\nidle = 6\n"):
+    for wrong in ("show = film\n", "idle = 0\n", "brightness\n", "idle = 5\nidle = 6\n", 'browser = "chromium\n', "browser = ''\n"):
         settings.write_text(f"# settings\n{wrong}")
         done = subprocess.run([START, settings], capture_output=True, text=True, check=False)
         tally.expect(f"box: {wrong!r}", [done.returncode, done.stderr.startswith("start: settings.txt, line ")], [1, True])
+    settings.write_text(f"browser = {folder}\n")
+    for given, said in ((settings, f"start: {folder}: Permission denied\n"), (pathlib.Path("/dev/zero"), "start: /dev/zero has more than")):
+        done = subprocess.run([START, given], env={**os.environ, "LVDC_WORKER": worker}, capture_output=True, text=True, check=False)
+        tally.expect(f"box: {said!r}", [done.returncode, done.stderr.startswith(said)], [1, True])

@@ -33,4 +33,9 @@ def try_wording() -> None:
     for text, fault in WRONG.items():
         status, told = checked("it.txt", text)
         expect(f"words: {text!r}", [status, f"it.txt, {fault}" in told, told.count("\n")], [1, True, 1])
+    for target, fault in (("/", "Is a directory"), ("/nothing", "No such file"), ("/dev/zero", "more than")):
+        with tempfile.TemporaryDirectory() as folder:
+            pathlib.Path(folder, "it.txt").symlink_to(target)
+            done = subprocess.run([TOOL, folder], capture_output=True, text=True, check=False)
+        expect(f"words: a link to {target}", [done.returncode, done.stderr.startswith("it.txt, line 0: "), fault in done.stderr], [1, True, True])
     expect("words: a name that is none of a language", checked("notes.final.txt", "language x\n")[0], 1)

@@ -89,6 +89,18 @@ def write_new(path: Path, text: bytes) -> None:
             raise
 
 
+def write_whole(path: Path, text: bytes) -> None:
+    """Puts a file in place of what is there; where there is no room for all of it, that stays."""
+    beside = path.with_name(f"{path.name}.new")
+    try:
+        beside.write_bytes(text)
+        beside.replace(path)
+    except OSError:
+        with contextlib.suppress(OSError):
+            beside.unlink(missing_ok=True)
+        raise
+
+
 def read_line(stream: TextIO) -> str:
     """The next line; of one that is too long as much as shows that it is, and the rest is passed over. EOFError at the end."""
     line = stream.readline(MOST_CHARACTERS + 2)
