@@ -25,6 +25,8 @@ from unproved import stand_in  # noqa: E402
 EXAMPLES = sorted([*TOP.glob("examples/*.*"), *TOP.glob("examples/programs/*.*")])
 DECKS = [it for it in EXAMPLES if it.suffix == ".deck"]
 CAMPAIGNS = sorted(TOP.glob("examples/*.campaign"))
+FEW_TIMES = [TOP / "examples" / it for it in ("divide.deck", "multiply.deck", "sum-that-wraps.deck")]
+LANGUAGES = sorted(TOP.glob("clients/view/words/*.txt"))
 FILES = [it for it in EXAMPLES if it.suffix in (".deck", ".source", ".macros", ".image")]
 LONGEST, LONG = 20_000, 1_000_000
 FEW_REQUESTS, AT_ONCE = 40, 12
@@ -199,12 +201,16 @@ def campaigns(bench: Bench) -> Found:
 
 
 def scripts(bench: Bench) -> Found:
-    """clients/campaigns/draw, table and reliability over changed files."""
+    """clients/campaigns/draw, table, census and reliability over changed files, and clients/view/check-words over a folder of them."""
     draw, around = bench.draw, bench.around()
     kind = draw.choice(["flips", "pairs", "copies", "memory", "lasting"])
     some = [it for at in draw.sample(range(0, len(DRAW_WORDS), 2), 3) for it in DRAW_WORDS[at:at + 2]]
-    rows = TOP / "examples/scripts.rows"
+    rows, languages = TOP / "examples/scripts.rows", bench.folder / "languages"
+    languages.mkdir()
+    written(bench, LANGUAGES, "languages/it.txt")
     words = draw.choice([
+        ["../view/check-words", str(languages)],
+        ["census", "--kinds", draw.choice(["flips", "damages"]), "--steps", "1", "--jobs", "1", str(written(bench, FEW_TIMES, "few"))],
         ["draw", kind, str(written(bench, DECKS, "deck")), *some, *["--study"] * draw.randrange(2), "--count", "9"],
         ["table", str(written(bench, CAMPAIGNS, "campaign")), str(written(bench, [rows], "rows")), *draw.choice(TABLE_WORDS)],
         ["reliability", draw.choice(["memory", "copies"]), "--count", "20", *draw.choice(RELIABILITY_WORDS)]])
