@@ -146,6 +146,9 @@ impl Drop for Plain {
 }
 
 impl Plain {
+    /// The most instruction times that a machine may be made for.
+    pub const LIMIT: u64 = 1_000_000;
+
     /// A machine before its first time, with the words of the image, which rise by address. It makes room for the log and
     /// the devices' words of all `limit` times. After a want of memory no device holds anything else than before.
     pub fn new(
