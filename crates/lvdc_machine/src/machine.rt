@@ -18,7 +18,7 @@ use crate::kept_end::KeptEnd;
 use crate::made::Made;
 use crate::start::Start;
 use crate::{Mode, Order, Orders, Pace};
-use lvdc_fault::Script;
+use lvdc_fault::{MOST_EVENTS, MOST_TIMES, Script};
 use lvdc_forces::Forces;
 use lvdc_logic::Logic;
 use lvdc_map::{Banks, Hop, Placed, is_hop_constant};
@@ -101,6 +101,12 @@ impl Drop for Machine {
 }
 
 impl Machine {
+    /// The most instruction times that a machine may be made for.
+    pub const LIMIT: u64 = MOST_TIMES;
+
+    /// The most events that a script may have.
+    pub const EVENTS: usize = MOST_EVENTS;
+
     /// A machine before its first step, with the words of the image, which rise by address. It makes room for all that may
     /// be noted and for the devices' words. After a want of memory no device holds anything else than before.
     pub fn new(
