@@ -57,8 +57,8 @@ pub before_from : (bytes : List ℕ) (lines from : List Line) → lines ≡ line
 before_from bytes lines from all is line rest e =
     let k = length lines - length from in
     let here : drop k lines ≡ line ∷ rest =
-        ap (λ (f : List Line). drop (length lines - length f) lines) is
-        ∙ behind (from_campaign bytes (after_program bytes lines)) lines (are-last bytes lines) ∙ sym is ∙ e in
+    ap (λ (f : List Line). drop (length lines - length f) lines) is
+    ∙ behind (from_campaign bytes (after_program bytes lines)) lines (are-last bytes lines) ∙ sym is ∙ e in
     ap (take k) all ∙ sym (lines_before bytes k line rest (ap (drop k) (sym all) ∙ here))
 
 pub first-rest : (lines : List Line) (other : Line) → 1 ≤ length lines → lines ≡ get_or lines 0 other ∷ drop 1 lines
