@@ -33,6 +33,11 @@ study_script-requires-clause-stations c =
     subst (λ (ds : List Device). All (IsStation (opening_over c.args.program.now ds) c.args.program.now.count) c.args.stations.now)
     (sym c.is_whole.ensures.rack) c.requires.stations
 
+pub study_script-requires-clause-waypoints : goal.study_script-requires-clause-waypoints
+study_script-requires-clause-waypoints c =
+    subst (λ (ds : List Device). All (IsWaypoint (opening_over c.args.program.now ds) c.args.program.now.count) c.args.waypoints.now)
+    (sym c.is_whole.ensures.rack) c.requires.waypoints
+
 pub returns-clause-row : goal.returns-clause-row
 returns-clause-row c =
     subst (λ (ds : List Device). IfOk c.study_script.result (λ row. row ≡ row_of (opening_over c.args.program.now ds) c.args.program.now.count c.args.named))
