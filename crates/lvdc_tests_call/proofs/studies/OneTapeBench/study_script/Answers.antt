@@ -5,6 +5,7 @@ use Rattle.lvdc_runs.specs.Ran.{HasRunPlainly}
 use Rattle.lvdc_runs.specs.Stations.{IsStation}
 use Rattle.lvdc_study.specs.Failures.{FailsUnder}
 use Rattle.lvdc_study.specs.Study.{opening_over, row_of}
+use Rattle.lvdc_study.specs.Waypoints.{IsWaypoint}
 use Rattle.lvdc_tests_call.proofs.studies.OneTapeBench.study_script.Goals as goal
 
 pub study_script-requires-clause-plain : goal.study_script-requires-clause-plain
@@ -16,6 +17,11 @@ pub study_script-requires-clause-stations : goal.study_script-requires-clause-st
 study_script-requires-clause-stations c =
     subst (λ (ds : List Device). All (IsStation (opening_over c.args.program.now ds) c.args.program.now.count) c.args.stations.now)
     (sym c.in_ok-devices.ensures.one) c.requires.stations
+
+pub study_script-requires-clause-waypoints : goal.study_script-requires-clause-waypoints
+study_script-requires-clause-waypoints c =
+    subst (λ (ds : List Device). All (IsWaypoint (opening_over c.args.program.now ds) c.args.program.now.count) c.args.waypoints.now)
+    (sym c.in_ok-devices.ensures.one) c.requires.waypoints
 
 pub returns-clause-row : goal.returns-clause-row
 returns-clause-row c =
