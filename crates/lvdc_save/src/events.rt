@@ -4,10 +4,9 @@ ghost use Rattle.std.specs.Prelude.{◌≡◌, ◌++◌, OnOk};
 ghost use Rattle.lvdc_fault.specs.declared.event.Event.TheVariants as happens;
 ghost use Rattle.lvdc_save.specs.Lines.{fault_line};
 
-use crate::parts::{put_acts_on, put_cell, put_number, put_spot, put_word};
 use lvdc_fault::Event;
 use lvdc_map::Address;
-use lvdc_text::put_text;
+use lvdc_text::{Piece, put_line};
 use lvdc_word::{Cell, NoMemory, Word};
 
 fn put_flip(
@@ -21,11 +20,10 @@ fn put_flip(
 ) -> Result<(), NoMemory>
     ensures { OnOk result (out.new.items ≡ out.old.items ++ fault_line (happens.Flip number copy first last index mask)) }
 {
-    put_text(out, b"FLIP")?;
-    put_acts_on(out, number, copy, first, last)?;
-    put_number(out, u64::from(index))?;
-    put_word(out, mask)?;
-    put_text(out, b"\n")
+    let (number, copy) = (Piece::Small(number), Piece::Small(copy));
+    let (first, last) = (Piece::Decimal(first), Piece::Decimal(last));
+    let (index, mask) = (Piece::Small(index), Piece::Word(mask));
+    put_line(out, b"FLIP", &[number, copy, first, last, index, mask])
 }
 
 fn put_force(
@@ -41,28 +39,31 @@ fn put_force(
     ensures { OnOk result (out.new.items ≡ out.old.items
         ++ fault_line (happens.Force number copy first last index mask value)) }
 {
-    put_text(out, b"FORCE")?;
-    put_acts_on(out, number, copy, first, last)?;
-    put_number(out, u64::from(index))?;
-    put_word(out, mask)?;
-    put_word(out, value)?;
-    put_text(out, b"\n")
+    let (number, copy) = (Piece::Small(number), Piece::Small(copy));
+    let (first, last) = (Piece::Decimal(first), Piece::Decimal(last));
+    let (mask, value) = (Piece::Word(mask), Piece::Word(value));
+    let index = Piece::Small(index);
+    put_line(
+        out,
+        b"FORCE",
+        &[number, copy, first, last, index, mask, value],
+    )
 }
 
 fn put_lag(out: &mut Vec<u8>, number: u8, copy: u8, first: u64, last: u64) -> Result<(), NoMemory>
     ensures { OnOk result (out.new.items ≡ out.old.items ++ fault_line (happens.Lag number copy first last)) }
 {
-    put_text(out, b"LAG")?;
-    put_acts_on(out, number, copy, first, last)?;
-    put_text(out, b"\n")
+    let (number, copy) = (Piece::Small(number), Piece::Small(copy));
+    let (first, last) = (Piece::Decimal(first), Piece::Decimal(last));
+    put_line(out, b"LAG", &[number, copy, first, last])
 }
 
 fn put_deaf(out: &mut Vec<u8>, number: u8, copy: u8, first: u64, last: u64) -> Result<(), NoMemory>
     ensures { OnOk result (out.new.items ≡ out.old.items ++ fault_line (happens.Deaf number copy first last)) }
 {
-    put_text(out, b"DEAF")?;
-    put_acts_on(out, number, copy, first, last)?;
-    put_text(out, b"\n")
+    let (number, copy) = (Piece::Small(number), Piece::Small(copy));
+    let (first, last) = (Piece::Decimal(first), Piece::Decimal(last));
+    put_line(out, b"DEAF", &[number, copy, first, last])
 }
 
 fn put_damage(
@@ -74,12 +75,9 @@ fn put_damage(
 ) -> Result<(), NoMemory>
     ensures { OnOk result (out.new.items ≡ out.old.items ++ fault_line (happens.Damage twin at step mask)) }
 {
-    put_text(out, b"DAMAGE")?;
-    put_number(out, u64::from(twin))?;
-    put_spot(out, at)?;
-    put_number(out, step)?;
-    put_cell(out, mask)?;
-    put_text(out, b"\n")
+    let (twin, at) = (Piece::Small(twin), Piece::Address(at));
+    let (step, mask) = (Piece::Decimal(step), Piece::Cell(mask));
+    put_line(out, b"DAMAGE", &[twin, at, step, mask])
 }
 
 fn put_stick(
@@ -93,25 +91,18 @@ fn put_stick(
 ) -> Result<(), NoMemory>
     ensures { OnOk result (out.new.items ≡ out.old.items ++ fault_line (happens.Stick twin at first last mask value)) }
 {
-    put_text(out, b"STICK")?;
-    put_number(out, u64::from(twin))?;
-    put_spot(out, at)?;
-    put_number(out, first)?;
-    put_number(out, last)?;
-    put_cell(out, mask)?;
-    put_cell(out, value)?;
-    put_text(out, b"\n")
+    let (twin, at) = (Piece::Small(twin), Piece::Address(at));
+    let (first, last) = (Piece::Decimal(first), Piece::Decimal(last));
+    let (mask, value) = (Piece::Cell(mask), Piece::Cell(value));
+    put_line(out, b"STICK", &[twin, at, first, last, mask, value])
 }
 
 fn put_dead(out: &mut Vec<u8>, twin: u8, pair: u8, first: u64, last: u64) -> Result<(), NoMemory>
     ensures { OnOk result (out.new.items ≡ out.old.items ++ fault_line (happens.Dead twin pair first last)) }
 {
-    put_text(out, b"DEAD")?;
-    put_number(out, u64::from(twin))?;
-    put_number(out, u64::from(pair))?;
-    put_number(out, first)?;
-    put_number(out, last)?;
-    put_text(out, b"\n")
+    let (twin, pair) = (Piece::Small(twin), Piece::Small(pair));
+    let (first, last) = (Piece::Decimal(first), Piece::Decimal(last));
+    put_line(out, b"DEAD", &[twin, pair, first, last])
 }
 
 /// Adds the line of an event.

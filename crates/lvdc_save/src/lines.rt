@@ -10,14 +10,14 @@ ghost use Rattle.lvdc_save.specs.Printed.{IsSupply, IsUnplug};
 
 use crate::Entry;
 use crate::events::put_fault;
-use crate::parts::{put_cell, put_number, put_spot, put_twins, put_word, put_words};
+use crate::parts::{put_number, put_twins, put_words};
 use lvdc_image::put_simplex;
 use lvdc_lines::{put_exchange_line, put_repair_line};
 use lvdc_map::{Banks, Placed};
 use lvdc_orders::Order;
 use lvdc_plain::Unplug;
 use lvdc_port::Supply;
-use lvdc_text::{put_octal, put_text};
+use lvdc_text::{Piece, put_line, put_text};
 use lvdc_twin::Held;
 use lvdc_word::{NoMemory, Word};
 
@@ -25,18 +25,14 @@ use lvdc_word::{NoMemory, Word};
 pub(crate) fn put_steps(out: &mut Vec<u8>, steps: u64) -> Result<(), NoMemory>
     ensures { OnOk result (out.new.items ≡ out.old.items ++ entry_line (says.Steps steps)) }
 {
-    put_text(out, b"STEPS")?;
-    put_number(out, steps)?;
-    put_text(out, b"\n")
+    put_line(out, b"STEPS", &[Piece::Decimal(steps)])
 }
 
 /// Adds the COUNT line.
 pub(crate) fn put_count(out: &mut Vec<u8>, count: u64) -> Result<(), NoMemory>
     ensures { OnOk result (out.new.items ≡ out.old.items ++ entry_line (says.Count count)) }
 {
-    put_text(out, b"COUNT")?;
-    put_number(out, count)?;
-    put_text(out, b"\n")
+    put_line(out, b"COUNT", &[Piece::Decimal(count)])
 }
 
 /// Adds the SIMPLEX line.
@@ -81,11 +77,8 @@ pub(crate) fn put_held(out: &mut Vec<u8>, held: &Held) -> Result<(), NoMemory>
     ensures line { OnOk result (out.new.items ≡ out.old.items ++ cell_line held.now) }
     ensures cell { OnOk result (held.now.cell < 2 ^ 28) }
 {
-    put_text(out, b"CELL")?;
-    put_number(out, u64::from(held.twin))?;
-    put_spot(out, held.at)?;
-    put_cell(out, held.cell)?;
-    put_text(out, b"\n")
+    let (twin, at) = (Piece::Small(held.twin), Piece::Address(held.at));
+    put_line(out, b"CELL", &[twin, at, Piece::Cell(held.cell)])
 }
 
 /// Adds a WORD line.
@@ -93,10 +86,8 @@ pub(crate) fn put_placed(out: &mut Vec<u8>, placed: &Placed) -> Result<(), NoMem
     ensures line { OnOk result (out.new.items ≡ out.old.items ++ word_line placed.now) }
     ensures placed { OnOk result (IsPlaced placed.now) }
 {
-    put_text(out, b"WORD")?;
-    put_spot(out, placed.at)?;
-    put_word(out, placed.word)?;
-    put_text(out, b"\n")
+    let (at, word) = (Piece::Address(placed.at), Piece::Word(placed.word));
+    put_line(out, b"WORD", &[at, word])
 }
 
 /// Adds a STATE line.
@@ -104,10 +95,8 @@ pub(crate) fn put_state(out: &mut Vec<u8>, state: &Supply) -> Result<(), NoMemor
     ensures line { OnOk result (out.new.items ≡ out.old.items ++ state_line state.now) }
     ensures printed { OnOk result (IsSupply state.now) }
 {
-    put_text(out, b"STATE ")?;
-    put_octal(out, u64::from(state.port), 3)?;
-    put_word(out, state.word)?;
-    put_text(out, b"\n")
+    let port = Piece::Octal(u64::from(state.port), 3);
+    put_line(out, b"STATE", &[port, Piece::Word(state.word)])
 }
 
 /// Adds an UNPLUG line.
@@ -115,10 +104,8 @@ pub(crate) fn put_unplug(out: &mut Vec<u8>, unplug: &Unplug) -> Result<(), NoMem
     ensures line { OnOk result (out.new.items ≡ out.old.items ++ unplug_line unplug.now) }
     ensures printed { OnOk result (unplug.now.time ≤ TIMES → IsUnplug unplug.now) }
 {
-    put_text(out, b"UNPLUG ")?;
-    put_octal(out, u64::from(unplug.port), 3)?;
-    put_number(out, unplug.time)?;
-    put_text(out, b"\n")
+    let port = Piece::Octal(u64::from(unplug.port), 3);
+    put_line(out, b"UNPLUG", &[port, Piece::Decimal(unplug.time)])
 }
 
 /// Adds the letters of copies, A the first.
