@@ -1,5 +1,10 @@
 """A client of the Debug Adapter Protocol goes through whole sessions with lvdb."""
 import base64
+import io
+import signal
+import subprocess
+import sys
+import threading
 from collections.abc import Iterator
 from pathlib import Path
 
@@ -8,6 +13,7 @@ from conftest import TOP
 from lvdb_client import Client
 
 from lvdc import Worker
+from lvdc.lvdb.protocol import Server
 
 SORT = str(TOP / "examples" / "programs" / "sort.deck")
 FIVE_THREES = str(TOP / "examples" / "five-threes.macros")
@@ -224,6 +230,39 @@ def test_what_is_no_message_ends_the_session(client: Client, garbage: bytes) -> 
     client.process.stdin.write(garbage)
     client.process.stdin.close()
     assert client.process.wait(timeout=20) == 0
+
+
+class Gone:
+    """A stream that can't be read any more."""
+
+    def __init__(self, fault: Exception) -> None:
+        self._fault = fault
+
+    def readline(self, size: int = -1, /) -> bytes:
+        raise self._fault
+
+    def read(self, size: int = -1, /) -> bytes:
+        raise self._fault
+
+
+@pytest.mark.parametrize("fault", [OSError(5, "Input/output error"), ValueError("I/O operation on closed file"), MemoryError()], ids=str)
+def test_a_stream_that_fails_ends_the_session_without_a_trace(worker: Worker, monkeypatch: pytest.MonkeyPatch, fault: Exception) -> None:
+    raised: list[threading.ExceptHookArgs] = []
+    monkeypatch.setattr(threading, "excepthook", raised.append)
+    Server(io.BytesIO(), worker).answer_all(Gone(fault))
+    assert not raised
+
+
+def test_an_interrupt_while_python_ends_writes_no_trace() -> None:
+    script = """import atexit, time
+atexit.register(lambda: (print("ending", flush=True), time.sleep(20)))
+from lvdc.streams import leave
+leave(0)
+"""
+    with subprocess.Popen([sys.executable, "-c", script], stdout=subprocess.PIPE, stderr=subprocess.PIPE) as process:
+        assert process.stdout is not None and process.stdout.readline() == b"ending\n"
+        process.send_signal(signal.SIGINT)
+        assert process.communicate(timeout=20) == (b"", b"") and process.returncode == -signal.SIGINT
 
 
 def test_a_pause_ends_a_long_continue(client: Client, tmp_path: Path) -> None:

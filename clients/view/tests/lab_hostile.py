@@ -2,9 +2,13 @@
 says of the server."""
 import concurrent.futures
 import contextlib
+import os
 import pathlib
 import resource
+import shutil
+import signal
 import socket
+import tempfile
 import time
 from collections.abc import Iterator
 
@@ -24,7 +28,7 @@ LENGTHS = {"262145": 413, "9999999999": 413, "99999999999": 411, "-1": 411, "+5"
            "\u0661": 411}
 MOST_INPUT = 262_144
 AT_ONCE = 1000
-IDLE, HEAVY = 40, 32
+IDLE, HEAVY, LOST = 40, 32, 20
 MOST_SECONDS, SLACK = 2.0, 2.0
 HEAVY_DECK = b"IMAGE\nLVDC 1\n0 00 000 000010000\nEND\nFAULTS\nLAG 1 1 0 2999999\nRUN 400000\n"
 SLOW = 20
@@ -204,6 +208,28 @@ def try_heavy(lab: Lab, tally: Tally) -> None:
     tally.expect("heavy questions: none waits longer than it may", slowest < MOST_SECONDS + SLACK, True)
 
 
+def kill_workers(lab: Lab) -> None:
+    """Kills all that the lab has started."""
+    for task in pathlib.Path(f"/proc/{lab.process.pid}/task").iterdir():
+        for number in (task / "children").read_text().split():
+            os.kill(int(number), signal.SIGKILL)
+
+
+def try_no_worker(program: str, tally: Tally) -> None:
+    """Questions whose worker can't be started, more than there are workers: each is told so, and none takes a worker's place for good."""
+    with tempfile.TemporaryDirectory() as folder:
+        here, away = pathlib.Path(folder, "lvdc-worker"), pathlib.Path(folder, "away")
+        shutil.copy(program, here)
+        with Lab(str(here)) as lab:
+            here.rename(away)
+            kill_workers(lab)
+            statuses = [status_of(lab.asked("run", DECK, *lab.own_headers(DECK))) for _ in range(LOST + 2 * (os.cpu_count() or 1))]
+            tally.expect("questions whose worker can't be started", set(statuses), {502})
+            away.rename(here)
+            tally.expect("a question once it can be started again", status_of(lab.asked("run", DECK, *lab.own_headers(DECK))), 200)
+            tally.expect("what that lab wrote on standard error", lab.told(), "")
+
+
 def try_hostile(lab: Lab, tally: Tally, worker: Worker) -> None:
     """All of it, while slow requests are held open."""
     began = time.monotonic()
@@ -215,5 +241,6 @@ def try_hostile(lab: Lab, tally: Tally, worker: Worker) -> None:
     try_idle(lab, tally)
     try_heavy(lab, tally)
     try_many(lab, tally)
+    try_no_worker(lab.worker, tally)
     tally.expect("the lab still runs", lab.process.poll(), None)
     tally.expect("what the lab wrote on standard error", lab.told(), "")

@@ -3,10 +3,11 @@ import contextlib
 import errno
 import io
 import os
+import signal
 import sys
 from collections.abc import Iterator
 from pathlib import Path
-from typing import TextIO
+from typing import NoReturn, TextIO
 
 from lvdc.errors import Error
 from lvdc.limits import MOST_BYTES, MOST_CHARACTERS
@@ -41,6 +42,12 @@ def complain(text: object) -> None:
         print(text, file=sys.stderr, flush=True)
     except OSError:
         os.dup2(os.open(os.devnull, os.O_WRONLY), sys.stderr.fileno())
+
+
+def leave(status: int) -> NoReturn:
+    """Ends with this status. From here on an interrupt ends it at once: no trace is written of what Python does last."""
+    signal.signal(signal.SIGINT, signal.SIG_DFL)
+    sys.exit(status)
 
 
 @contextlib.contextmanager

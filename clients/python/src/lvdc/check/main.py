@@ -9,7 +9,7 @@ from lvdc.check.mending import MOST_FINDINGS, Finding, findings_of, told_of
 from lvdc.errors import Error
 from lvdc.lines import decode
 from lvdc.refusals import Refused
-from lvdc.streams import NO_MEMORY, complain, drop_output, open_streams, read_file
+from lvdc.streams import NO_MEMORY, complain, drop_output, leave, open_streams, read_file
 from lvdc.workers import Asker, Worker
 
 USAGE = """usage: lvdc-check FILE ..
@@ -93,4 +93,4 @@ def main() -> None:
     except MemoryError:
         complain(f"lvdc-check: {NO_MEMORY}")
         status = 1
-    sys.exit(status)
+    leave(status)

@@ -18,7 +18,7 @@ from lvdc.lvdb.prompt import Prompt, choose_prompt, plain_prompt
 from lvdc.lvdb.session import Debugger, Stop
 from lvdc.lvdb.show import Style
 from lvdc.refusals import Refused
-from lvdc.streams import NO_MEMORY, complain, drop_output, open_streams
+from lvdc.streams import NO_MEMORY, complain, drop_output, leave, open_streams
 from lvdc.values import STEPS_A_TIME
 from lvdc.workers import Asker, Worker
 
@@ -155,7 +155,7 @@ def main() -> None:
     except MemoryError:
         complain(f"lvdb: {NO_MEMORY}")
         status = 1
-    sys.exit(status)
+    leave(status)
 
 
 def carry_out_words(words: Sequence[str]) -> int:

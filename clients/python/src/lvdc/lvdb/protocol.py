@@ -56,6 +56,8 @@ class Server:
         self._console: Console | None = None
         self._stop_on_entry = True
         self._is_moving = False
+        self._interrupting = threading.Lock()
+        self._is_over = False
         self._number, self._interrupted_before = 0, 0
         self._sequence = 0
         self._mine: dict[str, list[int]] = {}
@@ -86,22 +88,30 @@ class Server:
                 self._respond(request, {})
                 self._event("terminated")
         finally:
+            with self._interrupting:
+                self._is_over = True
             signal.signal(signal.SIGINT, before)
 
     def _read_all(self, incoming: Incoming, queue: "SimpleQueue[Message | None]") -> None:
-        """Reads requests into a queue; a stream that ends or has what is no message is the end. One that interrupts ends the moves that
-        were asked for before it, also one that hasn't begun."""
+        """Reads requests into a queue; a stream that ends, was closed or has what is no message is the end. One that interrupts ends the
+        moves that were asked for before it, also one that hasn't begun."""
         request: Message | None = {}
         number = 0
         while request is not None:
             try:
                 request = read_message(incoming)
-            except BadMessage:
+            except (BadMessage, OSError, ValueError, MemoryError):
                 request = None
             queue.put(request)
             number += 1
             if request is None or request.get("command") in _INTERRUPTING:
-                self._interrupted_before = number
+                self._interrupt(number)
+
+    def _interrupt(self, number: int) -> None:
+        """Ends the moves that were asked for before this request. Once all is over nobody is interrupted any more."""
+        self._interrupted_before = number
+        with self._interrupting:
+            if self._is_moving and not self._is_over:
                 os.kill(os.getpid(), signal.SIGINT)
 
     def _interrupted(self, number: int, frame: FrameType | None) -> None:
