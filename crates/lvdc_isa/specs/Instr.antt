@@ -12,8 +12,7 @@ is_shift pattern = pattern == 0 || pattern == 0o1 || pattern == 0o2 || pattern =
 abbrev pub fourteen : ℕ → Op
 fourteen address =
     if address / 2 ^ 7 % 2 == 0 then Cds
-    else (if address / 2 ^ 8 == 1 then Exm
-    else (if is_shift (address % 2 ^ 7) then Shf else WrongShift))
+    else (if address / 2 ^ 8 == 1 then Exm else (if is_shift (address % 2 ^ 7) then Shf else WrongShift))
 
 -- the operations in the order of their codes; code 14 stands apart, and CDS keeps its place
 abbrev pub operations : List Op
@@ -23,9 +22,9 @@ operations = Hop ∷ Mpy ∷ Sub ∷ Div ∷ Tnz ∷ Mph ∷ And ∷ Add ∷ Tra
 abbrev pub operation : ℕ → ℕ → Op
 operation c address = if c == 14 then fourteen address else slice_index_or operations c Cla
 
--- bits 12 to 9 of a syllable are the code, the nine bits below them are the address
+-- bits 12 to 9 of a syllable are the code, of which 14 is told apart by the address, the nine bits below them
 abbrev pub instr : ℕ → Instr
-instr s = record { op = operation (s / 2 ^ 9) (s % 2 ^ 9); address = s % 2 ^ 9 }
+instr s = record { op = if s / 2 ^ 9 == 14 then fourteen (s % 2 ^ 9) else slice_index_or operations (s / 2 ^ 9) Cla; address = s % 2 ^ 9 }
 
 -- the code of an operation
 abbrev pub operation_code : Op → ℕ
@@ -58,16 +57,15 @@ pub record IsInstruction (i : Instr) : Type 0 where
   pub nine_bits : i.address < 2 ^ 9
   pub meant : operation (operation_code i.op) i.address ≡ i.op
 
--- the ten operations that take an operand word
+-- all operations but nine take an operand word
 abbrev pub takes_operand : Op → Bool
-takes_operand Hop = true
-takes_operand Mpy = true
-takes_operand Sub = true
-takes_operand Div = true
-takes_operand Mph = true
-takes_operand And = true
-takes_operand Add = true
-takes_operand Xor = true
-takes_operand Rsu = true
-takes_operand Cla = true
-takes_operand _ = false
+takes_operand Tnz = false
+takes_operand Tra = false
+takes_operand Pio = false
+takes_operand Sto = false
+takes_operand Tmi = false
+takes_operand Cds = false
+takes_operand Shf = false
+takes_operand WrongShift = false
+takes_operand Exm = false
+takes_operand _ = true

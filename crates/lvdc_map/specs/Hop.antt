@@ -4,8 +4,7 @@ use Rattle.lvdc_word.specs.Word.{bit_of, upper, lower}
 use Rattle.lvdc_map.specs.Address.{Spot}
 use Rattle.lvdc_map.specs.Banks.{bank_of}
 
--- the fields: instruction module, sector, syllable and location, data module and sector, and the two DUP bits, which are
--- kept and change nothing
+-- the fields: instruction module, sector, syllable and location, data module and sector, and two DUP bits, which are kept and change nothing
 pub record HopConstant : Type 0 where
   pub imod : ℕ
   pub isec : ℕ
@@ -29,19 +28,14 @@ pub record IsHopConstant (h : HopConstant) : Type 0 where
 abbrev pub bit : ℕ → ℕ → Bool
 bit w k = w / 2 ^ k % 2 == 1
 
+-- so many bits of a word, the lowest of them bit k
+abbrev pub bits : ℕ → ℕ → ℕ → ℕ
+bits w k many = w / 2 ^ k % 2 ^ many
+
 -- the fields of a word; its lowest bit is spare
 abbrev pub hop_of : ℕ → HopConstant
 hop_of w =
-    record {
-      imod = w / 2 ^ 23 % 8;
-      isec = w / 2 ^ 19 % 16;
-      syl = w / 2 ^ 18 % 2;
-      loc = w / 2 ^ 10 % 256;
-      dmod = w / 2 ^ 7 % 8;
-      dsec = w / 2 ^ 3 % 16;
-      dupin = bit w 2;
-      dupdn = bit w 1;
-    }
+    record { imod = bits w 23 3; isec = bits w 19 4; syl = bits w 18 1; loc = bits w 10 8; dmod = bits w 7 3; dsec = bits w 3 4; dupin = bit w 2; dupdn = bit w 1 }
 
 -- the word with these fields and spare bit 0
 abbrev pub word_of_hop : HopConstant → ℕ

@@ -1,5 +1,5 @@
 -- Memories: what word each address holds.
-use Rattle.std.specs.Prelude.{◌≡◌, ℕ, Bool, true, ◌&&◌, nat_lt, if◌then◌else◌, List, [], ◌∷◌, All, length, slice_index}
+use Rattle.std.specs.Prelude.{◌≡◌, ℕ, Bool, true, ◌&&◌, nat_lt, if◌then◌else◌, List, [], ◌∷◌, All, length, fold, slice_index}
 use Rattle.lvdc_map.specs.Address.{Spot, IsAddress, is_same, number_of}
 use Rattle.lvdc_map.specs.Banks.{is_there}
 use Rattle.lvdc_map.specs.declared.placed.Placed.{Placed}
@@ -22,12 +22,11 @@ stored memory at w = λ other. if is_same other at then w else memory other
 
 -- the memory with the words of an image at their places
 abbrev pub loaded : List Placed → Memory → Memory
-loaded [] memory = memory
-loaded (p ∷ ps) memory = loaded ps (stored memory p.at p.word)
+loaded image memory = fold (λ now p. stored now p.at p.word) memory image
 
--- the memory that an image makes: its words, and 0 elsewhere
+-- the memory that an image makes: its words at their places, and 0 elsewhere
 abbrev pub memory_of : List Placed → Memory
-memory_of image = loaded image (λ _. 0)
+memory_of image = fold (λ memory p. stored memory p.at p.word) (λ _. 0) image
 
 -- the list holds the memory's word at the number of each address
 pub record IsMemory (words : List ℕ) (m : Memory) : Type 0 where

@@ -7,7 +7,7 @@ use Rattle.std.proofs.lemmas.Int.{ints}
 use Rattle.std.proofs.lemmas.Nat.{div-mul-add}
 use Rattle.std.proofs.Math.Nat.{pow-succ', pow-le-pow_right}
 use Rattle.lvdc_word.specs.Word.{signed, word_of, shifted_left}
-use Rattle.lvdc_word.specs.Results.{fraction, quotient, quotient_of, with_sign, exactly_one}
+use Rattle.lvdc_word.specs.Results.{fraction, quotient, quotient_of, with_sign}
 use Rattle.lvdc_mul.specs.declared.control.Kind.{Kind}
 use Rattle.lvdc_mul.specs.declared.control.Kind.TheVariants.{Divide}
 use Rattle.lvdc_mul.specs.declared.control.Control.{Control}
@@ -49,6 +49,10 @@ found_by false u W h0 m e em small few f =
     })
 
 -- ---- a divide of a by m with k bits found
+
+-- exactly one of the two
+abbrev exactly_one : Bool → Bool → Bool
+exactly_one b c = cond b (not c) c
 
 record IsDividing (k : ℕ) (a m : ℤ) (u : Latches) : Type 0 where
   m_is : u.m ≡ unsigned_abs m

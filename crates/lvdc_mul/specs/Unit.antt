@@ -4,7 +4,7 @@ use Rattle.std.specs.Int.{is_negative}
 use Rattle.std.specs.declared.option.Option.{Option}
 use Rattle.std.specs.declared.option.Option.TheVariants.{None, Some}
 use Rattle.lvdc_word.specs.Word.{signed, word_of, shifted_left, shifted_right}
-use Rattle.lvdc_word.specs.Results.{exactly_one, saturated}
+use Rattle.lvdc_word.specs.Results.{saturated}
 use Rattle.lvdc_mul.specs.declared.control.Kind.{Kind}
 use Rattle.lvdc_mul.specs.declared.control.Kind.TheVariants.{Idle, Multiply, MultiplyHigh, Divide}
 use Rattle.lvdc_mul.specs.declared.control.Control.{Control}
@@ -65,7 +65,7 @@ multiply_phase u =
 abbrev pub signs_noted : Latches → Control
 signs_noted u =
     record (counted_down (control_of u.control)) {
-      negative = exactly_one (is_negative (signed u.h)) (is_negative (signed u.m));
+      negative = if is_negative (signed u.h) then not (is_negative (signed u.m)) else is_negative (signed u.m);
       saturated = not (nat_lt (unsigned_abs (signed u.h)) (unsigned_abs (signed u.m)));
     }
 

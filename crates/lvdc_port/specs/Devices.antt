@@ -30,14 +30,12 @@ exchange_word request time (device ∷ devices) =
 abbrev pub after_exchange : PortRequest → List Device → List Device
 after_exchange request [] = []
 after_exchange request (device ∷ devices) =
-    if device.port == port_of request then after_request request device ∷ devices
-    else device ∷ after_exchange request devices
+    if device.port == port_of request then after_request request device ∷ devices else device ∷ after_exchange request devices
 
 -- the list without the device at this port; the others keep their order
 abbrev pub without : {B : Type 0} → (B → Device) → ℕ → List B → List B
 without device_of port [] = []
-without device_of port (device ∷ devices) =
-    if (device_of device).port == port then devices else device ∷ without device_of port devices
+without device_of port (device ∷ devices) = if (device_of device).port == port then devices else device ∷ without device_of port devices
 
 -- whether there is a device at this port
 abbrev pub has_port : {B : Type 0} → (B → Device) → ℕ → List B → Bool

@@ -1,5 +1,5 @@
 -- Which kinds of device are there, and the words that tapes are given before a run.
-use Rattle.std.specs.Prelude.{◌≡◌, ℕ, ◌==◌, if◌then◌else◌, List, [], ◌∷◌, take, map, slice_get, Contains}
+use Rattle.std.specs.Prelude.{◌≡◌, ℕ, ◌==◌, if◌then◌else◌, List, [], ◌∷◌, take, map, slice_get, fold, Contains}
 use Rattle.std.specs.declared.option.Option.{Option}
 use Rattle.std.specs.declared.option.Option.TheVariants.{None, Some}
 use Rattle.lvdc_port.specs.Device.{Device, state_after_supply}
@@ -22,8 +22,7 @@ after_supply_of supply (device ∷ devices) =
 
 -- the devices after these words were supplied, in their order
 abbrev pub supplied : List Supply → List Device → List Device
-supplied [] devices = devices
-supplied (supply ∷ supplies) devices = supplied supplies (after_supply_of supply devices)
+supplied supplies devices = fold (λ now supply. after_supply_of supply now) devices supplies
 
 -- the first so many of these words were supplied, and no others: the next is for a tape, which found no memory for it
 pub record IsSuppliedInPart (supplies : List Supply) (old new : List Device) : Type 0 where

@@ -4,7 +4,7 @@ use Rattle.std.specs.Bool.{if◌then◌else◌}
 use Rattle.std.specs.Int.{is_negative}
 use Rattle.std.proofs.lemmas.Bool.{lt-ltb, le-ltb}
 use Rattle.std.proofs.lemmas.Int.{ints, to_z-of_z, fits_signed_mul}
-use Rattle.lvdc_word.specs.Results.{fraction, with_sign, proper_quotient, quotient, quotient_of, saturated, exactly_one}
+use Rattle.lvdc_word.specs.Results.{fraction, with_sign, quotient, quotient_of, saturated}
 use Rattle.lvdc_word.specs.Word.{word_of}
 use mathlib.Core.Bool.{beq}
 
@@ -25,6 +25,14 @@ module _ (x y : ℤ) (x_low : negsuc 8388607 ≤ℤ x) (x_high : x ≤ℤ pos 83
 
   pub product_held : to_z w64 (of_z w64 (to_z w64 (of_z w64 x) *ℤ to_z w64 (of_z w64 y))) ≡ x *ℤ y
   product_held = to_z-of_z w64 (to_z w64 (of_z w64 x) *ℤ to_z w64 (of_z w64 y)) product_fits ∙ both_held
+
+-- exactly one of the two
+abbrev exactly_one : Bool → Bool → Bool
+exactly_one b c = if b then not c else c
+
+-- the quotient where a is below m in magnitude
+abbrev proper_quotient : ℤ → ℤ → Bool → ℕ
+proper_quotient a m negative = word_of (with_sign negative (unsigned_abs a * 2 ^ 23 / unsigned_abs m) *ℤ pos 4)
 
 -- two Booleans differ where exactly one of them is true
 differ : (b c : Bool) → not (beq b c) ≡ exactly_one b c

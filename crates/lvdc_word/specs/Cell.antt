@@ -11,9 +11,9 @@ ones (suc bits) n = n % 2 + ones bits (n / 2)
 abbrev pub is_good_half : ℕ → Bool
 is_good_half half = ones 14 half % 2 == 1
 
--- a cell is good where both halves are
+-- a cell is good where the number of ones is odd in each of its halves of 14 bits
 abbrev pub is_good : ℕ → Bool
-is_good cell = is_good_half (cell / 2 ^ 14) && is_good_half (cell % 2 ^ 14)
+is_good cell = ones 14 (cell / 2 ^ 14) % 2 == 1 && ones 14 (cell % 2 ^ 14) % 2 == 1
 
 -- a syllable below the parity bit that makes the number of ones odd
 abbrev pub half_of : ℕ → ℕ
@@ -27,7 +27,6 @@ code_of w = half_of (upper w) * 2 ^ 14 + half_of (lower w)
 abbrev pub word_in : ℕ → ℕ
 word_in cell = joined (cell / 2 ^ 14 % 2 ^ 13) (cell % 2 ^ 13)
 
--- the cell whose bits under the mask are those of the value, and whose other bits stay: the bits under the mask that differ
--- are turned over
+-- the cell with the bits under the mask from the value, its other bits as they are: the bits under the mask that differ are turned over
 unfoldable pub with_stuck : ℕ → ℕ → ℕ → ℕ
 with_stuck cell mask value = bit_xor cell (bit_and (bit_xor cell value) mask)

@@ -1,5 +1,5 @@
 -- What a multiply and a divide come to: the finished results, as formulas over whole numbers.
-use Rattle.std.specs.Prelude.{ℕ, ◌*◌, ◌/◌, ◌^◌, Bool, true, false, not, nat_lt, if◌then◌else◌, ℤ, pos, ◌*ℤ◌, neg_ℤ, unsigned_abs}
+use Rattle.std.specs.Prelude.{ℕ, ◌*◌, ◌/◌, ◌^◌, Bool, not, nat_lt, if◌then◌else◌, ℤ, pos, ◌*ℤ◌, neg_ℤ, unsigned_abs}
 use Rattle.std.specs.Int.{int_div_euclid, is_negative}
 use Rattle.lvdc_word.specs.Word.{signed, word_of}
 
@@ -15,26 +15,16 @@ product a m = word_of (int_div_euclid (fraction a *ℤ fraction m) (pos (2 ^ 21)
 abbrev pub with_sign : Bool → ℕ → ℤ
 with_sign negative n = if negative then neg_ℤ (pos n) else pos n
 
--- the quotient of two fractions, a below m in magnitude: 2 ^ 23 times the magnitude of a by that of m, rounded down, with its sign,
--- times 4
-abbrev pub proper_quotient : ℤ → ℤ → Bool → ℕ
-proper_quotient a m negative = word_of (with_sign negative (unsigned_abs a * 2 ^ 23 / unsigned_abs m) *ℤ pos 4)
-
 -- the quotient of this sign that is greatest in magnitude: -1, or the greatest fraction below 1
 abbrev pub saturated : Bool → ℕ
 saturated negative = if negative then 0o200000000 else 0o177777774
 
--- the quotient of two fractions; where it would be 1 or more in magnitude, the greatest number of its sign
+-- 2 ^ 23 times the magnitude of a by that of m, rounded down, with this sign, times 4; where a isn't below m, the greatest of this sign
 abbrev pub quotient_of : ℤ → ℤ → Bool → ℕ
 quotient_of a m negative =
-    if nat_lt (unsigned_abs a) (unsigned_abs m) then proper_quotient a m negative
+    if nat_lt (unsigned_abs a) (unsigned_abs m) then word_of (with_sign negative (unsigned_abs a * 2 ^ 23 / unsigned_abs m) *ℤ pos 4)
     else saturated negative
-
--- exactly one of the two
-abbrev pub exactly_one : Bool → Bool → Bool
-exactly_one false b = b
-exactly_one true b = not b
 
 -- the quotient of two words: it is negative where exactly one of them is
 abbrev pub quotient : ℕ → ℕ → ℕ
-quotient a m = quotient_of (fraction a) (fraction m) (exactly_one (is_negative (fraction a)) (is_negative (fraction m)))
+quotient a m = quotient_of (fraction a) (fraction m) (if is_negative (fraction a) then not (is_negative (fraction m)) else is_negative (fraction m))
