@@ -3,6 +3,7 @@ use Rattle.std.proofs.Common.{rules, ◌≡◌, ℕ, ◌^◌, ◌<◌, zero, suc
 use Rattle.std.specs.declared.option.Option.{Option}
 use Rattle.std.specs.declared.option.Option.TheVariants.{None, Some}
 use Rattle.lvdc_map.specs.Address.{Spot}
+use Rattle.lvdc_map.specs.declared.placed.Placed.{Placed}
 use Rattle.lvdc_isa.specs.declared.instr.Instr.{Instr}
 use Rattle.lvdc_port.specs.Device.{Device}
 use Rattle.lvdc_port.specs.declared.requests.PortRequest.{PortRequest}
@@ -10,7 +11,7 @@ use Rattle.lvdc_port.specs.declared.requests.PortRequest.TheVariants.{Read, Writ
 use Rattle.lvdc_plain.specs.declared.records.Stop.{Stop}
 use Rattle.lvdc_plain.specs.Plain.{PlainState}
 use Rattle.lvdc_plain.specs.Table.{fetched_instr, request_by, device_time, step}
-use Rattle.lvdc_plain.specs.Accesses.{Store, fetched, operand, store_of}
+use Rattle.lvdc_plain.specs.Accesses.{fetched, operand, store_of}
 use Rattle.lvdc_plain.specs.View.{ByInstruction}
 use Rattle.lvdc_modules.specs.declared.bus.Bus.{Bus}
 use Rattle.lvdc_modules.specs.declared.seen.Doing.{Doing}
@@ -71,7 +72,7 @@ module _ (first : FirstLaw) (second : SecondLaw) (third : ThirdLaw) (wishes : Wi
   operand-answered None states p devices = tt
   operand-answered (Some at) states p devices = refl
 
-  exchange-answered : (request : Option PortRequest) (s : Option Store) (states : List (List ℕ)) (p : PlainState) (devices : List Device)
+  exchange-answered : (request : Option PortRequest) (s : Option Placed) (states : List (List ℕ)) (p : PlainState) (devices : List Device)
       → IsAnswered (exchange_wish request s) (bus_of states 0 (port_answer (exchange_wish request s) devices (device_time p))) p devices
   exchange-answered (Some (Read port)) s states p devices = refl
   exchange-answered (Some (Write port word)) s states p devices = tt

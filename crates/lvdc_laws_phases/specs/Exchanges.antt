@@ -4,6 +4,7 @@ use Rattle.std.specs.declared.option.Option.{Option}
 use Rattle.std.specs.declared.option.Option.TheVariants.{None, Some}
 use Rattle.lvdc_map.specs.Address.{Spot}
 use Rattle.lvdc_map.specs.Memory.{word_at}
+use Rattle.lvdc_map.specs.declared.placed.Placed.{Placed}
 use Rattle.lvdc_isa.specs.declared.op.Op.{Op}
 use Rattle.lvdc_port.specs.Device.{Device}
 use Rattle.lvdc_port.specs.Devices.{exchange_word}
@@ -23,12 +24,12 @@ read_wish make None = Nothing
 read_wish make (Some at) = make at
 
 -- a store, where there is one
-abbrev pub store_wish : Option plain.Store → Wanted
+abbrev pub store_wish : Option Placed → Wanted
 store_wish None = Nothing
 store_wish (Some s) = Store s.at s.word
 
 -- a port exchange, or where there is none a store
-abbrev pub exchange_wish : Option PortRequest → Option plain.Store → Wanted
+abbrev pub exchange_wish : Option PortRequest → Option Placed → Wanted
 exchange_wish (Some (Read port)) s = PortRead port
 exchange_wish (Some (Write port word)) s = PortWrite port word
 exchange_wish None s = store_wish s

@@ -3,11 +3,12 @@ use Rattle.std.proofs.Common.{◌≡◌, ℕ, zero, suc, ◌%◌, refl, arith}
 use Rattle.std.specs.declared.option.Option.{Option}
 use Rattle.std.specs.declared.option.Option.TheVariants.{None, Some}
 use Rattle.lvdc_map.specs.Address.{Spot}
+use Rattle.lvdc_map.specs.declared.placed.Placed.{Placed}
 use Rattle.lvdc_port.specs.declared.requests.PortRequest.{PortRequest}
 use Rattle.lvdc_port.specs.declared.requests.PortRequest.TheVariants.{Read, Write}
 use Rattle.lvdc_modules.specs.declared.wanted.Wanted.{Wanted}
 use Rattle.lvdc_modules.specs.declared.wanted.Wanted.TheVariants.{Fetch, Operand}
-use Rattle.lvdc_plain.specs.Accesses.{Store, fetched, operand}
+use Rattle.lvdc_plain.specs.Accesses.{fetched, operand}
 use Rattle.lvdc_plain.specs.Plain.{PlainState}
 use Rattle.lvdc_plain.specs.Stands.{Names, request_at}
 use Rattle.lvdc_plain.specs.declared.records.Stop.{Stop}
@@ -22,12 +23,12 @@ read-unnamed make None port none h = h
 read-unnamed make (Some at) port none h = none at h
 
 -- nor does a store
-store-unnamed : (s : Option Store) (port : ℕ) → NamesPort (store_wish s) port → ⊥
+store-unnamed : (s : Option Placed) (port : ℕ) → NamesPort (store_wish s) port → ⊥
 store-unnamed None port h = h
 store-unnamed (Some s) port h = h
 
 -- so it is what is asked of the ports that names one
-wish-names : (r : Option PortRequest) (s : Option Store) (port : ℕ) → NamesPort (exchange_wish r s) port → Names r port
+wish-names : (r : Option PortRequest) (s : Option Placed) (port : ℕ) → NamesPort (exchange_wish r s) port → Names r port
 wish-names (Some (Read named)) s port h = h
 wish-names (Some (Write named word)) s port h = h
 wish-names None s port h = absurd (store-unnamed s port h)

@@ -6,7 +6,7 @@ use Rattle.lvdc_word.specs.Cell.{code_of, is_good}
 use Rattle.lvdc_map.specs.Address.{Spot, is_same}
 use Rattle.lvdc_map.specs.Banks.{is_simplex, home, holds}
 use Rattle.lvdc_map.specs.Memory.{word_at}
-use Rattle.lvdc_plain.specs.Accesses.{Store}
+use Rattle.lvdc_map.specs.declared.placed.Placed.{Placed}
 use Rattle.lvdc_fault.specs.Damage.{shown_of}
 use Rattle.lvdc_fault.specs.Recoverable.{is_recovered}
 use Rattle.lvdc_fault.specs.Script.{active_events}
@@ -27,7 +27,7 @@ module _ (o : Trial) (step : ℕ) (leaves : LeavesMemory o.script step) (twin : 
       && not (leaves.dead twin (home at).pair i) && not (is_good (leaves.shown twin (home at) cell i)))
       (code_of (word_at (plain_in o step).memory at)) cell
 
-  overwritten-same : (s : Option Store) (cell : ℕ) → overwritten o step twin at s cell ≡ overwritten (fault_free o) step twin at s cell
+  overwritten-same : (s : Option Placed) (cell : ℕ) → overwritten o step twin at s cell ≡ overwritten (fault_free o) step twin at s cell
   overwritten-same None cell = refl
   overwritten-same (Some s) cell =
       λ i. cond (is_same at s.at && holds o.opening.banks twin at && not (leaves.dead twin (home at).pair i)) (code_of s.word) cell

@@ -10,9 +10,8 @@ use Rattle.lvdc_map.specs.Address.{Spot, IsAddress, is_same}
 use Rattle.lvdc_map.specs.Banks.{is_simplex, bank_of, home, holds, IsPlace}
 use Rattle.lvdc_map.specs.Hop.{HopConstant}
 use Rattle.lvdc_map.specs.Memory.{Memory, word_at, stored}
-use Rattle.lvdc_map.specs.Place.{operand_kind, data_spot, data_sector, place_at}
-use Rattle.lvdc_map.specs.declared.operand.OperandKind.{OperandKind}
-use Rattle.lvdc_map.specs.declared.operand.OperandKind.TheVariants as kinds
+use Rattle.lvdc_map.specs.Place.{data_spot, data_sector, place_of}
+use Rattle.lvdc_map.specs.declared.place.Place.TheVariants as places
 use Rattle.lvdc_map.proofs.Addresses.{same-spot}
 use Rattle.lvdc_isa.specs.Instr.{takes_operand}
 use Rattle.lvdc_isa.specs.declared.instr.Instr.{Instr}
@@ -86,16 +85,16 @@ data-address banks h address dmod dsec = record { pair = bank-small banks h.dmod
     sector : data_sector h address < 16
     sector = by_a9 _
 
-operand-address : (kind : OperandKind) (at : Spot) → IsAddress at → AtAddress (operand_wish (place_at kind at))
-operand-address kinds.Memory at h = h
-operand-address kinds.Pq at h = tt
-operand-address kinds.Saver at h = h
+operand-address : (pq saver : Bool) (at : Spot) → IsAddress at → AtAddress (operand_wish (cond pq places.Pq (cond saver (places.Saver at) (places.Memory at))))
+operand-address true saver at h = tt
+operand-address false true at h = h
+operand-address false false at h = h
 
 instruction-address : (i : Instr) (b : Bus) (banks : ℕ) → AtAddress (instruction_wish i b banks)
 instruction-address i b banks = by_operand (takes_operand i.op)
   where
-    by_operand : (takes : Bool) → AtAddress (cond takes (operand_wish (place_at (operand_kind i.address) (data_spot banks (here b) i.address))) wanted.Nothing)
-    by_operand true = operand-address (operand_kind i.address) _ (data-address banks (here b) i.address (omega arith) (omega arith))
+    by_operand : (takes : Bool) → AtAddress (cond takes (operand_wish (place_of banks (here b) i.address)) wanted.Nothing)
+    by_operand true = operand-address _ _ _ (data-address banks (here b) i.address (omega arith) (omega arith))
     by_operand false = tt
 
 wish-address_in : (p : Phase) (b : Bus) (banks : ℕ) → AtAddress (wish_in p b banks)

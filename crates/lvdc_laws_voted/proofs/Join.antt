@@ -6,9 +6,8 @@ use Rattle.std.specs.declared.option.Option.TheVariants.{None, Some}
 use Rattle.std.proofs.lemmas.Bool.{ne_eqb}
 use Rattle.lvdc_map.specs.Address.{Spot}
 use Rattle.lvdc_map.specs.Hop.{HopConstant, IsHopConstant, fetch_of}
-use Rattle.lvdc_map.specs.Place.{operand_kind, data_spot, place_at}
-use Rattle.lvdc_map.specs.declared.operand.OperandKind.{OperandKind}
-use Rattle.lvdc_map.specs.declared.operand.OperandKind.TheVariants as kinds
+use Rattle.lvdc_map.specs.Place.{data_spot}
+use Rattle.lvdc_map.specs.declared.place.Place.TheVariants as places
 use Rattle.lvdc_isa.specs.Instr.{takes_operand}
 use Rattle.lvdc_port.specs.Device.{Device}
 use Rattle.lvdc_port.specs.Devices.{without, HoldWords}
@@ -81,11 +80,11 @@ wished-plain Stands o v law k =
 -- ---- the bank of what is read
 
 -- the bank of a place is there, of a fetch and of an operand too
-place-bank : BankLaw → (banks : ℕ) (h : HopConstant) (address : ℕ) → IsHopConstant h → (kind : OperandKind)
-    → HasBanks banks (address_of_place (place_at kind (data_spot banks h address)))
-place-bank law banks h address ok kinds.Memory = law banks h.dmod (data_spot banks h address) ok.dmod refl
-place-bank law banks h address ok kinds.Pq = tt
-place-bank law banks h address ok kinds.Saver = law banks h.dmod (data_spot banks h address) ok.dmod refl
+place-bank : BankLaw → (banks : ℕ) (h : HopConstant) (address : ℕ) → IsHopConstant h → (pq saver : Bool)
+    → HasBanks banks (address_of_place (cond pq places.Pq (cond saver (places.Saver (data_spot banks h address)) (places.Memory (data_spot banks h address)))))
+place-bank law banks h address ok true saver = tt
+place-bank law banks h address ok false true = law banks h.dmod (data_spot banks h address) ok.dmod refl
+place-bank law banks h address ok false false = law banks h.dmod (data_spot banks h address) ok.dmod refl
 
 fetch-bank : BankLaw → (stop : Option Stop) (hold : ℕ) (p : PlainState) → IsHopConstant p.place → HasBanks p.banks (accessed stop hold (Some (fetch_of p.banks p.place)))
 fetch-bank law None zero p ok = law p.banks p.place.imod _ ok.imod refl
@@ -99,7 +98,7 @@ operand-bank law None zero p ok = by_takes (takes_operand (fetched_instr p).op)
     address = (fetched_instr p).address
 
     by_takes : (b : Bool) → HasBanks p.banks (cond b (address_of_place (operand_place p address)) None)
-    by_takes true = place-bank law p.banks p.place address ok (operand_kind address)
+    by_takes true = place-bank law p.banks p.place address ok _ _
     by_takes false = tt
 operand-bank law None (suc hold) p ok = tt
 operand-bank law (Some s) hold p ok = tt

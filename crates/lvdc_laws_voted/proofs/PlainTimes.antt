@@ -7,6 +7,7 @@ use Rattle.lvdc_map.specs.Hop.{bit}
 use Rattle.lvdc_map.specs.Place.{a9}
 use Rattle.lvdc_map.specs.declared.place.Place.{Place}
 use Rattle.lvdc_map.specs.declared.place.Place.TheVariants.{Memory, Pq, Saver}
+use Rattle.lvdc_map.specs.declared.placed.Placed.{Placed}
 use Rattle.lvdc_isa.specs.declared.op.Op.{Op}
 use Rattle.lvdc_isa.specs.declared.op.Op.TheVariants.{Tnz, Pio, Sto, Tmi}
 use Rattle.lvdc_port.specs.Device.{Device}
@@ -14,7 +15,7 @@ use Rattle.lvdc_port.specs.Devices.{exchange_word, after_exchange, HoldWords}
 use Rattle.lvdc_port.specs.declared.requests.PortRequest.TheVariants.{Read, Write}
 use Rattle.lvdc_modules.specs.declared.wanted.Wanted.{Wanted}
 use Rattle.lvdc_modules.specs.declared.wanted.Wanted.TheVariants as wanted
-use Rattle.lvdc_plain.specs.Accesses.{Store, store_of, store_to, accessed}
+use Rattle.lvdc_plain.specs.Accesses.{store_of, store_to, accessed}
 use Rattle.lvdc_plain.specs.Plain.{PlainState}
 use Rattle.lvdc_plain.specs.Table.{fetched_instr, operand_place, request_by, exchanged, word_taken, goes_on, takes, transfers, stores, effect, logged, step, step_by}
 use Rattle.lvdc_plain.specs.declared.records.Exchange.{Exchange}
@@ -67,7 +68,7 @@ port-log : (b : Bool) (log : List Exchange) (devices : List Device) (time port a
 port-log true log devices time port a = refl
 port-log false log devices time port a = refl
 
-store-log : (s : Option Store) (log : List Exchange) (devices : List Device) (time : ℕ) → log ≡ log_after (store_wish s) log devices time
+store-log : (s : Option Placed) (log : List Exchange) (devices : List Device) (time : ℕ) → log ≡ log_after (store_wish s) log devices time
 store-log None log devices time = refl
 store-log (Some s) log devices time = refl
 
@@ -82,7 +83,7 @@ port-devices : (b : Bool) (devices : List Device) (port a : ℕ)
 port-devices true devices port a = refl
 port-devices false devices port a = refl
 
-store-devices : (s : Option Store) (devices : List Device) → devices ≡ devices_after (store_wish s) devices
+store-devices : (s : Option Placed) (devices : List Device) → devices ≡ devices_after (store_wish s) devices
 store-devices None devices = refl
 store-devices (Some s) devices = refl
 
@@ -117,7 +118,7 @@ step-leaves p devices e = step-leaves_by p.stop p.hold p devices e
 made_by-reads_none : (op : Op) (p : PlainState) (address : ℕ) → read_of_wish (made_by op p address) ≡ None
 made_by-reads_none Sto p address = by_store (store_to p (operand_place p address))
   where
-    by_store : (s : Option Store) → read_of_wish (store_wish s) ≡ None
+    by_store : (s : Option Placed) → read_of_wish (store_wish s) ≡ None
     by_store None = refl
     by_store (Some s) = refl
 made_by-reads_none Pio p address = by_port (a9 address) (address % 2 ^ 8) p.a
@@ -134,7 +135,7 @@ made-reads_none None (suc hold) p = refl
 made-reads_none (Some s) hold p = refl
 
 -- the store that is wanted
-abbrev pub store_of_wish : Wanted → Option Store
+abbrev pub store_of_wish : Wanted → Option Placed
 store_of_wish (wanted.Store at w) = Some (record { at = at; word = w })
 store_of_wish _ = None
 
@@ -142,7 +143,7 @@ store_of_wish _ = None
 made_by-store : (op : Op) (p : PlainState) (address : ℕ) → store_of p op address ≡ store_of_wish (made_by op p address)
 made_by-store Sto p address = by_store (store_to p (operand_place p address))
   where
-    by_store : (s : Option Store) → s ≡ store_of_wish (store_wish s)
+    by_store : (s : Option Placed) → s ≡ store_of_wish (store_wish s)
     by_store None = refl
     by_store (Some s) = refl
 made_by-store Pio p address = by_port (a9 address) (address % 2 ^ 8) p.a
@@ -164,7 +165,7 @@ made_by-words : DeviceWords → (op : Op) (p : PlainState) (address : ℕ) (devi
     → HoldWords (devices_after (made_by op p address) devices)
 made_by-words law Sto p address devices small h = by_store (store_to p (operand_place p address))
   where
-    by_store : (s : Option Store) → HoldWords (devices_after (store_wish s) devices)
+    by_store : (s : Option Placed) → HoldWords (devices_after (store_wish s) devices)
     by_store None = h
     by_store (Some s) = h
 made_by-words law Pio p address devices small h = by_port (a9 address)

@@ -6,10 +6,11 @@ use Rattle.lvdc_word.specs.Cell.{code_of}
 use Rattle.lvdc_map.specs.Address.{Spot, is_same}
 use Rattle.lvdc_map.specs.Banks.{holds}
 use Rattle.lvdc_map.specs.Memory as memory
+use Rattle.lvdc_map.specs.declared.placed.Placed.{Placed}
 use Rattle.lvdc_modules.specs.declared.wanted.Wanted.{Wanted}
 use Rattle.lvdc_modules.specs.declared.wanted.Wanted.TheVariants as wanted
 use Rattle.lvdc_plain.specs.Table.{fetched_instr}
-use Rattle.lvdc_plain.specs.Accesses.{Store, store, accessed, store_of}
+use Rattle.lvdc_plain.specs.Accesses.{store, accessed, store_of}
 use Rattle.lvdc_plain.specs.Plain.{PlainState, World}
 use Rattle.lvdc_plain.specs.Run.{Opening, plugged, time_by, run}
 use Rattle.lvdc_plain.specs.declared.records.Stop.{Stop}
@@ -38,7 +39,7 @@ without_events o = record { opening = o; script = [] }
 -- ---- the memory of the plain run, by its stores
 
 -- the memory after a store, where there is one
-abbrev after_stores : Option Store → memory.Memory → memory.Memory
+abbrev after_stores : Option Placed → memory.Memory → memory.Memory
 after_stores None m = m
 after_stores (Some s) m = memory.stored m s.at s.word
 
@@ -60,7 +61,7 @@ time-memory law None o w e =
     (law p (plugged o.unplugs p.times w.devices) e).memory
     ∙ ap (λ (stop : Option Stop). memory_after (made stop p.hold p) p.memory) e
     ∙ wish-memory (made None p.hold p) p.memory
-    ∙ ap (λ (s : Option Store). after_stores s p.memory) (sym (made-store None p.hold p))
+    ∙ ap (λ (s : Option Placed). after_stores s p.memory) (sym (made-store None p.hold p))
 
 next-memory : PortLaw → (o : Opening) (k : ℕ) → (run o (suc k)).plain.memory ≡ after_stores (store (run o k).plain) (run o k).plain.memory
 next-memory law o k = time-memory law (run o k).plain.stop o (run o k) refl
@@ -73,7 +74,7 @@ mended-plain true cell code e = refl
 mended-plain false cell code e = e
 
 -- a store writes the code of the plain run's word
-store-plain : (o : Opening) (n twin : ℕ) (at : Spot) → holds o.banks twin at ≡ true → (s : Option Store) (m : memory.Memory) (cell : ℕ) → cell ≡ code_of (memory.word_at m at)
+store-plain : (o : Opening) (n twin : ℕ) (at : Spot) → holds o.banks twin at ≡ true → (s : Option Placed) (m : memory.Memory) (cell : ℕ) → cell ≡ code_of (memory.word_at m at)
     → overwritten (without_events o) n twin at s cell ≡ code_of (memory.word_at (after_stores s m) at)
 store-plain o n twin at held None m cell e = e
 store-plain o n twin at held (Some s) m cell e = rw held (by_place (is_same at s.at))

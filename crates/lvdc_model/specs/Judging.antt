@@ -1,7 +1,6 @@
 -- Which words can be recovered, which steps are admissible, and the first step that is not: by script and plain run alone.
-use Rattle.std.specs.Prelude.{ℕ, zero, suc, ◌*◌, Bool, true, if◌then◌else◌, is_none}
+use Rattle.std.specs.Prelude.{ℕ, zero, suc, ◌*◌, Bool, true, if◌then◌else◌, is_none, unwrap_or, option_map}
 use Rattle.std.specs.declared.option.Option.{Option}
-use Rattle.std.specs.declared.option.Option.TheVariants.{None, Some}
 use Rattle.lvdc_map.specs.Address.{Spot}
 use Rattle.lvdc_map.specs.Banks.{home}
 use Rattle.lvdc_fault.specs.Damage.{shown_of}
@@ -16,19 +15,11 @@ use Rattle.lvdc_model.specs.CellsBefore.{cell_before, shown_at}
 abbrev pub is_recoverable : Trial → ℕ → Spot → Bool
 is_recoverable o step at = is_recovered o.opening.banks at ((plain_in o step).memory at) (λ twin. shown_at o twin at step)
 
--- what is said of the address that is read
-abbrev pub judged_memory : Trial → ℕ → Option Spot → Verdict
-judged_memory o step None = Admissible
-judged_memory o step (Some at) = if is_recoverable o step at then Admissible else Memory step at
-
--- a module with two wrong copies comes first
-abbrev pub judged_logic : Trial → ℕ → Option ℕ → Verdict
-judged_logic o step (Some m) = Logic step m
-judged_logic o step None = judged_memory o step (read_at o step)
-
 -- a step's verdict: the lowest module with two wrong copies, else the address that is read and can't be recovered
 abbrev pub judged : Trial → ℕ → Verdict
-judged o step = judged_logic o step (wrong_module o.script step)
+judged o step =
+    let memory = unwrap_or (option_map (λ at. if is_recoverable o step at then Admissible else Memory step at) (read_at o step)) Admissible in
+    unwrap_or (option_map (Logic step) (wrong_module o.script step)) memory
 
 -- the first of two verdicts that isn't admissible
 abbrev pub or_else : Verdict → Verdict → Verdict
@@ -52,6 +43,14 @@ is_recoverable_after o (suc step) at =
     (λ twin. shown_of o.script step twin (home at) (cell_before o twin at (suc step)))
 
 -- ---- for the laws
+
+-- what is said of the address that is read
+abbrev pub judged_memory : Trial → ℕ → Option Spot → Verdict
+judged_memory o step asked = unwrap_or (option_map (λ at. if is_recoverable o step at then Admissible else Memory step at) asked) Admissible
+
+-- a module with two wrong copies comes first
+abbrev pub judged_logic : Trial → ℕ → Option ℕ → Verdict
+judged_logic o step wrong = unwrap_or (option_map (Logic step) wrong) (judged_memory o step (read_at o step))
 
 -- a step is begun where the plain run has not stopped before it
 abbrev pub is_begun : Trial → ℕ → Bool

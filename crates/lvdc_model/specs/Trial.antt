@@ -1,8 +1,9 @@
 -- A trial: an opening, and the script of faults under which the voted machine runs it.
-use Rattle.std.specs.Prelude.{ℕ, zero, suc, ◌/◌, ◌%◌, ◌==◌, if◌then◌else◌, List}
+use Rattle.std.specs.Prelude.{ℕ, ◌/◌, ◌%◌, ◌==◌, if◌then◌else◌, List, [], ◌∷◌, slice_index_or}
 use Rattle.std.specs.declared.option.Option.{Option}
 use Rattle.std.specs.declared.option.Option.TheVariants.{None}
 use Rattle.lvdc_map.specs.Address.{Spot}
+use Rattle.lvdc_map.specs.declared.placed.Placed.{Placed}
 use Rattle.lvdc_port.specs.Device.{Device}
 use Rattle.lvdc_plain.specs.Accesses as accesses
 use Rattle.lvdc_plain.specs.Plain.{PlainState}
@@ -35,21 +36,20 @@ devices_left unplugs step devices = if step % 3 == 0 then plugged_at unplugs ste
 abbrev pub plugged_in : Trial → ℕ → List Device
 plugged_in o step = plugged o.opening.unplugs (step / 3) (run o.opening (step / 3)).devices
 
+-- what the plain run reads of memory in a step: in the first of a time the instruction, in the second the operand
+abbrev pub read_at : Trial → ℕ → Option Spot
+read_at o step = let p = plain_in o step in slice_index_or (accesses.fetched p ∷ accesses.operand p ∷ []) (step % 3) None
+
+-- what it stores in a step: nothing in the first two of a time
+abbrev pub store_at : Trial → ℕ → Option Placed
+store_at o step = slice_index_or (None ∷ None ∷ []) (step % 3) (accesses.store (plain_in o step))
+
+-- ---- for the laws
+
 -- what a plain state reads of memory in a phase of the time that it begins: in A the instruction, in B the operand
 abbrev pub read_in_phase : ℕ → PlainState → Option Spot
-read_in_phase zero p = accesses.fetched p
-read_in_phase (suc zero) p = accesses.operand p
-read_in_phase (suc (suc n)) p = None
-
--- what the plain run reads of memory in a step
-abbrev pub read_at : Trial → ℕ → Option Spot
-read_at o step = read_in_phase (step % 3) (plain_in o step)
+read_in_phase phase p = slice_index_or (accesses.fetched p ∷ accesses.operand p ∷ []) phase None
 
 -- what it stores in a phase: only C stores
-abbrev pub store_in_phase : ℕ → PlainState → Option accesses.Store
-store_in_phase (suc (suc n)) p = accesses.store p
-store_in_phase _ p = None
-
--- what it stores in a step
-abbrev pub store_at : Trial → ℕ → Option accesses.Store
-store_at o step = store_in_phase (step % 3) (plain_in o step)
+abbrev pub store_in_phase : ℕ → PlainState → Option Placed
+store_in_phase phase p = slice_index_or (None ∷ None ∷ []) phase (accesses.store p)

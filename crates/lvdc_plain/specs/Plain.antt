@@ -26,19 +26,7 @@ pub record PlainState : Type 0 where
 -- at the start: the place of the start constant, registers of 0, and nothing pending
 abbrev pub started : ℕ → HopConstant → memory.Memory → PlainState
 started banks start words =
-    record {
-      banks = banks;
-      place = start;
-      a = 0;
-      pq = 0;
-      saver = 0;
-      pending = None;
-      hold = 0;
-      memory = words;
-      log = [];
-      times = 0;
-      stop = None;
-    }
+    record { banks = banks; place = start; a = 0; pq = 0; saver = 0; pending = None; hold = 0; memory = words; log = []; times = 0; stop = None }
 
 -- the machine and the devices at its ports
 pub record World : Type 0 where

@@ -1,7 +1,6 @@
 -- The plain run: instruction times one after another, from an opening.
-use Rattle.std.specs.Prelude.{ℕ, zero, suc, ◌==◌, ◌<◌, ◌^◌, if◌then◌else◌, List, [], ◌∷◌, All}
+use Rattle.std.specs.Prelude.{ℕ, zero, suc, ◌==◌, ◌<◌, ◌^◌, if◌then◌else◌, List, fold, All, is_some}
 use Rattle.std.specs.declared.option.Option.{Option}
-use Rattle.std.specs.declared.option.Option.TheVariants.{None, Some}
 use Rattle.lvdc_map.specs.Hop.{HopConstant, IsHopConstant}
 use Rattle.lvdc_map.specs.Memory as memory
 use Rattle.lvdc_map.specs.declared.placed.Placed.{Placed}
@@ -28,22 +27,15 @@ pub record IsOpening (o : Opening) : Type 0 where
 
 -- the devices that are left when a time begins: each line of this time takes its device away
 abbrev pub left_at : {B : Type 0} → (B → Device) → List Unplug → ℕ → List B → List B
-left_at device_of [] time devices = devices
-left_at device_of (line ∷ lines) time devices =
-    left_at device_of lines time (if line.time == time then without device_of line.port devices else devices)
+left_at device_of lines time devices = fold (λ now line. if line.time == time then without device_of line.port now else now) devices lines
 
 -- the same of plain devices
 abbrev pub plugged : List Unplug → ℕ → List Device → List Device
 plugged unplugs time devices = left_at (λ device. device) unplugs time devices
 
--- one time of a run: devices are taken away first; a stopped machine stays
-abbrev pub time_by : Option Stop → List Unplug → World → World
-time_by (Some s) unplugs w = w
-time_by None unplugs w = step w.plain (plugged unplugs w.plain.times w.devices)
-
--- one time of a run, of a plain state and its devices
+-- one time of a run: a stopped machine stays with its devices; else devices are taken away first
 abbrev pub time : List Unplug → World → World
-time unplugs w = time_by w.plain.stop unplugs w
+time unplugs w = if is_some w.plain.stop then w else step w.plain (plugged unplugs w.plain.times w.devices)
 
 -- that many times from here, or fewer where it stops
 abbrev pub run_from : List Unplug → ℕ → World → World
@@ -53,3 +45,9 @@ run_from unplugs (suc n) w = time unplugs (run_from unplugs n w)
 -- the world after so many times of the plain run
 abbrev pub run : Opening → ℕ → World
 run o n = run_from o.unplugs n (record { plain = started o.banks o.start (memory.memory_of o.image); devices = o.devices })
+
+-- ---- for the laws
+
+-- one time of a run, by why the machine stopped before it
+abbrev pub time_by : Option Stop → List Unplug → World → World
+time_by stop unplugs w = if is_some stop then w else step w.plain (plugged unplugs w.plain.times w.devices)

@@ -1,10 +1,10 @@
 -- The instruction table, and one instruction time.
-use Rattle.std.specs.Prelude.{ℕ, zero, suc, ◌+◌, ◌-◌, ◌%◌, ◌^◌, Bool, true, false, ◌==◌, ◌&&◌, if◌then◌else◌, List, [], ◌∷◌, ◌++◌, bit_and, bit_xor}
+use Rattle.std.specs.Prelude.{ℕ, zero, suc, ◌+◌, ◌-◌, ◌%◌, ◌^◌, Bool, true, false, ◌==◌, ◌&&◌, if◌then◌else◌, List, [], ◌∷◌, ◌++◌, unwrap_or, option_map, bit_and, bit_xor}
 use Rattle.std.specs.declared.option.Option.{Option}
 use Rattle.std.specs.declared.option.Option.TheVariants.{None, Some}
 use Rattle.lvdc_word.specs.Word.{sum, difference}
 use Rattle.lvdc_word.specs.Results.{product, quotient}
-use Rattle.lvdc_map.specs.Hop.{HopConstant, hop_of, word_of_hop, after, fetch_of, syllable_at, bit}
+use Rattle.lvdc_map.specs.Hop.{hop_of, word_of_hop, after, fetch_of, syllable_at, bit}
 use Rattle.lvdc_map.specs.Memory as memory
 use Rattle.lvdc_map.specs.Place.{place_of, a9, low_bits, jumped, with_data}
 use Rattle.lvdc_map.specs.declared.place.Place.{Place}
@@ -30,10 +30,6 @@ use Rattle.lvdc_plain.specs.Plain.{PlainState, World}
 abbrev pub fetched_instr : PlainState → Instr
 fetched_instr p = instr (syllable_at p.place (p.memory (fetch_of p.banks p.place)))
 
--- the place that an operand address names
-abbrev pub operand_place : PlainState → ℕ → Place
-operand_place p address = place_of p.banks p.place address
-
 -- the word at a place; a word of the saver, one of the two at which STO keeps it, is read as memory
 abbrev pub word_of_place : PlainState → Place → ℕ
 word_of_place p (Memory at) = p.memory at
@@ -47,18 +43,16 @@ request_by _ p address = None
 
 -- the word that the ports answer
 abbrev pub answered : Option PortRequest → ℕ → List Device → ℕ
-answered None time devices = 0
-answered (Some request) time devices = exchange_word request time devices
+answered asked time devices = unwrap_or (option_map (λ request. exchange_word request time devices) asked) 0
 
 -- the devices after what was asked of the ports
 abbrev pub exchanged : Option PortRequest → List Device → List Device
-exchanged None devices = devices
-exchanged (Some request) devices = after_exchange request devices
+exchanged asked devices = unwrap_or (option_map (λ request. after_exchange request devices) asked) devices
 
 -- the word that an instruction takes: of its operand place where it has an operand, else of the ports, with the time modulo 2 ^ 26
 abbrev pub word_taken : Instr → PlainState → List Device → ℕ
 word_taken i p devices =
-    if takes_operand i.op then word_of_place p (operand_place p i.address)
+    if takes_operand i.op then word_of_place p (place_of p.banks p.place i.address)
     else answered (request_by i.op p i.address) (p.times % 2 ^ 26) devices
 
 -- ---- the rows of the table: from the state, the address and the word taken, the state that the instruction leaves
@@ -94,7 +88,7 @@ effect Add p address m = takes p (sum p.a m)
 effect Tra p address m = transfers p address
 effect Xor p address m = takes p (bit_xor p.a m)
 effect Pio p address m = if a9 address then takes p m else goes_on p
-effect Sto p address m = stores p (operand_place p address)
+effect Sto p address m = stores p (place_of p.banks p.place address)
 effect Tmi p address m = if bit p.a 25 then transfers p address else goes_on p
 effect Rsu p address m = takes p (difference m p.a)
 effect Cds p address m = record p { place = with_data (after p.place) address }
@@ -127,7 +121,7 @@ is_pq _ = false
 
 -- PQ after an instruction made from p, where the landing left it pq
 abbrev pub pq_after : Op → PlainState → ℕ → ℕ → ℕ
-pq_after Sto p address pq = if is_pq (operand_place p address) then p.a else pq
+pq_after Sto p address pq = if is_pq (place_of p.banks p.place address) then p.a else pq
 pq_after _ p address pq = pq
 
 -- what is pending after an instruction made from p, where the landing left r: a new result takes its place, a store to PQ cancels it
@@ -135,7 +129,7 @@ abbrev pub pending_after : Op → PlainState → ℕ → ℕ → Option Pending 
 pending_after Mpy p address m r = Some (record { left = 4; result = product p.a m; to_a = false })
 pending_after Mph p address m r = Some (record { left = 4; result = product p.a m; to_a = true })
 pending_after Div p address m r = Some (record { left = 8; result = quotient p.a m; to_a = false })
-pending_after Sto p address m r = if is_pq (operand_place p address) then None else r
+pending_after Sto p address m r = if is_pq (place_of p.banks p.place address) then None else r
 pending_after _ p address m r = r
 
 -- the log with the port exchange of an instruction
@@ -164,8 +158,7 @@ waits hold p =
 
 -- an instruction is made with the devices there
 abbrev pub executes : Instr → PlainState → List Device → World
-executes i p devices =
-    record { plain = makes i p (word_taken i p devices); devices = exchanged (request_by i.op p i.address) devices }
+executes i p devices = record { plain = makes i p (word_taken i p devices); devices = exchanged (request_by i.op p i.address) devices }
 
 -- by stop and hold: a stopped machine stays, a held one waits
 abbrev pub step_by : Option Stop → ℕ → PlainState → List Device → World
@@ -178,6 +171,10 @@ abbrev pub step : PlainState → List Device → World
 step p devices = step_by p.stop p.hold p devices
 
 -- ---- for the laws
+
+-- the place that an operand address names in a state
+abbrev pub operand_place : PlainState → ℕ → Place
+operand_place p address = place_of p.banks p.place address
 
 -- the time as a device is told it
 abbrev pub device_time : PlainState → ℕ

@@ -2,10 +2,10 @@
 use Rattle.std.proofs.Common.{◌≡◌, ℕ, zero, suc, ◌+◌, ◌-◌, ◌*◌, ◌/◌, ◌%◌, ◌≤◌, List, refl, sym, ap, ◌∙◌, subst, arith}
 use Rattle.std.specs.declared.option.Option.{Option}
 use Rattle.std.specs.declared.option.Option.TheVariants.{None, Some}
+use Rattle.lvdc_map.specs.declared.placed.Placed.{Placed}
 use Rattle.lvdc_port.specs.Device.{Device}
 use Rattle.lvdc_port.specs.declared.requests.PortRequest.{PortRequest}
 use Rattle.lvdc_port.specs.declared.requests.PortRequest.TheVariants.{Read, Write}
-use Rattle.lvdc_plain.specs.Accesses.{Store}
 use Rattle.lvdc_plain.specs.Plain.{PlainState, World}
 use Rattle.lvdc_plain.specs.Run.{Opening, run, IsOpening}
 use Rattle.lvdc_plain.specs.Stands as plain
@@ -33,7 +33,7 @@ use Rattle.lvdc_study.specs.declared.fault.Unstudied.TheVariants.{NoMemory, Devi
 
 -- ---- what the plain run asks of a port the voted one wishes
 
-wish-names : (r : Option PortRequest) (s : Option Store) (port : ℕ) → plain.Names r port → NamesPort (exchange_wish r s) port
+wish-names : (r : Option PortRequest) (s : Option Placed) (port : ℕ) → plain.Names r port → NamesPort (exchange_wish r s) port
 wish-names (Some (Read named)) s port asked = asked
 wish-names (Some (Write named word)) s port asked = asked
 wish-names None s port asked = absurd asked

@@ -8,6 +8,7 @@ use Rattle.lvdc_word.specs.Cell.{code_of}
 use Rattle.lvdc_map.specs.Address.{Spot}
 use Rattle.lvdc_map.specs.Banks.{is_simplex, home}
 use Rattle.lvdc_map.specs.Memory.{word_at}
+use Rattle.lvdc_map.specs.declared.placed.Placed.{Placed}
 use Rattle.lvdc_isa.specs.declared.op.Op.{Op}
 use Rattle.lvdc_isa.specs.declared.op.Op.TheVariants.{Sto}
 use Rattle.lvdc_port.specs.declared.requests.PortRequest.{PortRequest}
@@ -18,7 +19,7 @@ use Rattle.lvdc_twin.specs.declared.both_bad.BothBad.{BothBad}
 use Rattle.lvdc_twin.specs.declared.read_out.ReadOut.{ReadOut}
 use Rattle.lvdc_modules.specs.declared.wanted.Wanted.{Wanted}
 use Rattle.lvdc_modules.specs.declared.wanted.Wanted.TheVariants.{Nothing, Fetch, Operand, Store as Stores, PortRead, PortWrite}
-use Rattle.lvdc_plain.specs.Accesses.{Store, fetched, operand, store, store_of, accessed}
+use Rattle.lvdc_plain.specs.Accesses.{fetched, operand, store, store_of, accessed}
 use Rattle.lvdc_plain.specs.Plain.{PlainState}
 use Rattle.lvdc_plain.specs.Table.{fetched_instr, request_by}
 use Rattle.lvdc_plain.specs.declared.records.Stop.{Stop}
@@ -185,7 +186,7 @@ module _ (o : Trial) (law : PlainLaws o) where
       read-told (codes "OPERAND") Operand p b at (read_answer o b.steps b.twins at) made (λ word. refl) (λ r out. word-beside b p at r h found_is out) made_is
 
   -- a port exchange or a store
-  third-told : (r : Option PortRequest) (s : Option Store) (b : Voted) (made : Made) → ((request : PortRequest) → r ≡ Some request → s ≡ None)
+  third-told : (r : Option PortRequest) (s : Option Placed) (b : Voted) (made : Made) → ((request : PortRequest) → r ≡ Some request → s ≡ None)
       → exchange_made o b (exchange_wish r s) ≡ Some made → memory_part made.wanted made.word ≡ store_line s
   third-told (Some (Read port)) s b made apart is = let none = apart (Read port) refl in rw none (part-of (PortRead port) _ made is)
   third-told (Some (Write port word)) s b made apart is = let none = apart (Write port word) refl in rw none (part-of (PortWrite port word) 0 made is)

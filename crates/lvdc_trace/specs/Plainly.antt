@@ -4,9 +4,10 @@ use Rattle.std.specs.declared.option.Option.{Option}
 use Rattle.std.specs.declared.option.Option.TheVariants.{None, Some}
 use Rattle.lvdc_map.specs.Address.{Spot}
 use Rattle.lvdc_map.specs.Memory.{word_at}
+use Rattle.lvdc_map.specs.declared.placed.Placed.{Placed}
 use Rattle.lvdc_modules.specs.declared.wanted.Wanted.{Wanted}
 use Rattle.lvdc_modules.specs.declared.wanted.Wanted.TheVariants.{PortRead, PortWrite}
-use Rattle.lvdc_plain.specs.Accesses.{Store, fetched, operand, store}
+use Rattle.lvdc_plain.specs.Accesses.{fetched, operand, store}
 use Rattle.lvdc_plain.specs.Plain.{PlainState}
 use Rattle.lvdc_model.specs.Trial.{Trial, plain_at, plain_in}
 use Rattle.lvdc_machine.specs.Made.{made_next}
@@ -23,7 +24,7 @@ read_line name p None = []
 read_line name p (Some at) = access_line name at (word_at p.memory at)
 
 -- the line of a store of the plain run, where there is one
-abbrev pub store_line : Option Store → List ℕ
+abbrev pub store_line : Option Placed → List ℕ
 store_line None = []
 store_line (Some s) = access_line (codes "STORE") s.at s.word
 

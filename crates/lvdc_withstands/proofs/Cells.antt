@@ -7,10 +7,10 @@ use Rattle.std.proofs.lemmas.Bool.{true≢false, eq-eqb, or_left, or_right, not_
 use Rattle.lvdc_word.specs.Cell.{code_of, is_good, with_stuck}
 use Rattle.lvdc_map.specs.Address.{Spot, is_same}
 use Rattle.lvdc_map.specs.Banks.{home, holds}
+use Rattle.lvdc_map.specs.declared.placed.Placed.{Placed}
 use Rattle.lvdc_twin.specs.declared.stuck.Stuck.{Stuck}
 use Rattle.lvdc_twin.specs.Store.{nothing, survives}
 use Rattle.lvdc_fault.specs.Damage.{is_dead, stuck_beside}
-use Rattle.lvdc_plain.specs.Accesses.{Store}
 use Rattle.lvdc_model.specs.Trial.{Trial}
 use Rattle.lvdc_model.specs.CellsBefore.{overwritten}
 use Rattle.lvdc_model.proofs.Stuck.{nothing-stuck}
@@ -21,17 +21,17 @@ use Rattle.lvdc_withstands.proofs.Seen.{stuck-seen}
 -- ---- a store
 
 -- the word at an address after a store, where there is one
-abbrev pub word_after : Option Store → Spot → ℕ → ℕ
+abbrev pub word_after : Option Placed → Spot → ℕ → ℕ
 word_after None at w = w
 word_after (Some s) at w = cond (is_same at s.at) s.word w
 
 -- the cell of a twin that holds the address and is alive, after a store: the code of the word, or what it was
-pub record Stored (o : Trial) (now twin w before : ℕ) (at : Spot) (s : Option Store) : Type 0 where
+pub record Stored (o : Trial) (now twin w before : ℕ) (at : Spot) (s : Option Placed) : Type 0 where
   pub to_it : stores_it s at ≡ true → overwritten o now twin at s before ≡ code_of (word_after s at w)
   pub cell : stores_it s at ≡ false → overwritten o now twin at s before ≡ before
   pub word : stores_it s at ≡ false → word_after s at w ≡ w
 
-pub stored : (o : Trial) (now twin w cell : ℕ) (at : Spot) (s : Option Store) → holds o.opening.banks twin at ≡ true
+pub stored : (o : Trial) (now twin w cell : ℕ) (at : Spot) (s : Option Placed) → holds o.opening.banks twin at ≡ true
     → is_dead o.script now twin (home at).pair ≡ false → Stored o now twin w cell at s
 stored o now twin w cell at None held alive = record { to_it = λ h. absurd (true≢false (sym h)); cell = λ h. refl; word = λ h. refl }
 stored o now twin w cell at (Some s) held alive =

@@ -7,16 +7,16 @@ use Rattle.lvdc_map.specs.Address.{Spot}
 use Rattle.lvdc_map.specs.Banks.{HasBank}
 use Rattle.lvdc_map.specs.Hop.{HopConstant, IsHopConstant, fetch_of}
 use Rattle.lvdc_map.specs.Memory as memory
-use Rattle.lvdc_map.specs.Place.{operand_kind, data_spot, place_at}
-use Rattle.lvdc_map.specs.declared.operand.OperandKind.{OperandKind}
-use Rattle.lvdc_map.specs.declared.operand.OperandKind.TheVariants as kinds
+use Rattle.lvdc_map.specs.Place.{data_spot}
+use Rattle.lvdc_map.specs.declared.place.Place.TheVariants as places
+use Rattle.lvdc_map.specs.declared.placed.Placed.{Placed}
 use Rattle.lvdc_isa.specs.Instr.{takes_operand}
 use Rattle.lvdc_port.specs.Device.{Device}
 use Rattle.lvdc_port.specs.Devices.{without, HoldWords}
 use Rattle.lvdc_port.specs.declared.requests.PortRequest.TheVariants.{Read}
 use Rattle.lvdc_modules.specs.declared.wanted.Wanted.{Wanted}
 use Rattle.lvdc_modules.specs.declared.wanted.Wanted.TheVariants as wanted
-use Rattle.lvdc_plain.specs.Accesses.{Store, store, address_of_place, accessed, operand_of, store_of}
+use Rattle.lvdc_plain.specs.Accesses.{store, address_of_place, accessed, operand_of, store_of}
 use Rattle.lvdc_plain.specs.Plain.{PlainState, World}
 use Rattle.lvdc_plain.specs.Run.{Opening, plugged, time_by, run}
 use Rattle.lvdc_plain.specs.Table.{fetched_instr, operand_place, device_time, step}
@@ -72,11 +72,11 @@ abbrev pub HasBanks : ℕ → Option Spot → Type 0
 HasBanks banks None = Unit {0}
 HasBanks banks (Some at) = HasBank banks at
 
-place-bank : BankLaw → (banks : ℕ) (h : HopConstant) (address : ℕ) → IsHopConstant h → (kind : OperandKind)
-    → HasBanks banks (address_of_place (place_at kind (data_spot banks h address)))
-place-bank law banks h address ok kinds.Memory = law banks h.dmod (data_spot banks h address) ok.dmod refl
-place-bank law banks h address ok kinds.Pq = tt
-place-bank law banks h address ok kinds.Saver = law banks h.dmod (data_spot banks h address) ok.dmod refl
+place-bank : BankLaw → (banks : ℕ) (h : HopConstant) (address : ℕ) → IsHopConstant h → (pq saver : Bool)
+    → HasBanks banks (address_of_place (cond pq places.Pq (cond saver (places.Saver (data_spot banks h address)) (places.Memory (data_spot banks h address)))))
+place-bank law banks h address ok true saver = tt
+place-bank law banks h address ok false true = law banks h.dmod (data_spot banks h address) ok.dmod refl
+place-bank law banks h address ok false false = law banks h.dmod (data_spot banks h address) ok.dmod refl
 
 fetch-bank : BankLaw → (stop : Option Stop) (hold : ℕ) (p : PlainState) → IsHopConstant p.place → HasBanks p.banks (accessed stop hold (Some (fetch_of p.banks p.place)))
 fetch-bank law None zero p ok = law p.banks p.place.imod _ ok.imod refl
@@ -90,7 +90,7 @@ operand-bank law None zero p ok = by_takes (takes_operand (fetched_instr p).op)
     address = (fetched_instr p).address
 
     by_takes : (b : Bool) → HasBanks p.banks (cond b (address_of_place (operand_place p address)) None)
-    by_takes true = place-bank law p.banks p.place address ok (operand_kind address)
+    by_takes true = place-bank law p.banks p.place address ok _ _
     by_takes false = tt
 operand-bank law None (suc hold) p ok = tt
 operand-bank law (Some s) hold p ok = tt
@@ -107,7 +107,7 @@ read-bank ports law o n h =
 -- ---- the memory, by its stores
 
 -- the memory after a store, where there is one
-abbrev stored_by : Option Store → memory.Memory → memory.Memory
+abbrev stored_by : Option Placed → memory.Memory → memory.Memory
 stored_by None m = m
 stored_by (Some s) m = memory.stored m s.at s.word
 
@@ -127,9 +127,9 @@ time-memory law None o w e =
     (law p (plugged o.unplugs p.times w.devices) e).memory
     ∙ ap (λ (stop : Option Stop). memory_after (made stop p.hold p) p.memory) e
     ∙ wish-memory (made None p.hold p) p.memory
-    ∙ ap (λ (s : Option Store). stored_by s p.memory) (sym (made-store None p.hold p))
+    ∙ ap (λ (s : Option Placed). stored_by s p.memory) (sym (made-store None p.hold p))
 
-stored-word : (s : Option Store) (m : memory.Memory) (at : Spot) → memory.word_at (stored_by s m) at ≡ word_after s at (memory.word_at m at)
+stored-word : (s : Option Placed) (m : memory.Memory) (at : Spot) → memory.word_at (stored_by s m) at ≡ word_after s at (memory.word_at m at)
 stored-word None m at = refl
 stored-word (Some s) m at = refl
 

@@ -3,12 +3,12 @@ use Rattle.std.specs.Prelude.{ℕ, zero, suc, Bool, false, ◌&&◌, ◌||◌, n
 use Rattle.std.specs.declared.option.Option.{Option}
 use Rattle.std.specs.declared.option.Option.TheVariants.{None, Some}
 use Rattle.lvdc_map.specs.Address.{Spot, is_same}
-use Rattle.lvdc_plain.specs.Accesses.{Store}
+use Rattle.lvdc_map.specs.declared.placed.Placed.{Placed}
 use Rattle.lvdc_model.specs.Trial.{Trial, read_at, store_at}
 use Rattle.lvdc_model.specs.CellsBefore.{reads_it}
 
 -- does a store go to this address?
-abbrev pub stores_it : Option Store → Spot → Bool
+abbrev pub stores_it : Option Placed → Spot → Bool
 stores_it None at = false
 stores_it (Some s) at = is_same at s.at
 
