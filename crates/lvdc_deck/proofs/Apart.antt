@@ -12,7 +12,7 @@ use Rattle.lvdc_port.specs.Device.{Device}
 use Rattle.lvdc_deck.specs.declared.deck.Deck.{Deck}
 use Rattle.lvdc_deck.specs.declared.fault.DeckFault.{DeckFault}
 use Rattle.lvdc_deck.specs.declared.fault.DeckFault.TheVariants.{BadLine}
-use Rattle.lvdc_deck.specs.declared.program.Program.{Program}
+use Rattle.lvdc_deck.specs.declared.program.DeckProgram.{DeckProgram}
 use Rattle.lvdc_deck.specs.declared.section.Opening.{Opening}
 use Rattle.lvdc_deck.specs.declared.section.Opening.TheVariants as opening
 use Rattle.lvdc_deck.specs.declared.section.ProgramKind.{ProgramKind}
@@ -126,12 +126,12 @@ abbrev HasApart : Result Deck DeckFault → Type 0
 HasApart (Ok deck) = Apart deck.commands
 HasApart (Err fault) = Unit {0}
 
-by-start : (program : Program) (told : Told) (count : ℕ) (start : Result HopConstant DeckFault) → Apart told.commands
+by-start : (program : DeckProgram) (told : Told) (count : ℕ) (start : Result HopConstant DeckFault) → Apart told.commands
     → HasApart (and_then start (λ start. Ok (deck_with (image_in program) start told count)))
 by-start program told count (Ok start) apart = apart
 by-start program told count (Err fault) apart = tt
 
-by-program : (told : Told) (count : ℕ) (program : Result Program DeckFault) → Apart told.commands → HasApart (and_then program (λ program. made_of program told count))
+by-program : (told : Told) (count : ℕ) (program : Result DeckProgram DeckFault) → Apart told.commands → HasApart (and_then program (λ program. made_of program told count))
 by-program told count (Ok program) apart = by-start program told count (start_in program told.sections.start) apart
 by-program told count (Err fault) apart = tt
 

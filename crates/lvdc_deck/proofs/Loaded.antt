@@ -9,7 +9,7 @@ use Rattle.lvdc_asm.specs.Assembly.{Assembled, assembly_of}
 use Rattle.lvdc_asm.specs.declared.fault.AsmFault.{AsmFault}
 use Rattle.lvdc_deck.specs.declared.deck.Deck.{Deck}
 use Rattle.lvdc_deck.specs.declared.fault.DeckFault.{DeckFault}
-use Rattle.lvdc_deck.specs.declared.program.Program.TheVariants as programs
+use Rattle.lvdc_deck.specs.declared.program.DeckProgram.TheVariants as programs
 use Rattle.lvdc_deck.specs.declared.section.Opening.{Opening}
 use Rattle.lvdc_deck.specs.declared.section.Opening.TheVariants as opening
 use Rattle.lvdc_deck.specs.declared.section.ProgramKind.TheVariants as kinds

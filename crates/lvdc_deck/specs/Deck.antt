@@ -21,8 +21,8 @@ use Rattle.lvdc_deck.specs.declared.entry.EntryPoint.{EntryPoint}
 use Rattle.lvdc_deck.specs.declared.entry.EntryPoint.TheVariants.{Constant, Name}
 use Rattle.lvdc_deck.specs.declared.fault.DeckFault.{DeckFault}
 use Rattle.lvdc_deck.specs.declared.fault.DeckFault.TheVariants.{BadSection, BadLine, NoProgram, Image, Asm}
-use Rattle.lvdc_deck.specs.declared.program.Program.{Program}
-use Rattle.lvdc_deck.specs.declared.program.Program.TheVariants as programs
+use Rattle.lvdc_deck.specs.declared.program.DeckProgram.{DeckProgram}
+use Rattle.lvdc_deck.specs.declared.program.DeckProgram.TheVariants as programs
 use Rattle.lvdc_deck.specs.declared.section.Opening.{Opening}
 use Rattle.lvdc_deck.specs.declared.section.Opening.TheVariants as opening
 use Rattle.lvdc_deck.specs.declared.section.ProgramKind.{ProgramKind}
@@ -85,12 +85,12 @@ abbrev pub end_of : List ℕ → List Line → Option ℕ
 end_of bytes lines = place_of (codes "END") bytes lines
 
 -- the program of an image that was read
-abbrev pub by_image : Result Contents ImageFault → Result Program DeckFault
+abbrev pub by_image : Result Contents ImageFault → Result DeckProgram DeckFault
 by_image (Ok contents) = Ok (programs.Image contents)
 by_image (Err fault) = Err (Image fault)
 
 -- the same of an assembled source
-abbrev pub by_assembly : Result Assembled AsmFault → Result Program DeckFault
+abbrev pub by_assembly : Result Assembled AsmFault → Result DeckProgram DeckFault
 by_assembly (Ok assembled) = Ok (programs.Source assembled)
 by_assembly (Err fault) = Err (Asm fault)
 
@@ -104,12 +104,12 @@ abbrev pub after_program : List ℕ → List Line → List Line
 after_program bytes lines = lines_after lines (end_of bytes lines)
 
 -- the program that these lines are, by its kind
-abbrev pub program_of : ProgramKind → List ℕ → List Line → Result Program DeckFault
+abbrev pub program_of : ProgramKind → List ℕ → List Line → Result DeckProgram DeckFault
 program_of kinds.Image bytes text = by_image (image_of (numbered bytes text))
 program_of kinds.Source bytes text = by_assembly (assembly_of (numbered bytes text))
 
 -- its image: that of a source has its words alone, as version 1 has
-abbrev pub image_in : Program → Contents
+abbrev pub image_in : DeckProgram → Contents
 image_in (programs.Image contents) = contents
 image_in (programs.Source assembled) = record { words = assembled.words; start = None; banks = 0 }
 
@@ -122,14 +122,14 @@ constant_by number true None = Err (Asm (OutOfSector number))
 constant_by number false None = Err (Asm (UndefinedName number))
 
 -- the constant of a name; an image has none
-abbrev pub constant_of : Program → ℕ → List ℕ → Result HopConstant DeckFault
+abbrev pub constant_of : DeckProgram → ℕ → List ℕ → Result HopConstant DeckFault
 constant_of (programs.Image contents) number name = Err (Asm (UndefinedName number))
 constant_of (programs.Source assembled) number name =
     constant_by number (is_some (definition_of assembled.plan.names name)) (start_of assembled.plan name)
 
 -- where the run starts: where START says, else where the image says, else at place 0/0/0/0 with data module 0 and sector 1,
 -- and both DUP bits
-abbrev pub start_in : Program → Option EntryPoint → Result HopConstant DeckFault
+abbrev pub start_in : DeckProgram → Option EntryPoint → Result HopConstant DeckFault
 start_in program None = Ok (unwrap_or (image_in program).start (hop_of 0o16))
 start_in program (Some (Constant start)) = Ok start
 start_in program (Some (Name number name)) = constant_of program number name
@@ -154,7 +154,7 @@ deck_with contents start told count =
     }
 
 -- the deck of a program and of what the sections told, where START names a line of code or a constant
-abbrev pub made_of : Program → Told → ℕ → Result Deck DeckFault
+abbrev pub made_of : DeckProgram → Told → ℕ → Result Deck DeckFault
 made_of program told count = and_then (start_in program told.sections.start) (λ start. Ok (deck_with (image_in program) start told count))
 
 -- the program is read only where all sections were read and none is missing

@@ -16,49 +16,49 @@ use lvdc_text::Line;
 use lvdc_word::Word;
 use std::alloc::Global;
 
-/// A program that was read.
+/// The program of a deck, which was read.
 #[derive(Drop)]
-pub(crate) enum Program {
+pub(crate) enum DeckProgram {
     Image(Image),
     Source(Assembly),
 }
 
 /// Reads an image.
-fn read_words(alloc: Global, bytes: &[u8], text: &[Line]) -> Result<Program, DeckFault>
+fn read_words(alloc: Global, bytes: &[u8], text: &[Line]) -> Result<DeckProgram, DeckFault>
     requires size { length bytes.now < 2 ^ 32 - 1 }
     requires within { All (IsWithin bytes.now) text.now }
     ensures program { IfOk result (λ program. program_of kinds.Image bytes.now text.now ≡ Ok program) }
     ensures refusal { IfErr result (λ fault. fault ≢ WantsMemory → program_of kinds.Image bytes.now text.now ≡ Err fault) }
 {
     match read_image(alloc, bytes, text) {
-        Ok(image) => Ok(Program::Image(image)),
+        Ok(image) => Ok(DeckProgram::Image(image)),
         Err(ImageFault::NoMemory) => Err(DeckFault::NoMemory),
         Err(fault) => Err(DeckFault::Image(fault)),
     }
 }
 
 /// Assembles a source.
-fn read_source(alloc: Global, bytes: &[u8], text: &[Line]) -> Result<Program, DeckFault>
+fn read_source(alloc: Global, bytes: &[u8], text: &[Line]) -> Result<DeckProgram, DeckFault>
     requires size { length bytes.now < 2 ^ 32 - 1 }
     requires within { All (IsWithin bytes.now) text.now }
     ensures program { IfOk result (λ program. program_of kinds.Source bytes.now text.now ≡ Ok program) }
     ensures refusal { IfErr result (λ fault. fault ≢ WantsMemory → program_of kinds.Source bytes.now text.now ≡ Err fault) }
 {
     match assemble(alloc, bytes, text) {
-        Ok(assembly) => Ok(Program::Source(assembly)),
+        Ok(assembly) => Ok(DeckProgram::Source(assembly)),
         Err(AsmFault::NoMemory) => Err(DeckFault::NoMemory),
         Err(fault) => Err(DeckFault::Asm(fault)),
     }
 }
 
-impl Program {
+impl DeckProgram {
     /// Reads the program that these lines of the bytes are.
     pub(crate) fn read(
         alloc: Global,
         kind: ProgramKind,
         bytes: &[u8],
         text: &[Line],
-    ) -> Result<Program, DeckFault>
+    ) -> Result<DeckProgram, DeckFault>
         requires size { length bytes.now < 2 ^ 32 - 1 }
         requires within { All (IsWithin bytes.now) text.now }
         ensures program { IfOk result (λ program. program_of kind bytes.now text.now ≡ Ok program) }
@@ -74,7 +74,7 @@ impl Program {
     fn constant(&self, number: u32, name: &[u8]) -> Result<Hop, DeckFault>
         ensures { result ≡ constant_of self.now number name.now }
     {
-        let Program::Source(assembly) = self else {
+        let DeckProgram::Source(assembly) = self else {
             return Err(DeckFault::Asm(AsmFault::UndefinedName(number)));
         };
         match assembly.hop_of(name) {
@@ -100,8 +100,8 @@ impl Program {
         ensures { result ≡ unwrap_or (image_in self.now).start (hop_of 0o16) }
     {
         let said = match self {
-            Program::Image(image) => image.start(),
-            Program::Source(_) => None,
+            DeckProgram::Image(image) => image.start(),
+            DeckProgram::Source(_) => None,
         };
         said.unwrap_or(Hop::of(Word::within(0o16)))
     }
@@ -113,8 +113,8 @@ impl Program {
         ensures there { AllThere result.banks result.words }
     {
         match self {
-            Program::Image(image) => image,
-            Program::Source(assembly) => assembly.into_image(),
+            DeckProgram::Image(image) => image,
+            DeckProgram::Source(assembly) => assembly.into_image(),
         }
     }
 }

@@ -8,7 +8,7 @@ ghost use Rattle.lvdc_fault.specs.declared.TheConstants.{MOST_TIMES, MOST_EVENTS
 ghost use Rattle.lvdc_deck.specs.declared.fault.DeckFault.TheVariants.{NoMemory as WantsMemory};
 
 use crate::layout::{end_of, opening_of};
-use crate::program::Program;
+use crate::program::DeckProgram;
 use crate::said::Said;
 use crate::section::{Opening, ProgramKind};
 use crate::{Deck, DeckFault};
@@ -44,7 +44,7 @@ fn with_program(
         Ok(count) => count,
         Err(fault) => return Err(fault),
     };
-    match Program::read(alloc, kind, bytes, text) {
+    match DeckProgram::read(alloc, kind, bytes, text) {
         Ok(program) => said.into_deck(program, commands, count),
         Err(fault) => Err(fault),
     }

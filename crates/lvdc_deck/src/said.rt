@@ -13,7 +13,7 @@ use crate::commands::commands_in;
 use crate::entry::EntryPoint;
 use crate::fields::pairs_in;
 use crate::layout::section_of;
-use crate::program::Program;
+use crate::program::DeckProgram;
 use crate::section::{ProgramKind, Section};
 use crate::{Deck, DeckFault};
 use lvdc_fault::{MOST_EVENTS, MOST_TIMES, Script};
@@ -382,7 +382,7 @@ impl Said {
     /// The deck of these sections, of the program and of the commands.
     pub(crate) fn into_deck(
         self,
-        program: Program,
+        program: DeckProgram,
         commands: Vec<Line>,
         count: u64,
     ) -> Result<Deck, DeckFault>
