@@ -3,7 +3,7 @@
 ghost use Rattle.std.specs.Prelude.{◌≡◌, ◌<◌, ◌≤◌, ◌-◌, ◌^◌, ◌∷◌, List, length, take, All};
 ghost use Rattle.lvdc_text.specs.Lines.{lines_of, IsWithin};
 ghost use Rattle.lvdc_text.specs.declared.cutting.Line.{Line};
-ghost use Rattle.lvdc_deck.specs.Deck.{after_program};
+ghost use Rattle.lvdc_deck.specs.Deck.{end_of, after_program};
 ghost use Rattle.lvdc_campaign_deck.specs.Campaign.{is_campaign, from_campaign};
 
 use lvdc_text::{Line, is_alone, is_long, part};
@@ -38,6 +38,8 @@ pub(crate) fn before_campaign<'a>(bytes: &[u8], lines: &'a [Line], from: &[Line]
     ensures lines { (line : Line) (rest : List Line) → from.now ≡ line ∷ rest → result.now ≡ lines_of (take line.start bytes.now) }
     ensures within { (line : Line) (rest : List Line) → from.now ≡ line ∷ rest → All (IsWithin (take line.start bytes.now)) result.now }
     ensures few { (line : Line) (rest : List Line) → from.now ≡ line ∷ rest → length result.now ≤ length (take line.start bytes.now) }
+    // END stands before CAMPAIGN.
+    ensures end { (line : Line) (rest : List Line) → from.now ≡ line ∷ rest → end_of bytes.now lines.now ≡ end_of (take line.start bytes.now) result.now }
 {
     &lines[..lines.len() - from.len()]
 }

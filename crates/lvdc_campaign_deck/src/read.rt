@@ -10,7 +10,7 @@ use crate::layout::{before_campaign, from_campaign};
 use crate::program::read_program;
 use crate::scripts::read_scripts;
 use crate::{CampaignDeck, CampaignFault, MOST_CAMPAIGN_SCRIPTS};
-use lvdc_deck::{Deck, after_program};
+use lvdc_deck::{Deck, end_of, lines_after};
 use lvdc_fault::Named;
 use lvdc_port::PortDevice;
 use lvdc_text::lines;
@@ -58,11 +58,12 @@ pub fn read_campaign(
 {
     let found = lines(alloc, bytes)?;
     let next = found.len() as u32 + 1;
-    let from = from_campaign(bytes, after_program(bytes, &found));
+    let end = end_of(bytes, &found);
+    let from = from_campaign(bytes, lines_after(&found, end));
     let before = before_campaign(bytes, &found, from);
     match from {
         [line, rest @ ..] => {
-            let deck = match read_program(alloc, &bytes[..line.start], before, devices) {
+            let deck = match read_program(alloc, &bytes[..line.start], before, end, devices) {
                 Ok(deck) => deck,
                 Err(fault) => return Err(fault),
             };
@@ -71,7 +72,7 @@ pub fn read_campaign(
                 Err(fault) => Err(fault),
             }
         }
-        [] => match read_program(alloc, bytes, &found, devices) {
+        [] => match read_program(alloc, bytes, &found, end, devices) {
             Ok(_) => Err(CampaignFault::BadSection(next)),
             Err(fault) => Err(fault),
         },

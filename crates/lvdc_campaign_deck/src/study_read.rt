@@ -3,6 +3,7 @@ ghost use Rattle.lvdc_map.specs.Memory.{are_rising, AllThere};
 ghost use Rattle.lvdc_fault.specs.Events.{IsEvent};
 ghost use Rattle.lvdc_fault.specs.declared.TheConstants.{MOST_TIMES, MOST_EVENTS};
 ghost use Rattle.lvdc_text.specs.Lines.{lines_of, IsWithin};
+ghost use Rattle.lvdc_deck.specs.Deck.{end_of};
 ghost use Rattle.lvdc_campaign_deck.specs.declared.fault.CampaignFault.TheVariants.{NoMemory as WantsMemory};
 ghost use Rattle.lvdc_campaign_deck.specs.Scripts.{CanRun};
 ghost use Rattle.lvdc_campaign_deck.specs.declared.TheConstants.{MOST_STUDY_SCRIPTS, MOST_TIMES_IN_ALL};
@@ -13,18 +14,20 @@ use crate::study_layout::other_line;
 use crate::{
     CampaignFault, MOST_STUDY_SCRIPTS, MOST_TIMES_IN_ALL, StudyDeck, from_campaign, read_scripts,
 };
-use lvdc_deck::{Deck, after_program, read_deck_lines};
+use lvdc_deck::{Deck, end_of, lines_after, read_deck_lines};
 use lvdc_fault::Named;
 use lvdc_port::PortDevice;
 use lvdc_text::{Line, lines};
 use lvdc_word::Seq;
 use std::alloc::Global;
 
-/// Reads the deck before CAMPAIGN, which was cut into these lines, and of which `other` is the first line FAULTS or DEBUG.
+/// Reads the deck before CAMPAIGN, which was cut into these lines. The program's last is at `end`, and `other` is the first line
+/// FAULTS or DEBUG.
 fn read_program(
     alloc: Global,
     text: &[u8],
     lines: &[Line],
+    end: Option<usize>,
     devices: &Vec<Box<dyn PortDevice>>,
     other: Option<u32>,
 ) -> Result<Deck, CampaignFault>
@@ -32,6 +35,7 @@ fn read_program(
     requires lines { lines.now ≡ lines_of text.now }
     requires within { All (IsWithin text.now) lines.now }
     requires few { length lines.now ≤ length text.now }
+    requires end { end ≡ end_of text.now lines.now }
     ensures program { IfOk result (λ deck. program_of text.now (map device_of devices.now.items) other ≡ Ok deck) }
     ensures refusal { IfErr result (λ fault. fault ≢ WantsMemory →
         program_of text.now (map device_of devices.now.items) other ≡ Err fault) }
@@ -41,7 +45,7 @@ fn read_program(
     ensures few { IfOk result (λ deck. length deck.script ≤ MOST_EVENTS) }
     ensures events { IfOk result (λ deck. All IsEvent deck.script) }
 {
-    let deck = read_deck_lines(alloc, text, lines, devices, false)?;
+    let deck = read_deck_lines(alloc, text, lines, end, devices, false)?;
     match other {
         Some(number) => Err(CampaignFault::BadSection(number)),
         None => Ok(deck),
@@ -88,13 +92,21 @@ pub fn read_study(
 {
     let found = lines(alloc, bytes)?;
     let next = found.len() as u32 + 1;
-    let after = after_program(bytes, &found);
+    let end = end_of(bytes, &found);
+    let after = lines_after(&found, end);
     let other = other_line(bytes, after);
     let from = from_campaign(bytes, after);
     let before = before_campaign(bytes, &found, from);
     match from {
         [line, rest @ ..] => {
-            let deck = match read_program(alloc, &bytes[..line.start], before, devices, other) {
+            let deck = match read_program(
+                alloc,
+                &bytes[..line.start],
+                before,
+                end,
+                devices,
+                other,
+            ) {
                 Ok(deck) => deck,
                 Err(fault) => return Err(fault),
             };
@@ -103,7 +115,7 @@ pub fn read_study(
                 Err(fault) => Err(fault),
             }
         }
-        [] => match read_program(alloc, bytes, &found, devices, other) {
+        [] => match read_program(alloc, bytes, &found, end, devices, other) {
             Ok(_) => Err(CampaignFault::BadSection(next)),
             Err(fault) => Err(fault),
         },

@@ -3,6 +3,7 @@ pub mod Left
 pub mod PortLines
 pub mod TapeLines
 pub mod Steps
+pub mod Ends
 pub mod Loaded
 pub mod Types
 pub mod MovedSource

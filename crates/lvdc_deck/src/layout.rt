@@ -1,7 +1,7 @@
-ghost use Rattle.std.specs.Prelude.{◌≡◌, ◌<◌, ◌-◌, ◌^◌, length, map, All};
+ghost use Rattle.std.specs.Prelude.{◌≡◌, ◌<◌, ◌+◌, ◌-◌, ◌^◌, ℕ, List, length, map, option_map, IfSome, All};
 ghost use Rattle.lvdc_text.specs.Lines.{IsWithin, part_of};
 ghost use Rattle.lvdc_deck.specs.Sections.{section_of};
-ghost use Rattle.lvdc_deck.specs.Deck.{opened_by, opening_of, end_of, after_program};
+ghost use Rattle.lvdc_deck.specs.Deck.{opened_by, opening_of, end_of, lines_after};
 
 use crate::section::{Opening, ProgramKind, Section};
 use lvdc_text::{Line, few_tokens, is_comment, is_long, is_word, place_of, spells};
@@ -61,22 +61,33 @@ pub(crate) fn opening_of(text: &[u8]) -> Opening
 }
 
 /// The place of the program's last line among these.
-pub(crate) fn end_of(bytes: &[u8], lines: &[Line]) -> Option<usize>
+pub fn end_of(bytes: &[u8], lines: &[Line]) -> Option<usize>
     requires size { length bytes.now < 2 ^ 32 - 1 }
     requires within { All (IsWithin bytes.now) lines.now }
-    ensures { result ≡ end_of bytes.now lines.now }
+    ensures place { result ≡ end_of bytes.now lines.now }
+    ensures below { IfSome result (λ n. n < length lines.now) }
 {
     place_of(b"END", bytes, lines)
 }
 
-/// The lines after the program.
-pub fn after_program<'a>(bytes: &[u8], lines: &'a [Line]) -> &'a [Line]
-    requires size { length bytes.now < 2 ^ 32 - 1 }
-    requires within { All (IsWithin bytes.now) lines.now }
-    ensures lines { result.now ≡ after_program bytes.now lines.now }
-    ensures within { All (IsWithin bytes.now) result.now }
+/// A place behind the line at `at`, counted from the next line on.
+pub(crate) fn place_after(place: Option<usize>, at: usize) -> Option<usize>
+    requires { IfSome place (λ n. at < n) }
+    ensures { result ≡ option_map (λ n. n - (at + 1)) place }
 {
-    match end_of(bytes, lines) {
+    match place {
+        Some(place) => Some(place - (at + 1)),
+        None => None,
+    }
+}
+
+/// The lines after the one at this place, where there is one.
+pub fn lines_after<'a>(lines: &'a [Line], at: Option<usize>) -> &'a [Line]
+    requires { IfSome at (λ n. n < length lines.now) }
+    ensures lines { result.now ≡ lines_after lines.now at }
+    ensures within { (bytes : List ℕ) → All (IsWithin bytes) lines.now → All (IsWithin bytes) result.now }
+{
+    match at {
         Some(at) => &lines[at + 1..],
         None => &[],
     }

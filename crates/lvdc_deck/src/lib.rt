@@ -19,5 +19,5 @@ pub use fault::DeckFault;
 pub use laws::{
     commands_are_apart, session_is_run, source_is_assembled, source_is_moved, unplugs_are_apart,
 };
-pub use layout::after_program;
+pub use layout::{end_of, lines_after};
 pub use read::{read_deck, read_deck_lines};

@@ -7,7 +7,7 @@ ghost use Rattle.lvdc_text.specs.declared.comment.TheConstants.{LONGEST_LINE};
 ghost use Rattle.lvdc_fault.specs.declared.TheConstants.{MOST_TIMES, MOST_EVENTS};
 ghost use Rattle.lvdc_deck.specs.declared.fault.DeckFault.TheVariants.{NoMemory as WantsMemory};
 
-use crate::layout::{end_of, opening_of};
+use crate::layout::{end_of, opening_of, place_after};
 use crate::program::DeckProgram;
 use crate::said::Said;
 use crate::section::{Opening, ProgramKind};
@@ -50,8 +50,8 @@ fn with_program(
     }
 }
 
-/// Reads a deck from the line IMAGE or SOURCE on, which has this number. The lines are those after it, and `next` is one more
-/// than the last.
+/// Reads a deck from the line IMAGE or SOURCE on, which has this number. The lines are those after it, `end` is the place of END among
+/// them, and `next` is one more than the last.
 fn read_program(
     alloc: Global,
     kind: ProgramKind,
@@ -61,9 +61,11 @@ fn read_program(
     next: u32,
     number: u32,
     lines: &[Line],
+    end: Option<usize>,
 ) -> Result<Deck, DeckFault>
     requires size { length bytes.now < 2 ^ 32 - 1 }
     requires within { All (IsWithin bytes.now) lines.now }
+    requires end { end ≡ end_of bytes.now lines.now }
     ensures deck { IfOk result (λ deck.
         by_end kind (map device_of devices.now.items) debugging bytes.now next number lines.now (end_of bytes.now lines.now) ≡ Ok deck) }
     ensures refusal { IfErr result (λ fault. fault ≢ WantsMemory →
@@ -76,7 +78,7 @@ fn read_program(
     ensures within { IfOk result (λ deck. All (IsWithin bytes.now) deck.commands) }
     ensures short { IfOk result (λ deck. All (λ line. length (part_of bytes.now line) ≤ LONGEST_LINE) deck.commands) }
 {
-    let Some(at) = end_of(bytes, lines) else {
+    let Some(at) = end else {
         return Err(DeckFault::BadSection(number));
     };
     let (text, sections) = lines.split_at(at + 1);
@@ -87,11 +89,12 @@ fn read_program(
     }
 }
 
-/// Reads bytes that were cut into these lines, as `read_deck` does.
+/// Reads bytes that were cut into these lines, among which END was sought, as `read_deck` does.
 pub fn read_deck_lines(
     alloc: Global,
     bytes: &[u8],
     lines: &[Line],
+    end: Option<usize>,
     devices: &Vec<Box<dyn PortDevice>>,
     debugging: bool,
 ) -> Result<Deck, DeckFault>
@@ -99,6 +102,7 @@ pub fn read_deck_lines(
     requires lines { lines.now ≡ lines_of bytes.now }
     requires within { All (IsWithin bytes.now) lines.now }
     requires few { length lines.now ≤ length bytes.now }
+    requires end { end ≡ end_of bytes.now lines.now }
     ensures deck { IfOk result (λ deck. deck_of bytes.now (map device_of devices.now.items) debugging ≡ Ok deck) }
     ensures refusal { IfErr result (λ fault. fault ≢ WantsMemory →
         deck_of bytes.now (map device_of devices.now.items) debugging ≡ Err fault) }
@@ -125,6 +129,7 @@ pub fn read_deck_lines(
                 next,
                 line.number,
                 &lines[at + 1..],
+                place_after(end, at),
             ),
             Opening::Other => return Err(DeckFault::NoProgram(line.number)),
         }
@@ -154,5 +159,6 @@ pub fn read_deck(
     ensures short { IfOk result (λ deck. All (λ line. length (part_of bytes.now line) ≤ LONGEST_LINE) deck.commands) }
 {
     let found = lines(alloc, bytes)?;
-    read_deck_lines(alloc, bytes, found.as_slice(), devices, debugging)
+    let end = end_of(bytes, found.as_slice());
+    read_deck_lines(alloc, bytes, found.as_slice(), end, devices, debugging)
 }

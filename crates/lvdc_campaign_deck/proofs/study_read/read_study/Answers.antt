@@ -1,4 +1,6 @@
+use Rattle.std.proofs.Common.{sym, ap, ◌∙◌}
 use Rattle.std.proofs.lemmas.Result.{IfOk-weaker}
+use Rattle.lvdc_deck.specs.Deck.{end_of}
 use Rattle.lvdc_campaign_deck.proofs.Split.{first-rest, rest-within}
 use Rattle.lvdc_campaign_deck.proofs.study_read.read_study.Goals as goal
 
@@ -32,3 +34,8 @@ read_program-requires-in-len1-up-clause-within g c =
 
 pub read_scripts-requires-clause-within : goal.read_scripts-requires-clause-within
 read_scripts-requires-clause-within g c = rest-within c.args.bytes.now c.from_campaign-from.result.now c.from_campaign-from.ensures.within
+
+pub read_program-requires-in-len1-up-clause-end : goal.read_program-requires-in-len1-up-clause-end
+read_program-requires-in-len1-up-clause-end g c =
+    c.end_of-end.ensures.place ∙ ap (end_of c.args.bytes.now) (c.deref.ensures.value ∙ sym c.deref-3.ensures.value)
+    ∙ c.before_campaign-before.ensures.end _ _ (first-rest c.from_campaign-from.result.now _ c.in-len1-up.len_at_least)

@@ -5,11 +5,11 @@ use Rattle.lvdc_deck.proofs.read.read_program.Goals as goal
 
 pub returns-in-Ok-clause-deck : goal.returns-in-Ok-clause-deck
 returns-in-Ok-clause-deck g c =
-    IfOk-weaker c.with_program.result _ _ (λ deck is. end-told c.args.kind (map (λ b. (goal.PortDevice-dyn g (b.vtable, b.value)).device_of b.value) c.args.devices.now.items) c.args.debugging c.args.bytes.now c.args.next c.args.number c.args.lines.now c.in-Some.at (sym c.end_of.ensures ∙ c.in-Some.is) _ _ c.split_at.ensures.front c.split_at.ensures.back _ c.new-said.ensures _ c.in-Ok.ensures.told ∙ is) c.with_program.ensures.deck
+    IfOk-weaker c.with_program.result _ _ (λ deck is. end-told c.args.kind (map (λ b. (goal.PortDevice-dyn g (b.vtable, b.value)).device_of b.value) c.args.devices.now.items) c.args.debugging c.args.bytes.now c.args.next c.args.number c.args.lines.now c.in-Some.at (sym c.requires.end ∙ c.in-Some.is) _ _ c.split_at.ensures.front c.split_at.ensures.back _ c.new-said.ensures _ c.in-Ok.ensures.told ∙ is) c.with_program.ensures.deck
 
 pub returns-in-Ok-clause-refusal : goal.returns-in-Ok-clause-refusal
 returns-in-Ok-clause-refusal g c =
-    IfErr-weaker c.with_program.result _ _ (λ fault is known. end-told c.args.kind (map (λ b. (goal.PortDevice-dyn g (b.vtable, b.value)).device_of b.value) c.args.devices.now.items) c.args.debugging c.args.bytes.now c.args.next c.args.number c.args.lines.now c.in-Some.at (sym c.end_of.ensures ∙ c.in-Some.is) _ _ c.split_at.ensures.front c.split_at.ensures.back _ c.new-said.ensures _ c.in-Ok.ensures.told ∙ is known) c.with_program.ensures.refusal
+    IfErr-weaker c.with_program.result _ _ (λ fault is known. end-told c.args.kind (map (λ b. (goal.PortDevice-dyn g (b.vtable, b.value)).device_of b.value) c.args.devices.now.items) c.args.debugging c.args.bytes.now c.args.next c.args.number c.args.lines.now c.in-Some.at (sym c.requires.end ∙ c.in-Some.is) _ _ c.split_at.ensures.front c.split_at.ensures.back _ c.new-said.ensures _ c.in-Ok.ensures.told ∙ is known) c.with_program.ensures.refusal
 
 pub returns-in-Ok-clause-count : goal.returns-in-Ok-clause-count
 returns-in-Ok-clause-count g c = c.with_program.ensures.count
