@@ -2,7 +2,7 @@
 use Rattle.std.proofs.Common.{◌≡◌, ℕ, List, [], ◌∷◌, ◌++◌, Result, Ok, Err, Some, refl}
 use Rattle.std.specs.Prelude.{codes, replicate}
 use Rattle.lvdc_text.specs.Joined.{text_of}
-use Rattle.lvdc_text.specs.Lines.{lines_of, lines_from, words_from}
+use Rattle.lvdc_text.specs.Lines.{lines_of, lines_from, tokens_from}
 use Rattle.lvdc_text.specs.Numbers.{word_in}
 use Rattle.lvdc_image.specs.Reading.{words_from as words_told, image_of}
 use Rattle.lvdc_fault.specs.declared.event.Event.TheVariants.{Lag, Dead}
@@ -58,34 +58,34 @@ scripts bytes = scripts_from bytes (nothing_said 256) (lines_of bytes)
 
 two_scripts : scripts (codes "SCRIPT A\n* A COMMENT\n\nLAG 1 1 0 5\n DEAD 0 3 1 2\nSCRIPT B2\n")
     ≡ Ok (named (codes "A") (Lag 1 1 0 5 ∷ Dead 0 3 1 2 ∷ []) ∷ named (codes "B2") [] ∷ [])
-unfolding scripts lines_from words_from scripts_from is_name module_copy_in span_in step_in twin_in pair_in
+unfolding scripts lines_from tokens_from scripts_from is_name module_copy_in span_in step_in twin_in pair_in
 two_scripts = refl
 
 no_script : scripts (codes "LAG 1 1 0 5\n") ≡ Err (BadLine 1)
-unfolding scripts lines_from words_from scripts_from is_name module_copy_in span_in step_in
+unfolding scripts lines_from tokens_from scripts_from is_name module_copy_in span_in step_in
 no_script = refl
 
 name_again : scripts (codes "SCRIPT A\nSCRIPT B\nLAG 1 1 0 5\nSCRIPT A\n") ≡ Err (BadLine 4)
-unfolding scripts lines_from words_from scripts_from is_name module_copy_in span_in step_in
+unfolding scripts lines_from tokens_from scripts_from is_name module_copy_in span_in step_in
 name_again = refl
 
 -- a name, and one alone
 no_name : (scripts (codes "SCRIPT\n") ≡ Err (BadLine 1)) × (scripts (codes "SCRIPT A B\n") ≡ Err (BadLine 1)) × (scripts (codes "SCRIPT a\n") ≡ Err (BadLine 1))
     × (scripts (codes "SCRIPT A12345678\n") ≡ Err (BadLine 1))
-unfolding scripts lines_from words_from scripts_from is_name
+unfolding scripts lines_from tokens_from scripts_from is_name
 no_name = (refl, refl, refl, refl)
 
 no_fault_line : scripts (codes "SCRIPT A\nLAG 8 1 0 5\n") ≡ Err (BadLine 2)
-unfolding scripts lines_from words_from scripts_from is_name module_copy_in span_in step_in
+unfolding scripts lines_from tokens_from scripts_from is_name module_copy_in span_in step_in
 no_fault_line = refl
 
 -- a comment of 120 bytes, and one more
 longest_comment : scripts (codes "*" ++ replicate 119 65) ≡ Ok []
-unfolding scripts lines_from words_from scripts_from
+unfolding scripts lines_from tokens_from scripts_from
 longest_comment = refl
 
 long_comment : scripts (codes "*" ++ replicate 120 65) ≡ Err (BadLine 1)
-unfolding scripts lines_from words_from scripts_from
+unfolding scripts lines_from tokens_from scripts_from
 long_comment = refl
 
 -- ---- whole campaigns
@@ -100,31 +100,31 @@ after_image : List (List ℕ) → Result (ℕ × List Named) CampaignFault
 after_image lines = asked_by (campaign_of (text_of (codes "IMAGE" ∷ codes "LVDC 1" ∷ codes "END" ∷ lines)) [])
 
 one_script : after_image (codes "RUN 10000" ∷ codes "CAMPAIGN" ∷ codes "SCRIPT A" ∷ []) ≡ Ok (10000, named (codes "A") [] ∷ [])
-unfolding after_image asked_by lines_from words_from commands_from told_from deck_from words_told image_of word_in is_name from_campaign scripts_from
+unfolding after_image asked_by lines_from tokens_from commands_from told_from deck_from words_told image_of word_in is_name from_campaign scripts_from
 one_script = refl
 
 -- the count comes before the scripts
 count_first : after_image (codes "RUN 10001" ∷ codes "CAMPAIGN" ∷ codes "FLY" ∷ []) ≡ Err (CountTooLarge 4)
-unfolding after_image asked_by lines_from words_from commands_from told_from deck_from words_told image_of word_in is_name from_campaign scripts_from
+unfolding after_image asked_by lines_from tokens_from commands_from told_from deck_from words_told image_of word_in is_name from_campaign scripts_from
 count_first = refl
 
 -- and the first section that a campaign has not before the count
 section_first : after_image (codes "PORTS" ∷ codes "FAULTS" ∷ codes "RUN 10001" ∷ codes "CAMPAIGN" ∷ codes "FLY" ∷ []) ≡ Err (BadSection 4)
-unfolding after_image asked_by lines_from words_from commands_from told_from deck_from words_told image_of word_in is_name from_campaign scripts_from
+unfolding after_image asked_by lines_from tokens_from commands_from told_from deck_from words_told image_of word_in is_name from_campaign scripts_from
 section_first = refl
 
 -- what the deck is refused for comes before both
 deck_first : after_image (codes "FAULTS" ∷ codes "RUN 1000001" ∷ codes "CAMPAIGN" ∷ []) ≡ Err (InDeck (deck.CountTooLarge 5))
-unfolding after_image asked_by lines_from words_from commands_from told_from deck_from words_told image_of word_in is_name from_campaign scripts_from
+unfolding after_image asked_by lines_from tokens_from commands_from told_from deck_from words_told image_of word_in is_name from_campaign scripts_from
 deck_first = refl
 
 -- CAMPAIGN is missing behind the last line, which comes after all of the deck
 no_campaign : after_image (codes "RUN 3" ∷ []) ≡ Err (BadSection 5)
-unfolding after_image asked_by lines_from words_from commands_from told_from deck_from words_told image_of word_in is_name from_campaign scripts_from
+unfolding after_image asked_by lines_from tokens_from commands_from told_from deck_from words_told image_of word_in is_name from_campaign scripts_from
 no_campaign = refl
 
 count_before_campaign : after_image (codes "RUN 10001" ∷ []) ≡ Err (CountTooLarge 4)
-unfolding after_image asked_by lines_from words_from commands_from told_from deck_from words_told image_of word_in is_name from_campaign scripts_from
+unfolding after_image asked_by lines_from tokens_from commands_from told_from deck_from words_told image_of word_in is_name from_campaign scripts_from
 count_before_campaign = refl
 
 -- ---- what is told

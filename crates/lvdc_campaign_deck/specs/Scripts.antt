@@ -4,7 +4,7 @@ use Rattle.std.specs.List.{list_any}
 use Rattle.std.specs.Str.{bytes_eq}
 use Rattle.std.specs.declared.option.Option.{Option}
 use Rattle.std.specs.declared.option.Option.TheVariants.{None, Some}
-use Rattle.lvdc_text.specs.Lines.{part_of, word_texts_of, is_long, is_comment}
+use Rattle.lvdc_text.specs.Lines.{part_of, token_texts_of, is_long, is_comment}
 use Rattle.lvdc_text.specs.declared.cutting.Line.{Line}
 use Rattle.lvdc_fault.specs.declared.event.Event.{Event}
 use Rattle.lvdc_fault.specs.declared.named.Named.{Named}
@@ -94,7 +94,7 @@ by_tokens s number (first ∷ tokens) =
 abbrev pub after_line : Scripts → ℕ → List ℕ → Result Scripts CampaignFault
 after_line s number text =
     if is_long text then Err (BadLine number)
-    else (if is_comment text then Ok s else by_tokens s number (word_texts_of text))
+    else (if is_comment text then Ok s else by_tokens s number (token_texts_of text))
 
 -- all scripts that lines tell after these
 unfoldable pub scripts_from : List ℕ → Scripts → List Line → Result (List Named) CampaignFault

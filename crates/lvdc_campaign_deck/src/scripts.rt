@@ -1,7 +1,7 @@
 //! The scripts of a campaign, line by line.
 
 ghost use Rattle.std.specs.Prelude.{◌≡◌, ◌≢◌, ◌<◌, ◌≤◌, ◌-◌, ◌^◌, length, map, IfOk, IfErr, OnOk, All, Ok, Err, None, false, IsTrue};
-ghost use Rattle.lvdc_text.specs.Lines.{IsWithin, part_of};
+ghost use Rattle.lvdc_text.specs.Lines.{IsWithin, LiesIn, token_text};
 ghost use Rattle.lvdc_lines.specs.Lines.{fault_in};
 ghost use Rattle.lvdc_source.specs.Names.{is_name};
 ghost use Rattle.lvdc_fault.specs.declared.TheConstants.{MOST_EVENTS};
@@ -13,7 +13,7 @@ use crate::by_name::ByName;
 use lvdc_fault::{MOST_EVENTS, Named, Script};
 use lvdc_lines::event_of;
 use lvdc_source::is_name;
-use lvdc_text::{LONGEST_LINE, Line, few_tokens, is_comment, is_long, part};
+use lvdc_text::{LONGEST_LINE, Line, Token, few_tokens, is_comment, is_long, part, token_text};
 use lvdc_word::{NoMemory, Seq};
 use std::alloc::Global;
 use std::marker::Model;
@@ -143,16 +143,16 @@ impl Scripts {
         alloc: Global,
         number: u32,
         text: &[u8],
-        tokens: &[Line],
+        tokens: &[Token],
     ) -> Result<(), CampaignFault>
-        requires { All (IsWithin text.now) tokens.now }
-        ensures made { Makes result self.new (script_line self.old number (map (part_of text.now) tokens.now)) }
+        requires { All (LiesIn text.now) tokens.now }
+        ensures made { Makes result self.new (script_line self.old number (map (token_text text.now) tokens.now)) }
         ensures most { OnOk result (self.new.most ≡ self.old.most) }
     {
         let [token] = tokens else {
             return Err(CampaignFault::BadLine(number));
         };
-        let name = part(text, token);
+        let name = token_text(text, token);
         if !is_short_name(name) || self.is_taken(name) {
             return Err(CampaignFault::BadLine(number));
         }
@@ -160,9 +160,14 @@ impl Scripts {
     }
 
     /// Takes a fault line.
-    fn take_event(&mut self, number: u32, text: &[u8], tokens: &[Line]) -> Result<(), CampaignFault>
-        requires { All (IsWithin text.now) tokens.now }
-        ensures made { Makes result self.new (fault_line self.old number (fault_in (map (part_of text.now) tokens.now))) }
+    fn take_event(
+        &mut self,
+        number: u32,
+        text: &[u8],
+        tokens: &[Token],
+    ) -> Result<(), CampaignFault>
+        requires { All (LiesIn text.now) tokens.now }
+        ensures made { Makes result self.new (fault_line self.old number (fault_in (map (token_text text.now) tokens.now))) }
         ensures most { OnOk result (self.new.most ≡ self.old.most) }
     {
         let Some(event) = event_of(text, tokens) else {
@@ -185,16 +190,16 @@ impl Scripts {
         alloc: Global,
         number: u32,
         text: &[u8],
-        tokens: &[Line],
+        tokens: &[Token],
     ) -> Result<(), CampaignFault>
-        requires { All (IsWithin text.now) tokens.now }
-        ensures made { Makes result self.new (by_tokens self.old number (map (part_of text.now) tokens.now)) }
+        requires { All (LiesIn text.now) tokens.now }
+        ensures made { Makes result self.new (by_tokens self.old number (map (token_text text.now) tokens.now)) }
         ensures most { OnOk result (self.new.most ≡ self.old.most) }
     {
         let [first, rest @ ..] = tokens else {
             return Ok(());
         };
-        if part(text, first) == b"SCRIPT".as_slice() {
+        if token_text(text, first) == b"SCRIPT".as_slice() {
             self.take_script(alloc, number, text, rest)
         } else {
             self.take_event(number, text, tokens)

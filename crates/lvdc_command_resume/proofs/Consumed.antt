@@ -7,7 +7,7 @@ use Rattle.std.specs.Str.{bytes_eq}
 use Rattle.std.proofs.lemmas.Slice.Eq.{bytes_eq-Decides}
 use Rattle.std.proofs.lemmas.List.Splits.{slice_split-cons_yes, slice_split-cons_no, length-slice_split}
 use Rattle.lvdc_text.specs.declared.cutting.Line.{Line}
-use Rattle.lvdc_text.specs.Lines.{NumberedLine, is_line_feed, lines_of, part_of, numbered, word_texts_of}
+use Rattle.lvdc_text.specs.Lines.{NumberedLine, is_line_feed, lines_of, part_of, numbered, token_texts_of}
 use Rattle.lvdc_text.proofs.Texts.{texts-lines_of}
 use Rattle.lvdc_port.specs.Device.{Device}
 use Rattle.lvdc_lines.specs.Noted as noted
@@ -128,7 +128,7 @@ size-line : (devices : List Device) (r s : Progress) (line : NumberedLine) (line
     → noted_size s.log s.repairs ≤ noted_size t.log t.repairs + size_of (map (λ (line : NumberedLine). line.text) lines))
     → noted_size s.log s.repairs ≤ noted_size r.log r.repairs + (length line.text + 1 + size_of (map (λ (line : NumberedLine). line.text) lines))
 size-line devices r s line lines (Ok t) one rest later =
-    omega (arith, by-found devices line.number r t line.text (entry_in (word_texts_of line.text)) one, later t rest)
+    omega (arith, by-found devices line.number r t line.text (entry_in (token_texts_of line.text)) one, later t rest)
 size-line devices r s line lines (Err fault) one rest later = absurd (cc)
 
 size-told : (devices : List Device) (r s : Progress) (lines : List NumberedLine) → told_from devices r lines ≡ Ok s

@@ -5,7 +5,7 @@ use Rattle.std.specs.Fmt.{digits}
 use Rattle.lvdc_word.specs.Cell.{with_stuck}
 use Rattle.lvdc_vote.specs.Bits.{majority, flipped}
 use Rattle.lvdc_text.specs.Joined.{text_of}
-use Rattle.lvdc_text.specs.Lines.{lines_from, words_from}
+use Rattle.lvdc_text.specs.Lines.{lines_from, tokens_from}
 use Rattle.lvdc_text.specs.Numbers.{octal_text, word_in}
 use Rattle.lvdc_image.specs.Reading.{entry_in, words_from as words_told, image_of}
 use Rattle.lvdc_lines.specs.Fields.{module_copy_in, index_in, span_in, step_in}
@@ -75,9 +75,9 @@ of_a_sum : answered (codes "0 00 000 000017000" ∷ codes "0 00 001 000007001" �
     ∷ codes "0 01 001 000000001" ∷ codes "END" ∷ codes "RUN 3" ∷ codes "CAMPAIGN" ∷ codes "SCRIPT A" ∷ codes "FLIP 5 1 3 3 0 000000001" ∷ codes "SCRIPT B"
     ∷ codes "FLIP 3 1 4 4 0 000001000" ∷ codes "FLIP 3 2 4 4 0 000001000" ∷ []) ≡
     answer_with 0 (codes "SCRIPT A ADMISSIBLE SAME COPIES 1 REPAIRS 0 - FORM YES\nSCRIPT B LOGIC 4 3 DIFFERS REGISTERS COPIES 1 REPAIRS 0 - FORM NO\nSTUDY 2 ADMISSIBLE 1 SAME 1 FORM 1\n") []
-unfolding answered lines_from words_from told_from deck_from words_told image_of entry_in word_in module_copy_in index_in span_in step_in is_name from_campaign other_line scripts_from with_stuck majority flipped counts_below least_below digits octal_text lines_of
+unfolding answered lines_from tokens_from told_from deck_from words_told image_of entry_in word_in module_copy_in index_in span_in step_in is_name from_campaign other_line scripts_from with_stuck majority flipped counts_below least_below digits octal_text lines_of
 of_a_sum = refl
 
 faults_before_campaign : answered (codes "END" ∷ codes "FAULTS" ∷ codes "LAG 1 1 0 0" ∷ codes "RUN 3" ∷ codes "CAMPAIGN" ∷ codes "SCRIPT A" ∷ []) ≡ answer_with 2 (codes "REFUSED BadSection 4\n") []
-unfolding answered lines_from words_from told_from deck_from words_told image_of word_in module_copy_in span_in step_in is_name from_campaign other_line scripts_from digits
+unfolding answered lines_from tokens_from told_from deck_from words_told image_of word_in module_copy_in span_in step_in is_name from_campaign other_line scripts_from digits
 faults_before_campaign = refl

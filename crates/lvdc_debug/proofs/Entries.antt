@@ -3,7 +3,7 @@ use Rattle.std.proofs.Common.{◌≡◌, ℕ, ◌+◌, ◌<◌, Bool, List, [], 
 use Rattle.std.proofs.lemmas.List.{append-nil}
 use Rattle.std.proofs.lemmas.List.Sums.{fold-append}
 use Rattle.std.proofs.Math.Seq.{take-suc}
-use Rattle.lvdc_text.specs.Lines.{word_texts_of}
+use Rattle.lvdc_text.specs.Lines.{token_texts_of}
 use Rattle.lvdc_model.specs.Trial.{Trial}
 use Rattle.lvdc_model.specs.Voted.{Voted}
 use Rattle.lvdc_debug.specs.declared.command.Command.{Command}
@@ -13,7 +13,7 @@ use Rattle.lvdc_debug.specs.Session.{Subject, at_start, asked_by, after_command,
 
 -- the entry of a line that is a command
 pub entry_is : (o : Trial) (s : Subject) (c d : Course) (text : List ℕ) (command : Command) (all : Bool) (v : Voted) (out echoed after : List ℕ)
-    → command_in (word_texts_of text) ≡ Some command → (d ≡ after_command s c command) × (all ≡ does_all s c command) → s.trial ≡ o → s.state d.asked ≡ v
+    → command_in (token_texts_of text) ≡ Some command → (d ≡ after_command s c command) × (all ≡ does_all s c command) → s.trial ≡ o → s.state d.asked ≡ v
     → echoed ≡ out ++ echo_line text → after ≡ echoed ++ answer_text o v d.breaks all command → after ≡ out ++ entry s c text
 entry_is o s c d text command all v out echoed after is went trial state echo told =
     let asked = ap (λ (x : Course). x.asked) went.0 in

@@ -7,7 +7,7 @@ use Rattle.std.specs.Str.{bytes_eq}
 use Rattle.std.proofs.lemmas.Slice.Eq.{bytes_eq-Decides}
 use Rattle.std.proofs.lemmas.Bool.Decides.{nat_tests}
 use Rattle.lvdc_map.specs.Address.{Spot}
-use Rattle.lvdc_text.specs.Lines.{is_blank, has_bytes, word_texts_of}
+use Rattle.lvdc_text.specs.Lines.{is_blank, has_bytes, token_texts_of}
 use Rattle.lvdc_lines.specs.Fields.{decimal_in, place_in}
 use Rattle.lvdc_debug.specs.declared.command.Command.{Command}
 use Rattle.lvdc_debug.specs.declared.command.Command.TheVariants.{Step, Go, Break, Regs, Mem, Dis, Copies}
@@ -188,11 +188,11 @@ answer-by (Dis at syl count) size ranges least = let w = ranges.0.within in omeg
 answer-by (Copies number) size ranges least = omega arith
 
 -- a line and its answer have at most 500 bytes for each byte of the line and of its end
-pub answer-short : (text : List ℕ) (command : Command) → command_in (word_texts_of text) ≡ Some command → IsCommand command
+pub answer-short : (text : List ℕ) (command : Command) → command_in (token_texts_of text) ≡ Some command → IsCommand command
     → most_answer command + length text + 3 ≤ 500 * (length text + 1)
 answer-short text command is ranges =
     let most = spread-filter (slice_split is_blank text) in
     let all = spread-split is_blank text in
-    let least : least_spread command ≤ spread (word_texts_of text) =
-    subst (λ (x : Option Command). Least (spread (word_texts_of text)) x) is (least-command (word_texts_of text) (full-filter (slice_split is_blank text))) in
+    let least : least_spread command ≤ spread (token_texts_of text) =
+    subst (λ (x : Option Command). Least (spread (token_texts_of text)) x) is (least-command (token_texts_of text) (full-filter (slice_split is_blank text))) in
     answer-by command (length text) ranges (omega (arith, most, all, least))

@@ -6,7 +6,7 @@ use Rattle.lvdc_map.specs.Address.{Spot}
 use Rattle.lvdc_map.specs.Hop.{fetch_of}
 use Rattle.lvdc_isa.specs.Instr.{instr}
 use Rattle.lvdc_isa.specs.Mnemonics.{printed}
-use Rattle.lvdc_text.specs.Lines.{word_texts_of}
+use Rattle.lvdc_text.specs.Lines.{token_texts_of}
 use Rattle.lvdc_text.specs.Numbers.{octal_text}
 use Rattle.lvdc_vote.specs.Copies as vote
 use Rattle.lvdc_modules.specs.Seen.{hold}
@@ -209,7 +209,7 @@ line_course s c None = c
 
 -- where the session is after a line
 abbrev pub after_line : Subject → Course → List ℕ → Course
-after_line s c text = line_course s c (command_in (word_texts_of text))
+after_line s c text = line_course s c (command_in (token_texts_of text))
 
 -- a line as it is written again, without outer blanks
 abbrev pub echo_line : List ℕ → List ℕ
@@ -217,7 +217,7 @@ echo_line text = codes "> " ++ without_outer_blanks text ++ codes "\n"
 
 -- a line and its answer
 abbrev pub entry : Subject → Course → List ℕ → List ℕ
-entry s c text = echo_line text ++ line_answer s c (command_in (word_texts_of text))
+entry s c text = echo_line text ++ line_answer s c (command_in (token_texts_of text))
 
 -- the entries of these lines, one after the other
 unfoldable pub entries : Subject → Course → List (List ℕ) → List ℕ

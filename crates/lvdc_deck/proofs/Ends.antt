@@ -7,7 +7,7 @@ use Rattle.std.proofs.lemmas.List.Splits.{slice_split-cons_yes}
 use Rattle.std.proofs.lemmas.Slice.Eq.{bytes_eq-Decides}
 use Rattle.std.proofs.lemmas.Bool.Decides.{nat_tests}
 use Rattle.lvdc_text.specs.Headings.{is_word, is_alone}
-use Rattle.lvdc_text.specs.Lines.{part_of, is_blank, has_bytes, word_texts_of, is_long, is_comment}
+use Rattle.lvdc_text.specs.Lines.{part_of, is_blank, has_bytes, token_texts_of, is_long, is_comment}
 use Rattle.lvdc_text.specs.declared.cutting.Line.{Line}
 use Rattle.lvdc_deck.specs.Deck.{end_of, opened_by, opening_of}
 use Rattle.lvdc_deck.specs.declared.section.Opening.TheVariants as opening
@@ -102,26 +102,26 @@ opened-some false false is = absurd (cc)
 -- a line that is skipped
 pub skipped-other : (text : List ℕ) → opening.Skipped ≡ opening_of text → is_alone (codes "END") text ≡ false
 skipped-other text is = by (is_long text) (is_comment text) refl is where
-  by : (long comment : Bool) → is_comment text ≡ comment → opening.Skipped ≡ (if long then opening.Long else (if comment then opening.Skipped else opened_by (word_texts_of text)))
+  by : (long comment : Bool) → is_comment text ≡ comment → opening.Skipped ≡ (if long then opening.Long else (if comment then opening.Skipped else opened_by (token_texts_of text)))
       → is_alone (codes "END") text ≡ false
   by true comment here is = absurd (cc)
   by false true here is = comment-other text here
-  by false false here is = absurd (opened-some (is_word (codes "IMAGE") (word_texts_of text)) (is_word (codes "SOURCE") (word_texts_of text)) is)
+  by false false here is = absurd (opened-some (is_word (codes "IMAGE") (token_texts_of text)) (is_word (codes "SOURCE") (token_texts_of text)) is)
 
 -- a line that opens a program
 pub program-other : (text : List ℕ) (kind : ProgramKind) → opening.Program kind ≡ opening_of text → is_alone (codes "END") text ≡ false
 program-other text kind is = by (is_long text) (is_comment text) is where
-  by_word : (image source : Bool) → is_word (codes "IMAGE") (word_texts_of text) ≡ image → is_word (codes "SOURCE") (word_texts_of text) ≡ source
+  by_word : (image source : Bool) → is_word (codes "IMAGE") (token_texts_of text) ≡ image → is_word (codes "SOURCE") (token_texts_of text) ≡ source
       → opening.Program kind ≡ (if image then opening.Program kinds.Image else (if source then opening.Program kinds.Source else opening.Other)) → is_alone (codes "END") text ≡ false
-  by_word true source first second is = word-other (codes "IMAGE") (word_texts_of text) refl first
-  by_word false true first second is = word-other (codes "SOURCE") (word_texts_of text) refl second
+  by_word true source first second is = word-other (codes "IMAGE") (token_texts_of text) refl first
+  by_word false true first second is = word-other (codes "SOURCE") (token_texts_of text) refl second
   by_word false false first second is = absurd (cc)
 
-  by : (long comment : Bool) → opening.Program kind ≡ (if long then opening.Long else (if comment then opening.Skipped else opened_by (word_texts_of text)))
+  by : (long comment : Bool) → opening.Program kind ≡ (if long then opening.Long else (if comment then opening.Skipped else opened_by (token_texts_of text)))
       → is_alone (codes "END") text ≡ false
   by true comment is = absurd (cc)
   by false true is = absurd (cc)
-  by false false is = by_word (is_word (codes "IMAGE") (word_texts_of text)) (is_word (codes "SOURCE") (word_texts_of text)) refl refl is
+  by false false is = by_word (is_word (codes "IMAGE") (token_texts_of text)) (is_word (codes "SOURCE") (token_texts_of text)) refl refl is
 
 -- ---- the place of END
 

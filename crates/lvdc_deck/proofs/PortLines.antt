@@ -3,7 +3,7 @@ use Rattle.std.proofs.Common.{◌≡◌, ℕ, ◌<◌, ◌≤◌, Bool, true, fa
 use Rattle.std.specs.Bool.{if◌then◌else◌}
 use Rattle.std.specs.Str.{bytes_eq}
 use Rattle.std.specs.Prelude.{is_some}
-use Rattle.lvdc_text.specs.declared.cutting.Line.{Line}
+use Rattle.lvdc_text.specs.declared.cutting.Token.{Token}
 use Rattle.lvdc_port.specs.Device.{Device}
 use Rattle.lvdc_port.specs.declared.device.Kind.{Kind}
 use Rattle.lvdc_plain.specs.declared.records.Unplug.{Unplug}
@@ -11,7 +11,7 @@ use Rattle.lvdc_deck.specs.declared.fault.DeckFault.{DeckFault}
 use Rattle.lvdc_deck.specs.declared.fault.DeckFault.TheVariants.{BadLine, NoDevice}
 use Rattle.lvdc_deck.specs.Sections.{Sections, port_in, time_in, kind_left, tape_line, unplug_at, with_unplug, unplug_line, port_line}
 
-module _ (devices : List Device) (s : Sections) (number : ℕ) (text_of : Line → List ℕ) (tokens words : List Line) (d : Line)
+module _ (devices : List Device) (s : Sections) (number : ℕ) (text_of : Token → List ℕ) (tokens words : List Token) (d : Token)
     (long : 1 ≤ length tokens) (rest : words ≡ drop 1 tokens) (first : List ℕ) (more : List (List ℕ)) (are : map text_of tokens ≡ first ∷ more) where
   port-first : port_line devices s number (text_of (get_or tokens 0 d)) (map text_of words) ≡ port_line devices s number first more
   port-first = by tokens long rest are where
@@ -19,10 +19,10 @@ module _ (devices : List Device) (s : Sections) (number : ℕ) (text_of : Line �
     of [] = Err (BadLine number)
     of (word ∷ texts) = port_line devices s number word texts
 
-    by : (ts : List Line) → 1 ≤ length ts → words ≡ drop 1 ts → map text_of ts ≡ first ∷ more →
+    by : (ts : List Token) → 1 ≤ length ts → words ≡ drop 1 ts → map text_of ts ≡ first ∷ more →
         port_line devices s number (text_of (get_or ts 0 d)) (map text_of words) ≡ port_line devices s number first more
     by [] least is texts = absurd (omega arith)
-    by (line ∷ lines) least is texts = ap (λ (ls : List Line). port_line devices s number (text_of line) (map text_of ls)) is ∙ ap of texts
+    by (token ∷ later) least is texts = ap (λ (later : List Token). port_line devices s number (text_of token) (map text_of later)) is ∙ ap of texts
 
   -- what these tests say of the first word
   port-by : (tape unplug : Bool) → bytes_eq (text_of (get_or tokens 0 d)) (codes "TAPE") ≡ tape → bytes_eq (text_of (get_or tokens 0 d)) (codes "UNPLUG") ≡ unplug →
@@ -56,12 +56,12 @@ a_device : (s : Sections) (number port time : ℕ) (kind : Option Kind) → is_s
 a_device s number port time None some = cc
 a_device s number port time (Some kind) some = refl
 
-module _ (devices : List Device) (s : Sections) (number : ℕ) (text_of : Line → List ℕ) (tokens : List Line) (d : Line)
+module _ (devices : List Device) (s : Sections) (number : ℕ) (text_of : Token → List ℕ) (tokens : List Token) (d : Token)
     (least : 2 ≤ length tokens) (most : length tokens < 3) where
   unplug-two : unplug_line devices s number (map text_of tokens)
       ≡ with_unplug devices s number (port_in (text_of (get_or tokens 0 d))) (time_in (text_of (get_or tokens 1 d)))
   unplug-two = by tokens (omega (arith, least, most)) where
-    by : (ts : List Line) → length ts ≡ 2 → unplug_line devices s number (map text_of ts)
+    by : (ts : List Token) → length ts ≡ 2 → unplug_line devices s number (map text_of ts)
         ≡ with_unplug devices s number (port_in (text_of (get_or ts 0 d))) (time_in (text_of (get_or ts 1 d)))
     by [] is = absurd (omega arith)
     by (port ∷ []) is = absurd (omega arith)

@@ -8,7 +8,7 @@ use Rattle.std.specs.declared.option.Option.{Option}
 use Rattle.std.proofs.lemmas.Bool.{eqb-false, ltb-true, or_parts}
 use Rattle.std.proofs.lemmas.List.Elements.{All-nil, All-cons, All-append, All-push}
 use Rattle.std.proofs.lemmas.List.Quantifiers.{all_pairs_push}
-use Rattle.lvdc_text.specs.Lines.{word_texts_of, is_long, is_comment, part_of, lines_of}
+use Rattle.lvdc_text.specs.Lines.{token_texts_of, is_long, is_comment, part_of, lines_of}
 use Rattle.lvdc_text.specs.Numbers.{number_of, below, plain_number_of}
 use Rattle.lvdc_text.specs.declared.cutting.Line.{Line}
 use Rattle.lvdc_lines.specs.Lines.{fault_in, order_in}
@@ -236,7 +236,7 @@ module _ (devices : List Device) where
       by_text : (l c : Bool) → is_long text ≡ l → is_comment text ≡ c → Kept (after_line devices s number text)
       by_text true c long comment = rw long tt
       by_text false true long comment = rw (long, comment) h
-      by_text false false long comment = rw (long, comment) (tokens-kept s number (word_texts_of text) h)
+      by_text false false long comment = rw (long, comment) (tokens-kept s number (token_texts_of text) h)
 
   -- ---- all lines
 

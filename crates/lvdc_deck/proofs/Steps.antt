@@ -3,6 +3,7 @@ use Rattle.std.proofs.Common.{◌≡◌, ℕ, ◌+◌, ◌<◌, ◌≤◌, Bool,
 use Rattle.std.specs.Bool.{if◌then◌else◌}
 use Rattle.std.proofs.lemmas.List.{drop_more, drop_all}
 use Rattle.lvdc_text.specs.declared.cutting.Line.{Line}
+use Rattle.lvdc_text.specs.declared.cutting.Token.{Token}
 use Rattle.lvdc_text.specs.Lines.{part_of, is_long, is_comment}
 use Rattle.lvdc_port.specs.Device.{Device}
 use Rattle.lvdc_deck.specs.declared.deck.Deck.{Deck}
@@ -15,15 +16,19 @@ use Rattle.lvdc_deck.specs.declared.section.ProgramKind.{ProgramKind}
 use Rattle.lvdc_deck.specs.Sections.{Sections, nothing_said, section_of, is_debug, in_order, by_word, by_tokens, after_line}
 use Rattle.lvdc_deck.specs.Deck.{and_then, Told, with_command, commands_from, with_commands, by_debug, told_from, end_of, with_program, by_end, opening_of, by_opening, deck_from}
 
+-- what an index past the end reads
+abbrev pub no_line : Line
+no_line = record { number = 0; start = 0; end = 0 }
+
 -- a section word opens its section in its order
-pub in_order-word : (devices : List Device) (s : Sections) (number : ℕ) (text_of : Line → List ℕ) (tokens : List Line) (section : Section) (d : Line) →
-    1 ≤ length tokens → Some section ≡ section_of (text_of (get_or tokens 0 d)) → (rest : List Line) → rest ≡ drop 1 tokens →
+pub in_order-word : (devices : List Device) (s : Sections) (number : ℕ) (text_of : Token → List ℕ) (tokens : List Token) (section : Section) (d : Token) →
+    1 ≤ length tokens → Some section ≡ section_of (text_of (get_or tokens 0 d)) → (rest : List Token) → rest ≡ drop 1 tokens →
     in_order section s number (map text_of rest) ≡ by_tokens devices s number (map text_of tokens)
 in_order-word devices s number text_of [] section d some is rest are = absurd (omega arith)
-in_order-word devices s number text_of (line ∷ lines) section d some is rest are =
+in_order-word devices s number text_of (token ∷ tokens) section d some is rest are =
     sym (
-    ap (λ (o : Option Section). by_word devices o s number (text_of line) (map text_of lines)) (sym is)
-    ∙ ap (λ (ls : List Line). by_word devices (Some section) s number (text_of line) (map text_of ls)) (sym are))
+    ap (λ (o : Option Section). by_word devices o s number (text_of token) (map text_of tokens)) (sym is)
+    ∙ ap (λ (ts : List Token). by_word devices (Some section) s number (text_of token) (map text_of ts)) (sym are))
 
 -- ---- commands
 

@@ -2,7 +2,7 @@
 use Rattle.std.proofs.Common.{◌≡◌, ℕ, ◌≤◌, true, false, not, eqb, List, [], ◌∷◌, map, length, get_or, drop, Option, None, Some, option_map, Err, refl, sym, ap, ◌∙◌, arith}
 use Rattle.std.proofs.lemmas.Bool.{eqb-false}
 use Rattle.std.specs.Option.{option_eq}
-use Rattle.lvdc_text.specs.declared.cutting.Line.{Line}
+use Rattle.lvdc_text.specs.declared.cutting.Token.{Token}
 use Rattle.lvdc_port.specs.Device.{Device}
 use Rattle.lvdc_port.specs.declared.requests.Supply.{Supply}
 use Rattle.lvdc_port.specs.declared.device.Kind.{Kind}
@@ -31,18 +31,18 @@ no_tape s number port words (Some Latch) other = refl
 no_tape s number port words (Some Ticker) other = refl
 no_tape s number port words (Some Recorder) other = refl
 
-module _ (devices : List Device) (s : Sections) (number : ℕ) (text_of : Line → List ℕ) (tokens words : List Line) (d : Line)
+module _ (devices : List Device) (s : Sections) (number : ℕ) (text_of : Token → List ℕ) (tokens words : List Token) (d : Token)
     (long : 1 ≤ length tokens) (rest : words ≡ drop 1 tokens) where
   -- a port and words are taken as they are
   pub tape-words : eqb (length words) 0 ≡ false →
       tape_line devices s number (map text_of tokens) ≡ with_tape devices s number (port_in (text_of (get_or tokens 0 d))) (words_in (map text_of words))
   tape-words some = by tokens long rest where
-    by : (ts : List Line) → 1 ≤ length ts → words ≡ drop 1 ts →
+    by : (ts : List Token) → 1 ≤ length ts → words ≡ drop 1 ts →
         tape_line devices s number (map text_of ts) ≡ with_tape devices s number (port_in (text_of (get_or ts 0 d))) (words_in (map text_of words))
     by [] least is = absurd (omega arith)
     by (port ∷ []) least is = absurd (omega (arith, ap length is, eqb-false (length words) 0 some))
     by (port ∷ token ∷ more) least is =
-        sym (ap (λ (ws : List Line). with_tape devices s number (port_in (text_of port)) (words_in (map text_of ws))) is)
+        sym (ap (λ (ws : List Token). with_tape devices s number (port_in (text_of port)) (words_in (map text_of ws))) is)
 
   -- what is no port is refused
   pub tape-no_port : eqb (length words) 0 ≡ false → port_in (text_of (get_or tokens 0 d)) ≡ None →

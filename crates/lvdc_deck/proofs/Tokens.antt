@@ -4,22 +4,22 @@ use Rattle.std.specs.Bool.{if◌then◌else◌}
 use Rattle.std.specs.Option.{SomeIff}
 use Rattle.std.proofs.Math.Nat.{pow-le-pow_right, pow-suc}
 use Rattle.std.proofs.lemmas.List.{drop_more, drop_all}
-use Rattle.lvdc_text.specs.declared.cutting.Line.{Line}
+use Rattle.lvdc_text.specs.declared.cutting.Token.{Token}
 use Rattle.lvdc_text.specs.Numbers.{word_in}
 use Rattle.lvdc_port.specs.declared.requests.Supply.{Supply}
 use Rattle.lvdc_deck.specs.Sections.{pairs_with, pairs_from, words_with, words_in, supply_of}
 
--- the texts of the parts from an index on begin with that of the part there
-pub texts-more : (text_of : Line → List ℕ) (lines : List Line) (i : ℕ) (d : Line) → i < length lines →
-    map text_of (drop i lines) ≡ text_of (get_or lines i d) ∷ map text_of (drop (i + 1) lines)
-texts-more text_of lines i d within = ap (map text_of) (drop_more lines i d within)
+-- the texts of the tokens from an index on begin with that of the token there
+pub texts-more : (text_of : Token → List ℕ) (tokens : List Token) (i : ℕ) (d : Token) → i < length tokens →
+    map text_of (drop i tokens) ≡ text_of (get_or tokens i d) ∷ map text_of (drop (i + 1) tokens)
+texts-more text_of tokens i d within = ap (map text_of) (drop_more tokens i d within)
 
-pub texts-done : (text_of : Line → List ℕ) (lines : List Line) (i : ℕ) → length lines ≤ i → map text_of (drop i lines) ≡ []
-texts-done text_of lines i all = ap (map text_of) (drop_all i lines all)
+pub texts-done : (text_of : Token → List ℕ) (tokens : List Token) (i : ℕ) → length tokens ≤ i → map text_of (drop i tokens) ≡ []
+texts-done text_of tokens i all = ap (map text_of) (drop_all i tokens all)
 
 -- what an index past the end reads
-abbrev pub no_line : Line
-no_line = record { number = 0; start = 0; end = 0 }
+abbrev pub no_token : Token
+no_token = record { start = 0; end = 0 }
 
 -- ---- pairs
 
@@ -48,10 +48,10 @@ pairs_from-digit least pair tokens from below =
     ∙ ap (λ (p : ℕ). pairs_with p (pairs_from ((48 + pair) - 47) tokens)) here
     ∙ ap (λ (l : ℕ). pairs_with pair (pairs_from l tokens)) next
 
-pub pairs-none : (text_of : Line → List ℕ) (tokens : List Line) → and_pairs 0 (pairs_from 0 (map text_of (drop 0 tokens))) ≡ pairs_from 0 (map text_of tokens)
+pub pairs-none : (text_of : Token → List ℕ) (tokens : List Token) → and_pairs 0 (pairs_from 0 (map text_of (drop 0 tokens))) ≡ pairs_from 0 (map text_of tokens)
 pairs-none text_of tokens = and_pairs-zero (pairs_from 0 (map text_of tokens))
 
-module _ (text_of : Line → List ℕ) (tokens : List Line) (i : ℕ) (d : Line) (pairs least : ℕ) (total : Option ℕ)
+module _ (text_of : Token → List ℕ) (tokens : List Token) (i : ℕ) (d : Token) (pairs least : ℕ) (total : Option ℕ)
     (so_far : and_pairs pairs (pairs_from least (map text_of (drop i tokens))) ≡ total) where
   pub pairs-more : i < length tokens → (pair : ℕ) → text_of (get_or tokens i d) ≡ (48 + pair) ∷ [] → least ≤ pair → pair < 4 →
       and_pairs (pairs + 2 ^ pair) (pairs_from (pair + 1) (map text_of (drop (i + 1) tokens))) ≡ total
@@ -109,7 +109,7 @@ and_supplies-with supplies port word (Some words) =
     ap (λ (ss : List Supply). Some ss) (sym (append_assoc supplies (record { port = port; word = word } ∷ []) (supply_of port words)))
 and_supplies-with supplies port word None = refl
 
-module _ (text_of : Line → List ℕ) (tokens : List Line) (i : ℕ) (d : Line) (supplies : List Supply) (port : ℕ) (total : Option (List Supply))
+module _ (text_of : Token → List ℕ) (tokens : List Token) (i : ℕ) (d : Token) (supplies : List Supply) (port : ℕ) (total : Option (List Supply))
     (so_far : and_supplies supplies port (words_in (map text_of (drop i tokens))) ≡ total) where
   by_word : i < length tokens → (found : Option ℕ) → word_in (text_of (get_or tokens i d)) ≡ found →
       and_supplies supplies port (words_with found (words_in (map text_of (drop (i + 1) tokens)))) ≡ total

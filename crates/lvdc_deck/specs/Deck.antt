@@ -5,7 +5,7 @@ use Rattle.std.specs.declared.option.Option.TheVariants.{None, Some}
 use Rattle.lvdc_map.specs.Banks.{union}
 use Rattle.lvdc_map.specs.Hop.{HopConstant, hop_of}
 use Rattle.lvdc_text.specs.Headings.{is_word, place_of}
-use Rattle.lvdc_text.specs.Lines.{lines_of, part_of, word_texts_of, numbered, is_long, is_comment}
+use Rattle.lvdc_text.specs.Lines.{lines_of, part_of, token_texts_of, numbered, is_long, is_comment}
 use Rattle.lvdc_text.specs.declared.cutting.Line.{Line}
 use Rattle.lvdc_port.specs.Device.{Device}
 use Rattle.lvdc_image.specs.Image.{Contents}
@@ -179,7 +179,7 @@ opened_by tokens =
 -- what a line opens that may be the first
 abbrev pub opening_of : List ℕ → Opening
 opening_of text =
-    if is_long text then opening.Long else (if is_comment text then opening.Skipped else opened_by (word_texts_of text))
+    if is_long text then opening.Long else (if is_comment text then opening.Skipped else opened_by (token_texts_of text))
 
 -- from a line on that may be the first, by what it opens, and by what the lines after it come to
 abbrev pub by_opening : List Device → Bool → List ℕ → ℕ → ℕ → List Line → Opening → Result Deck DeckFault → Result Deck DeckFault

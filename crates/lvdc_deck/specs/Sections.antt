@@ -5,7 +5,7 @@ use Rattle.std.specs.Str.{bytes_eq}
 use Rattle.std.specs.declared.option.Option.{Option}
 use Rattle.std.specs.declared.option.Option.TheVariants.{None, Some}
 use Rattle.lvdc_map.specs.Hop.{hop_of}
-use Rattle.lvdc_text.specs.Lines.{word_texts_of, is_long, is_comment}
+use Rattle.lvdc_text.specs.Lines.{token_texts_of, is_long, is_comment}
 use Rattle.lvdc_text.specs.Numbers.{number_of, plain_number_of, below, word_in}
 use Rattle.lvdc_port.specs.Device.{Device}
 use Rattle.lvdc_port.specs.Supplies.{kind_at}
@@ -296,7 +296,7 @@ by_tokens devices s number (first ∷ tokens) = by_word devices (section_of firs
 abbrev pub after_line : List Device → Sections → ℕ → List ℕ → Result Sections DeckFault
 after_line devices s number text =
     if is_long text then Err (BadLine number)
-    else (if is_comment text then Ok s else by_tokens devices s number (word_texts_of text))
+    else (if is_comment text then Ok s else by_tokens devices s number (token_texts_of text))
 
 -- a call made these sections, or was refused by this fault, unless memory ran out
 abbrev pub Makes : {T : Type 0} → Result T DeckFault → Sections → Result Sections DeckFault → Type 0

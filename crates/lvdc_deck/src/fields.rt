@@ -1,11 +1,11 @@
 ghost use Rattle.std.specs.Prelude.{◌≡◌, ℕ, ◌+◌, ◌<◌, ◌≤◌, List, [], ◌∷◌, map, None, option_map, IfSome, IfNone, IfOk, All};
-ghost use Rattle.lvdc_text.specs.Lines.{IsWithin, part_of};
+ghost use Rattle.lvdc_text.specs.Lines.{LiesIn, token_text};
 ghost use Rattle.lvdc_deck.specs.Sections.{port_in, time_in, words_in, supply_of, pairs_from};
 
 use lvdc_fault::MOST_TIMES;
 use lvdc_map::Banks;
 use lvdc_port::Supply;
-use lvdc_text::{Line, octal, octal_word, part, plain_decimal};
+use lvdc_text::{Token, octal, octal_word, plain_decimal, token_text};
 use lvdc_word::NoMemory;
 use std::alloc::Global;
 
@@ -34,15 +34,15 @@ pub(crate) fn supplies_in(
     alloc: Global,
     port: u8,
     text: &[u8],
-    tokens: &[Line],
+    tokens: &[Token],
 ) -> Result<Option<Vec<Supply>>, NoMemory>
-    requires { All (IsWithin text.now) tokens.now }
+    requires { All (LiesIn text.now) tokens.now }
     ensures { IfOk result (λ found. option_map (λ supplies. supplies.items) found
-        ≡ option_map (supply_of port) (words_in (map (part_of text.now) tokens.now))) }
+        ≡ option_map (supply_of port) (words_in (map (token_text text.now) tokens.now))) }
 {
     let mut supplies = Vec::new(alloc);
     for token in tokens {
-        match octal_word(part(text, token)) {
+        match octal_word(token_text(text, token)) {
             Some(word) => supplies.push(Supply { port, word })?,
             None => return Ok(None),
         }
@@ -63,14 +63,14 @@ fn pair_in(least: u8, token: &[u8]) -> Option<u8>
 }
 
 /// The pairs that these tokens name, each by a digit of its own, rising.
-pub(crate) fn pairs_in(text: &[u8], tokens: &[Line]) -> Option<Banks>
-    requires { All (IsWithin text.now) tokens.now }
-    ensures { result ≡ pairs_from 0 (map (part_of text.now) tokens.now) }
+pub(crate) fn pairs_in(text: &[u8], tokens: &[Token]) -> Option<Banks>
+    requires { All (LiesIn text.now) tokens.now }
+    ensures { result ≡ pairs_from 0 (map (token_text text.now) tokens.now) }
 {
     let mut least = 0;
     let mut pairs = 0;
     for token in tokens {
-        match pair_in(least, part(text, token)) {
+        match pair_in(least, token_text(text, token)) {
             Some(pair) => {
                 pairs += 1 << pair;
                 least = pair + 1;

@@ -1,10 +1,10 @@
 ghost use Rattle.std.specs.Prelude.{◌≡◌, ◌<◌, ◌+◌, ◌-◌, ◌^◌, ℕ, List, length, map, option_map, IfSome, All};
-ghost use Rattle.lvdc_text.specs.Lines.{IsWithin, part_of};
+ghost use Rattle.lvdc_text.specs.Lines.{IsWithin, LiesIn, token_text};
 ghost use Rattle.lvdc_deck.specs.Sections.{section_of};
 ghost use Rattle.lvdc_deck.specs.Deck.{opened_by, opening_of, end_of, lines_after};
 
 use crate::section::{Opening, ProgramKind, Section};
-use lvdc_text::{Line, few_tokens, is_comment, is_long, is_word, place_of, spells};
+use lvdc_text::{Line, Token, few_tokens, is_comment, is_long, is_word, place_of, spells};
 
 /// The section that a first word opens.
 pub(crate) fn section_of(word: &[u8]) -> Option<Section>
@@ -30,9 +30,9 @@ pub(crate) fn section_of(word: &[u8]) -> Option<Section>
 }
 
 /// What the tokens of a line open that isn't skipped.
-fn opened_by(text: &[u8], tokens: &[Line]) -> Opening
-    requires { All (IsWithin text.now) tokens.now }
-    ensures { result ≡ opened_by (map (part_of text.now) tokens.now) }
+fn opened_by(text: &[u8], tokens: &[Token]) -> Opening
+    requires { All (LiesIn text.now) tokens.now }
+    ensures { result ≡ opened_by (map (token_text text.now) tokens.now) }
 {
     if is_word(b"IMAGE", text, tokens) {
         Opening::Program(ProgramKind::Image)

@@ -1,7 +1,7 @@
 //! What the lines of PORTS say.
 
 ghost use Rattle.std.specs.Prelude.{◌≡◌, ◌∷◌, ℕ, List, map, All};
-ghost use Rattle.lvdc_text.specs.Lines.{IsWithin, part_of};
+ghost use Rattle.lvdc_text.specs.Lines.{LiesIn, token_text};
 ghost use Rattle.lvdc_deck.specs.Sections.{is_unplugged, kind_left, tape_line, unplug_line, port_line, Makes};
 
 use crate::DeckFault;
@@ -9,7 +9,7 @@ use crate::fields::{port_in, supplies_in, time_in};
 use crate::said::Said;
 use lvdc_plain::Unplug;
 use lvdc_port::{Kind, PortDevice, kind_at};
-use lvdc_text::{Line, part, spells};
+use lvdc_text::{Token, spells, token_text};
 use std::alloc::Global;
 
 impl Said {
@@ -37,10 +37,10 @@ impl Said {
         devices: &Vec<Box<dyn PortDevice>>,
         number: u32,
         text: &[u8],
-        tokens: &[Line],
+        tokens: &[Token],
     ) -> Result<(), DeckFault>
-        requires { All (IsWithin text.now) tokens.now }
-        ensures { Makes result self.new (tape_line (map device_of devices.now.items) self.old number (map (part_of text.now) tokens.now)) }
+        requires { All (LiesIn text.now) tokens.now }
+        ensures { Makes result self.new (tape_line (map device_of devices.now.items) self.old number (map (token_text text.now) tokens.now)) }
     {
         let [first, words @ ..] = tokens else {
             return Err(DeckFault::BadLine(number));
@@ -48,7 +48,7 @@ impl Said {
         if words.is_empty() {
             return Err(DeckFault::BadLine(number));
         }
-        let Some(port) = port_in(part(text, first)) else {
+        let Some(port) = port_in(token_text(text, first)) else {
             return Err(DeckFault::BadLine(number));
         };
         let Some(supplies) = supplies_in(alloc, port, text, words)? else {
@@ -66,18 +66,18 @@ impl Said {
         devices: &Vec<Box<dyn PortDevice>>,
         number: u32,
         text: &[u8],
-        tokens: &[Line],
+        tokens: &[Token],
     ) -> Result<(), DeckFault>
-        requires { All (IsWithin text.now) tokens.now }
-        ensures { Makes result self.new (unplug_line (map device_of devices.now.items) self.old number (map (part_of text.now) tokens.now)) }
+        requires { All (LiesIn text.now) tokens.now }
+        ensures { Makes result self.new (unplug_line (map device_of devices.now.items) self.old number (map (token_text text.now) tokens.now)) }
     {
         let [first, second] = tokens else {
             return Err(DeckFault::BadLine(number));
         };
-        let Some(port) = port_in(part(text, first)) else {
+        let Some(port) = port_in(token_text(text, first)) else {
             return Err(DeckFault::BadLine(number));
         };
-        let Some(time) = time_in(part(text, second)) else {
+        let Some(time) = time_in(token_text(text, second)) else {
             return Err(DeckFault::BadLine(number));
         };
         if self.kind_left(devices, port).is_none() {
@@ -94,16 +94,16 @@ impl Said {
         devices: &Vec<Box<dyn PortDevice>>,
         number: u32,
         text: &[u8],
-        tokens: &[Line],
+        tokens: &[Token],
     ) -> Result<(), DeckFault>
-        requires { All (IsWithin text.now) tokens.now }
-        ensures { (first : List ℕ) (rest : List (List ℕ)) → map (part_of text.now) tokens.now ≡ first ∷ rest
+        requires { All (LiesIn text.now) tokens.now }
+        ensures { (first : List ℕ) (rest : List (List ℕ)) → map (token_text text.now) tokens.now ≡ first ∷ rest
             → Makes result self.new (port_line (map device_of devices.now.items) self.old number first rest) }
     {
         let [first, rest @ ..] = tokens else {
             return Err(DeckFault::BadLine(number));
         };
-        let word = part(text, first);
+        let word = token_text(text, first);
         if spells(word, b"TAPE") {
             self.tape_line(alloc, devices, number, text, rest)
         } else if spells(word, b"UNPLUG") {

@@ -1,6 +1,6 @@
 ghost use Rattle.std.specs.Prelude.{◌≡◌, ◌≢◌, ℕ, List, ◌-◌, ◌^◌, ◌<◌, ◌≤◌, ◌∷◌, length, map, true, IfOk, IfErr, All, Ok, Err};
 ghost use Rattle.lvdc_map.specs.Memory.{are_rising, AllThere};
-ghost use Rattle.lvdc_text.specs.Lines.{IsWithin, part_of};
+ghost use Rattle.lvdc_text.specs.Lines.{IsWithin, part_of, LiesIn, token_text};
 ghost use Rattle.lvdc_fault.specs.Events.{IsEvent};
 ghost use Rattle.lvdc_lines.specs.Lines.{fault_in, order_in};
 ghost use Rattle.lvdc_deck.specs.Sections.{nothing_said, entry_in, start_line, simplex_line, begun, ports_line, faults_line, order_line, run_line, debug_line, in_order, with_event, with_order, belongs, by_tokens, after_line, Makes};
@@ -23,7 +23,10 @@ use lvdc_orders::Orders;
 use lvdc_plain::Unplug;
 use lvdc_port::{PortDevice, Supply};
 use lvdc_source::is_name;
-use lvdc_text::{LONGEST_LINE, Line, decimal, few_tokens, is_comment, is_long, octal_word, part};
+use lvdc_text::{
+    LONGEST_LINE, Line, Token, decimal, few_tokens, is_comment, is_long, octal_word, part,
+    token_text,
+};
 use lvdc_word::{NoMemory, Seq};
 use std::alloc::Global;
 use std::marker::Model;
@@ -116,15 +119,15 @@ impl Said {
         alloc: Global,
         number: u32,
         text: &[u8],
-        tokens: &[Line],
+        tokens: &[Token],
     ) -> Result<(), DeckFault>
-        requires { All (IsWithin text.now) tokens.now }
-        ensures { Makes result self.new (start_line self.old number (map (part_of text.now) tokens.now)) }
+        requires { All (LiesIn text.now) tokens.now }
+        ensures { Makes result self.new (start_line self.old number (map (token_text text.now) tokens.now)) }
     {
         let [token] = tokens else {
             return Err(DeckFault::BadLine(number));
         };
-        let Some(entry) = self.entry_in(alloc, number, part(text, token))? else {
+        let Some(entry) = self.entry_in(alloc, number, token_text(text, token))? else {
             return Err(DeckFault::BadLine(number));
         };
         self.section = Section::Start;
@@ -132,9 +135,9 @@ impl Said {
         Ok(())
     }
 
-    fn simplex_line(&mut self, number: u32, text: &[u8], tokens: &[Line]) -> Result<(), DeckFault>
-        requires { All (IsWithin text.now) tokens.now }
-        ensures { Makes result self.new (simplex_line self.old number (map (part_of text.now) tokens.now)) }
+    fn simplex_line(&mut self, number: u32, text: &[u8], tokens: &[Token]) -> Result<(), DeckFault>
+        requires { All (LiesIn text.now) tokens.now }
+        ensures { Makes result self.new (simplex_line self.old number (map (token_text text.now) tokens.now)) }
     {
         if tokens.is_empty() {
             return Err(DeckFault::BadLine(number));
@@ -157,8 +160,8 @@ impl Said {
         }
     }
 
-    fn ports_line(&mut self, number: u32, text: &[u8], tokens: &[Line]) -> Result<(), DeckFault>
-        ensures { Makes result self.new (ports_line self.old number (map (part_of text.now) tokens.now)) }
+    fn ports_line(&mut self, number: u32, text: &[u8], tokens: &[Token]) -> Result<(), DeckFault>
+        ensures { Makes result self.new (ports_line self.old number (map (token_text text.now) tokens.now)) }
     {
         if !tokens.is_empty() {
             return Err(DeckFault::BadLine(number));
@@ -167,8 +170,8 @@ impl Said {
         Ok(())
     }
 
-    fn faults_line(&mut self, number: u32, text: &[u8], tokens: &[Line]) -> Result<(), DeckFault>
-        ensures { Makes result self.new (faults_line self.old number (map (part_of text.now) tokens.now)) }
+    fn faults_line(&mut self, number: u32, text: &[u8], tokens: &[Token]) -> Result<(), DeckFault>
+        ensures { Makes result self.new (faults_line self.old number (map (token_text text.now) tokens.now)) }
     {
         if !tokens.is_empty() {
             return Err(DeckFault::BadLine(number));
@@ -177,8 +180,8 @@ impl Said {
         Ok(())
     }
 
-    fn order_line(&mut self, number: u32, text: &[u8], tokens: &[Line]) -> Result<(), DeckFault>
-        ensures { Makes result self.new (order_line self.old number (map (part_of text.now) tokens.now)) }
+    fn order_line(&mut self, number: u32, text: &[u8], tokens: &[Token]) -> Result<(), DeckFault>
+        ensures { Makes result self.new (order_line self.old number (map (token_text text.now) tokens.now)) }
     {
         if !tokens.is_empty() {
             return Err(DeckFault::BadLine(number));
@@ -187,14 +190,14 @@ impl Said {
         Ok(())
     }
 
-    fn run_line(&mut self, number: u32, text: &[u8], tokens: &[Line]) -> Result<(), DeckFault>
-        requires { All (IsWithin text.now) tokens.now }
-        ensures { Makes result self.new (run_line self.old number (map (part_of text.now) tokens.now)) }
+    fn run_line(&mut self, number: u32, text: &[u8], tokens: &[Token]) -> Result<(), DeckFault>
+        requires { All (LiesIn text.now) tokens.now }
+        ensures { Makes result self.new (run_line self.old number (map (token_text text.now) tokens.now)) }
     {
         let [token] = tokens else {
             return Err(DeckFault::BadLine(number));
         };
-        let Some(count) = decimal(part(text, token), 9) else {
+        let Some(count) = decimal(token_text(text, token), 9) else {
             return Err(DeckFault::BadLine(number));
         };
         if count > MOST_TIMES {
@@ -206,8 +209,8 @@ impl Said {
         Ok(())
     }
 
-    fn debug_line(&mut self, number: u32, text: &[u8], tokens: &[Line]) -> Result<(), DeckFault>
-        ensures { Makes result self.new (debug_line self.old number (map (part_of text.now) tokens.now)) }
+    fn debug_line(&mut self, number: u32, text: &[u8], tokens: &[Token]) -> Result<(), DeckFault>
+        ensures { Makes result self.new (debug_line self.old number (map (token_text text.now) tokens.now)) }
     {
         if !tokens.is_empty() {
             return Err(DeckFault::BadLine(number));
@@ -223,10 +226,10 @@ impl Said {
         section: Section,
         number: u32,
         text: &[u8],
-        tokens: &[Line],
+        tokens: &[Token],
     ) -> Result<(), DeckFault>
-        requires { All (IsWithin text.now) tokens.now }
-        ensures { Makes result self.new (in_order section self.old number (map (part_of text.now) tokens.now)) }
+        requires { All (LiesIn text.now) tokens.now }
+        ensures { Makes result self.new (in_order section self.old number (map (token_text text.now) tokens.now)) }
     {
         if section.rank() <= self.section.rank() {
             return Err(DeckFault::BadSection(number));
@@ -244,9 +247,9 @@ impl Said {
     }
 
     /// Takes a line of FAULTS.
-    fn take_event(&mut self, number: u32, text: &[u8], tokens: &[Line]) -> Result<(), DeckFault>
-        requires { All (IsWithin text.now) tokens.now }
-        ensures { Makes result self.new (with_event self.old number (fault_in (map (part_of text.now) tokens.now))) }
+    fn take_event(&mut self, number: u32, text: &[u8], tokens: &[Token]) -> Result<(), DeckFault>
+        requires { All (LiesIn text.now) tokens.now }
+        ensures { Makes result self.new (with_event self.old number (fault_in (map (token_text text.now) tokens.now))) }
     {
         let Some(event) = event_of(text, tokens) else {
             return Err(DeckFault::BadLine(number));
@@ -259,9 +262,9 @@ impl Said {
     }
 
     /// Takes a line of ORDER.
-    fn take_order(&mut self, number: u32, text: &[u8], tokens: &[Line]) -> Result<(), DeckFault>
-        requires { All (IsWithin text.now) tokens.now }
-        ensures { Makes result self.new (with_order self.old number (order_in (map (part_of text.now) tokens.now))) }
+    fn take_order(&mut self, number: u32, text: &[u8], tokens: &[Token]) -> Result<(), DeckFault>
+        requires { All (LiesIn text.now) tokens.now }
+        ensures { Makes result self.new (with_order self.old number (order_in (map (token_text text.now) tokens.now))) }
     {
         let Some(order) = order_of(text, tokens) else {
             return Err(DeckFault::BadLine(number));
@@ -279,10 +282,10 @@ impl Said {
         devices: &Vec<Box<dyn PortDevice>>,
         number: u32,
         text: &[u8],
-        tokens: &[Line],
+        tokens: &[Token],
     ) -> Result<(), DeckFault>
-        requires within { All (IsWithin text.now) tokens.now }
-        ensures { (first : List ℕ) (rest : List (List ℕ)) → map (part_of text.now) tokens.now ≡ first ∷ rest → Makes result self.new
+        requires within { All (LiesIn text.now) tokens.now }
+        ensures { (first : List ℕ) (rest : List (List ℕ)) → map (token_text text.now) tokens.now ≡ first ∷ rest → Makes result self.new
             (belongs (map device_of devices.now.items) self.old.section self.old number first rest) }
     {
         match self.section {
@@ -299,15 +302,15 @@ impl Said {
         devices: &Vec<Box<dyn PortDevice>>,
         number: u32,
         text: &[u8],
-        tokens: &[Line],
+        tokens: &[Token],
     ) -> Result<(), DeckFault>
-        requires within { All (IsWithin text.now) tokens.now }
-        ensures { Makes result self.new (by_tokens (map device_of devices.now.items) self.old number (map (part_of text.now) tokens.now)) }
+        requires within { All (LiesIn text.now) tokens.now }
+        ensures { Makes result self.new (by_tokens (map device_of devices.now.items) self.old number (map (token_text text.now) tokens.now)) }
     {
         let [first, rest @ ..] = tokens else {
             return Ok(());
         };
-        match section_of(part(text, first)) {
+        match section_of(token_text(text, first)) {
             Some(section) => self.open(alloc, section, number, text, rest),
             None => self.take_other(alloc, devices, number, text, tokens),
         }

@@ -1,5 +1,5 @@
 ghost use Rattle.std.specs.Prelude.{◌≡◌, [], ◌∷◌, map, None, IfSome, IfNone, All};
-ghost use Rattle.lvdc_text.specs.Lines.{IsWithin, part_of};
+ghost use Rattle.lvdc_text.specs.Lines.{LiesIn, token_text};
 ghost use Rattle.lvdc_fault.specs.Events.{IsEvent};
 ghost use Rattle.lvdc_lines.specs.Lines.{fault_in, order_in};
 ghost use Rattle.lvdc_orders.specs.Orders.{order_of};
@@ -9,18 +9,18 @@ use crate::copies::{deaf_in, flip_in, force_in, lag_in};
 use arrayvec::ArrayVec;
 use lvdc_fault::Event;
 use lvdc_orders::Order;
-use lvdc_text::{Line, part};
+use lvdc_text::{Token, token_text};
 
 /// The event of a fault line with these tokens.
-pub fn event_of(text: &[u8], tokens: &[Line]) -> Option<Event>
-    requires { All (IsWithin text.now) tokens.now }
-    ensures event { result ≡ fault_in (map (part_of text.now) tokens.now) }
+pub fn event_of(text: &[u8], tokens: &[Token]) -> Option<Event>
+    requires { All (LiesIn text.now) tokens.now }
+    ensures event { result ≡ fault_in (map (token_text text.now) tokens.now) }
     ensures ranges { IfSome result IsEvent }
 {
     let [first, fields @ ..] = tokens else {
         return None;
     };
-    let word = part(text, first);
+    let word = token_text(text, first);
     if word == b"FLIP".as_slice() {
         flip_in(text, fields)
     } else if word == b"FORCE".as_slice() {
@@ -56,13 +56,13 @@ fn copies_in(letters: &[u8]) -> Option<ArrayVec<u8, 21>>
 }
 
 /// The order of an order line with these tokens: the letters A to U, each once.
-pub fn order_of(text: &[u8], tokens: &[Line]) -> Option<Order>
-    requires { All (IsWithin text.now) tokens.now }
-    ensures { result ≡ order_in (map (part_of text.now) tokens.now) }
+pub fn order_of(text: &[u8], tokens: &[Token]) -> Option<Order>
+    requires { All (LiesIn text.now) tokens.now }
+    ensures { result ≡ order_in (map (token_text text.now) tokens.now) }
 {
     let [token] = tokens else {
         return None;
     };
-    let copies = copies_in(part(text, token))?;
+    let copies = copies_in(token_text(text, token))?;
     Order::new(copies.as_slice())
 }

@@ -3,7 +3,7 @@ use Rattle.std.proofs.Common.{◌≡◌, ℕ, List, [], ◌∷◌, map, length, 
 use Rattle.std.specs.Prelude.{codes}
 use Rattle.std.specs.Fmt.{digits}
 use Rattle.std.specs.declared.option.Option.TheVariants.{None}
-use Rattle.lvdc_text.specs.Lines.{lines_from, words_from}
+use Rattle.lvdc_text.specs.Lines.{lines_from, tokens_from}
 use Rattle.lvdc_text.specs.Numbers.{word_in}
 use Rattle.lvdc_command_run.specs.declared.job.Engine.TheVariants.{Guarded, Through, Plain}
 use Rattle.lvdc_command_asm.specs.declared.reply.Product.TheVariants.{Image, Listing}
@@ -59,7 +59,7 @@ of_nothing = refl
 
 -- a campaign wants a section CAMPAIGN behind RUN
 a_campaign_without_its_section : command_answer Campaign (codes "IMAGE\nLVDC 1\nEND\nRUN 1\n") [] ≡ answer_with 2 (codes "REFUSED BadSection 5\n") []
-unfolding lines_from words_from word_in told_from deck_from entry_in words_told banks_named banks_in image_of digits from_campaign scripts_from
+unfolding lines_from tokens_from word_in told_from deck_from entry_in words_told banks_named banks_in image_of digits from_campaign scripts_from
 a_campaign_without_its_section = refl
 
 -- ---- the most bytes of an input

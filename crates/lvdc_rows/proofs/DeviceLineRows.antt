@@ -9,7 +9,7 @@ use Rattle.lvdc_save.specs.Reading.{told_from, told_entries}
 use Rattle.lvdc_lines.specs.Fields.{step_in, twin_in, pair_in, cell_in, module_copy_in, index_in, span_in, place_in}
 use Rattle.lvdc_source.specs.Names.{is_name}
 use Rattle.lvdc_text.specs.Joined.{text_of}
-use Rattle.lvdc_text.specs.Lines.{lines_from, words_from}
+use Rattle.lvdc_text.specs.Lines.{lines_from, tokens_from}
 use Rattle.lvdc_text.specs.Numbers.{octal_text, word_in}
 use Rattle.lvdc_vote.specs.Bits.{majority, flipped, forced}
 use Rattle.lvdc_word.specs.Cell.{with_stuck}
@@ -40,24 +40,24 @@ answered lines = resume_answer (text_of (lines_before ++ lines ++ codes "ABCDEFG
 
 -- no device is there
 unplugged_where_nothing_is : answered (codes "UNPLUG 020 5" ∷ []) ≡ answer_with 2 (codes "REFUSED NoDevice 26\n") devices
-unfolding answered lines_before devices lines_from words_from octal_text word_in step_in twin_in pair_in cell_in module_copy_in index_in span_in place_in is_name with_stuck majority flipped forced lines_of digits told_from told_entries
+unfolding answered lines_before devices lines_from tokens_from octal_text word_in step_in twin_in pair_in cell_in module_copy_in index_in span_in place_in is_name with_stuck majority flipped forced lines_of digits told_from told_entries
 unplugged_where_nothing_is = refl
 
 -- a device is taken away once
 unplugged_twice : answered (codes "UNPLUG 000 5" ∷ codes "UNPLUG 000 6" ∷ []) ≡ answer_with 2 (codes "REFUSED NoDevice 27\n") devices
-unfolding answered lines_before devices lines_from words_from octal_text word_in step_in twin_in pair_in cell_in module_copy_in index_in span_in place_in is_name with_stuck majority flipped forced lines_of digits told_from told_entries
+unfolding answered lines_before devices lines_from tokens_from octal_text word_in step_in twin_in pair_in cell_in module_copy_in index_in span_in place_in is_name with_stuck majority flipped forced lines_of digits told_from told_entries
 unplugged_twice = refl
 
 -- one that was taken away before the state holds no word in it: its first STATE line is named
 held_by_none : answered (codes "STATE 000 000000005" ∷ codes "UNPLUG 000 0" ∷ []) ≡ answer_with 2 (codes "REFUSED NoDevice 26\n") devices
-unfolding answered lines_before devices lines_from words_from octal_text word_in step_in twin_in pair_in cell_in module_copy_in index_in span_in place_in is_name with_stuck majority flipped forced lines_of digits told_from told_entries
+unfolding answered lines_before devices lines_from tokens_from octal_text word_in step_in twin_in pair_in cell_in module_copy_in index_in span_in place_in is_name with_stuck majority flipped forced lines_of digits told_from told_entries
 held_by_none = refl
 
 -- a ticker holds no word, and a latch one
 a_word_of_a_ticker : answered (codes "STATE 016 000000001" ∷ []) ≡ answer_with 2 (codes "REFUSED NoDevice 26\n") devices
-unfolding answered lines_before devices lines_from words_from octal_text word_in step_in twin_in pair_in cell_in module_copy_in index_in span_in place_in is_name with_stuck majority flipped forced lines_of digits told_from told_entries
+unfolding answered lines_before devices lines_from tokens_from octal_text word_in step_in twin_in pair_in cell_in module_copy_in index_in span_in place_in is_name with_stuck majority flipped forced lines_of digits told_from told_entries
 a_word_of_a_ticker = refl
 
 two_words_of_a_latch : answered (codes "STATE 014 000000001" ∷ codes "STATE 014 000000001" ∷ []) ≡ answer_with 2 (codes "REFUSED BadSave 27\n") devices
-unfolding answered lines_before devices lines_from words_from octal_text word_in step_in twin_in pair_in cell_in module_copy_in index_in span_in place_in is_name with_stuck majority flipped forced lines_of digits told_from told_entries
+unfolding answered lines_before devices lines_from tokens_from octal_text word_in step_in twin_in pair_in cell_in module_copy_in index_in span_in place_in is_name with_stuck majority flipped forced lines_of digits told_from told_entries
 two_words_of_a_latch = refl

@@ -2,7 +2,7 @@
 use Rattle.std.proofs.Common.{◌≡◌, ℕ, List, [], ◌∷◌, ◌++◌, true, false, Some, None, map, codes, refl}
 use Rattle.std.specs.Fmt.{digits}
 use Rattle.lvdc_map.specs.Address.{Spot}
-use Rattle.lvdc_text.specs.Lines.{words_from}
+use Rattle.lvdc_text.specs.Lines.{tokens_from}
 use Rattle.lvdc_text.specs.Numbers.{octal_text, word_in}
 use Rattle.lvdc_fault.specs.declared.event.Event.{Event}
 use Rattle.lvdc_fault.specs.declared.event.Event.TheVariants.{Flip, Force, Lag, Deaf, Damage, Stick, Dead}
@@ -61,26 +61,26 @@ entries_printed = refl
 -- ---- read
 
 events_read : map entry_of texts ≡ map (λ e. Some (says.Fault e)) events
-unfolding events texts place digits octal_text words_from word_in lines_of step_in twin_in pair_in cell_in module_copy_in index_in span_in place_in
+unfolding events texts place digits octal_text tokens_from word_in lines_of step_in twin_in pair_in cell_in module_copy_in index_in span_in place_in
 events_read = refl
 
 entries_read : map entry_of lines ≡ map (λ e. Some e) entries
-unfolding entries lines place digits octal_text words_from word_in lines_of step_in twin_in pair_in cell_in module_copy_in index_in span_in place_in
+unfolding entries lines place digits octal_text tokens_from word_in lines_of step_in twin_in pair_in cell_in module_copy_in index_in span_in place_in
 entries_read = refl
 
 -- the greatest numbers
 limits : map entry_of (codes "STEPS 3000000" ∷ codes "COUNT 1000000" ∷ codes "UNPLUG 000 1000000" ∷ codes "SIMPLEX 0 1 2 3" ∷ [])
     ≡ Some (says.Steps 3000000) ∷ Some (says.Count 1000000) ∷ Some (says.Unplug (record { port = 0; time = 1000000 })) ∷ Some (says.Simplex 15) ∷ []
-unfolding digits octal_text words_from word_in lines_of
+unfolding digits octal_text tokens_from word_in lines_of
 limits = refl
 
 -- one more, a field too many, too few digits, and a word that isn't there
 no_entries : map entry_of (codes "STEPS 3000001" ∷ codes "COUNT 1000001" ∷ codes "UNPLUG 000 1000001" ∷ codes "STEPS 1 2" ∷ codes "COUNT 1 2" ∷ codes "SELECT 0 1 2 0" ∷ codes "SELECT 0 1 1" ∷ codes "SELECT 0 1 1 0 0" ∷ [])
     ≡ None ∷ None ∷ None ∷ None ∷ None ∷ None ∷ None ∷ None ∷ []
-unfolding digits octal_text words_from word_in lines_of
+unfolding digits octal_text tokens_from word_in lines_of
 no_entries = refl
 
 nor_these : map entry_of (codes "SIMPLEX" ∷ codes "SIMPLEX 4" ∷ codes "SIMPLEX 1 0" ∷ codes "STATE 400 000000007" ∷ codes "STATE 14 000000007" ∷ codes "OUT 12 014 7" ∷ codes "IN 12 014 000000007 1" ∷ codes "REPAIR 7 3 17 376 1 SWITCHED" ∷ codes "CELL 1 3 17 376 2000000000" ∷ codes "CELL 2 3 17 376 0000000001" ∷ codes "CELL 1 4 17 376 0000000001" ∷ codes "WORD 8 01 003 000000077" ∷ codes "END 1" ∷ codes "ENDS" ∷ [])
     ≡ None ∷ None ∷ None ∷ None ∷ None ∷ None ∷ None ∷ None ∷ None ∷ None ∷ None ∷ None ∷ None ∷ None ∷ []
-unfolding digits octal_text words_from word_in lines_of twin_in pair_in cell_in place_in
+unfolding digits octal_text tokens_from word_in lines_of twin_in pair_in cell_in place_in
 nor_these = refl

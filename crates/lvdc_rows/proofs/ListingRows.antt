@@ -17,7 +17,7 @@ use Rattle.lvdc_source.specs.Numbers.{signed_of, octals_of}
 use Rattle.lvdc_source.specs.Operands.{address_in, literal_in, body_in}
 use Rattle.lvdc_source.specs.Operations.{operation_of}
 use Rattle.lvdc_source.specs.Source.{meaning_of, after_end, items_from}
-use Rattle.lvdc_text.specs.Lines.{lines_from, words_from}
+use Rattle.lvdc_text.specs.Lines.{lines_from, tokens_from}
 use Rattle.lvdc_text.specs.Numbers.{octal_text, word_in}
 use Rattle.std.specs.Fmt.{digits}
 use Rattle.lvdc_reply.specs.Answer.{answer_with}
@@ -25,10 +25,10 @@ use Rattle.lvdc_reply.specs.Answer.{answer_with}
 -- a comment is listed, and END is the last line
 up_to_end : line_rows [] (record { number = 8; text = codes "* ALL" } ∷ record { number = 9; text = codes " END" } ∷ record { number = 10; text = codes "MORE" } ∷ [])
     ≡ codes "      8                      * ALL" ∷ codes "      9                       END" ∷ []
-unfolding words_from digits
+unfolding tokens_from digits
 up_to_end = refl
 
 undefined_in_the_expansion : macro_answer Source (codes "        ORG   0,00,0,000\n        CLA   X\n        END\n") []
     ≡ answer_with 0 (codes "        ORG   0,00,0,000\n        CLA   X\n        END\n") []
-unfolding lines_from words_from octal_text word_in is_name parts_of signed_of octals_of address_in literal_in body_in operation_of meaning_of after_end items_from placement least nothing pieces called expanded_from bytes_of body_of substituted image_text digits
+unfolding lines_from tokens_from octal_text word_in is_name parts_of signed_of octals_of address_in literal_in body_in operation_of meaning_of after_end items_from placement least nothing pieces called expanded_from bytes_of body_of substituted image_text digits
 undefined_in_the_expansion = refl

@@ -5,7 +5,7 @@ use Rattle.std.specs.Fmt.{digits}
 use Rattle.lvdc_image.specs.Image.{Contents}
 use Rattle.lvdc_image.specs.Reading.{entry_in, words_from as words_told, banks_named, banks_in, image_of}
 use Rattle.lvdc_lines.specs.Fields.{pair_in, place_in}
-use Rattle.lvdc_text.specs.Lines.{lines_from, words_from}
+use Rattle.lvdc_text.specs.Lines.{lines_from, tokens_from}
 use Rattle.lvdc_text.specs.Numbers.{octal_text, word_in}
 use Rattle.lvdc_uplink.specs.Frames.{Frame, Load, is_same_frame, staged, frame_check, load_check}
 use Rattle.lvdc_uplink.specs.Heard.{Heard, opened, hears, changed, last_id, last_check}
@@ -22,29 +22,29 @@ is_message : List ℕ → Bool
 is_message text = is_some (message_of text)
 
 ids : (is_message (codes "OPEN 999999 64") ≡ true) × (is_message (codes "OPEN 0000001 1") ≡ false) × (is_message (codes "OPEN 1 65") ≡ false)
-unfolding is_message words_from word_in octal_text pair_in place_in id_in count_in digits
+unfolding is_message tokens_from word_in octal_text pair_in place_in id_in count_in digits
 ids = (refl, refl, refl)
 
 ids_above_64 : (is_message (codes "FRAME 65 64 0 00 000 1 1") ≡ true) × (is_message (codes "COMMIT 65 1") ≡ true) × (is_message (codes "ABANDON 65") ≡ true)
-unfolding is_message words_from word_in octal_text pair_in place_in id_in count_in digits
+unfolding is_message tokens_from word_in octal_text pair_in place_in id_in count_in digits
 ids_above_64 = (refl, refl, refl)
 
 numbers_of_frames : (is_message (codes "FRAME 1 65 0 00 000 1 1") ≡ false) × (is_message (codes "FRAME 1 0 0 00 000 1 1") ≡ false)
-unfolding is_message words_from word_in octal_text pair_in place_in id_in count_in digits
+unfolding is_message tokens_from word_in octal_text pair_in place_in id_in count_in digits
 numbers_of_frames = (refl, refl)
 
 words_of_frames : (is_message (codes "FRAME 1 1 0 00 000 7") ≡ false) × (is_message (codes "FRAME 1 1 0 00 000 1 2 3 4 5 6 7 1 7") ≡ true)
     × (is_message (codes "FRAME 1 1 0 00 000 1 2 3 4 5 6 7 1 2 7") ≡ false)
-unfolding is_message words_from word_in octal_text pair_in place_in id_in count_in digits
+unfolding is_message tokens_from word_in octal_text pair_in place_in id_in count_in digits
 words_of_frames = (refl, refl, refl)
 
 no_other_word : is_message (codes "FLY 1") ≡ false
-unfolding is_message words_from word_in octal_text pair_in place_in id_in count_in digits
+unfolding is_message tokens_from word_in octal_text pair_in place_in id_in count_in digits
 no_other_word = refl
 
 -- 120 bytes, and 121
 longest_line : (is_message (codes "ABANDON 1" ++ replicate 111 32) ≡ true) × (is_message (codes "ABANDON 1" ++ replicate 112 32) ≡ false)
-unfolding is_message words_from word_in octal_text pair_in place_in id_in count_in digits
+unfolding is_message tokens_from word_in octal_text pair_in place_in id_in count_in digits
 longest_line = (refl, refl)
 
 -- ---- frames and check words
@@ -116,11 +116,11 @@ open_again = refl
 
 committed_in_order : hears (codes "COMMIT 7 15") (Committed 7) two_loads
     ≡ record { load = None; done = load 5 (Some (frame 1 (2 ∷ [])) ∷ []) ∷ load 7 (Some (frame 2 (3 ∷ [])) ∷ []) ∷ [] }
-unfolding two_loads load frame words_from word_in octal_text pair_in place_in id_in count_in digits
+unfolding two_loads load frame tokens_from word_in octal_text pair_in place_in id_in count_in digits
 committed_in_order = refl
 
 abandoned : hears (codes "ABANDON 7") (Abandoned 7) two_loads ≡ record { load = None; done = two_loads.done }
-unfolding two_loads load frame words_from word_in octal_text pair_in place_in id_in count_in digits
+unfolding two_loads load frame tokens_from word_in octal_text pair_in place_in id_in count_in digits
 abandoned = refl
 
 -- the later load writes last, over the image's own word
@@ -138,9 +138,9 @@ last_load = (refl, refl)
 -- ---- the headings
 
 headings_with_blanks : request_of (codes " IMAGE \nLVDC 1\nEND\n UPLINK \n") ≡ Ok (record { image = record { words = []; start = None; banks = 0 }; messages = [] })
-unfolding lines_from words_from from_heading word_in entry_in words_told banks_named banks_in image_of
+unfolding lines_from tokens_from from_heading word_in entry_in words_told banks_named banks_in image_of
 headings_with_blanks = refl
 
 no_image : (request_of [] ≡ Err (NoProgram 1)) × (request_of (codes "\n\n") ≡ Err (NoProgram 3))
-unfolding lines_from words_from from_heading
+unfolding lines_from tokens_from from_heading
 no_image = (refl, refl)

@@ -5,7 +5,7 @@ use Rattle.std.specs.Fmt.{digits}
 use Rattle.std.specs.declared.option.Option.TheVariants.{Some, None}
 use Rattle.lvdc_port.specs.declared.device.Kind.TheVariants.{Tape, Latch, Ticker, Recorder}
 use Rattle.lvdc_machine.specs.declared.mode.Mode.TheVariants.{Guarded, Through}
-use Rattle.lvdc_text.specs.Lines.{lines_from, words_from}
+use Rattle.lvdc_text.specs.Lines.{lines_from, tokens_from}
 use Rattle.lvdc_text.specs.Numbers.{word_in}
 use Rattle.lvdc_image.specs.Reading.{entry_in, words_from as words_told, banks_named, banks_in, image_of}
 use Rattle.lvdc_lines.specs.Noted.{lines_below}
@@ -47,9 +47,9 @@ deck : List ℕ
 deck = codes "IMAGE\nLVDC 1\nEND\nRUN 0\n"
 
 a_trace : inquiry_answer (Trace Guarded (record { first = 0; count = 1 })) deck [] ≡ answer_with 0 (codes "LVDC TRACE\nEND DONE\n") []
-unfolding deck lines_from words_from word_in told_from deck_from entry_in words_told banks_named banks_in image_of digits lines_below
+unfolding deck lines_from tokens_from word_in told_from deck_from entry_in words_told banks_named banks_in image_of digits lines_below
 a_trace = refl
 
 a_form : inquiry_answer Form deck [] ≡ answer_with 0 (codes "FORM YES\n") []
-unfolding deck lines_from words_from word_in told_from deck_from entry_in words_told banks_named banks_in image_of digits
+unfolding deck lines_from tokens_from word_in told_from deck_from entry_in words_told banks_named banks_in image_of digits
 a_form = refl

@@ -16,7 +16,7 @@ use Rattle.lvdc_save.specs.declared.fault.SaveFault.{SaveFault}
 use Rattle.lvdc_save.specs.declared.saved.Saved.{Saved}
 use Rattle.lvdc_lines.specs.Fields.{step_in, twin_in, pair_in, cell_in, module_copy_in, index_in, span_in, place_in}
 use Rattle.lvdc_source.specs.Names.{is_name}
-use Rattle.lvdc_text.specs.Lines.{lines_from, words_from}
+use Rattle.lvdc_text.specs.Lines.{lines_from, tokens_from}
 use Rattle.lvdc_text.specs.Numbers.{octal_text, word_in}
 use Rattle.lvdc_vote.specs.Bits.{majority, flipped, forced}
 use Rattle.lvdc_word.specs.Cell.{with_stuck}
@@ -47,7 +47,7 @@ second_half : end_of (saved_of [] (codes "LVDC SAVE 1\nSTEPS 3\nCOUNT 3\nCOPY 1 
       repairs = record { step = 1; at = record { pair = 0; sector = 1; loc = 0 }; twin = 0; switched = true } ∷ [];
       counts = (0 ∷ 0 ∷ 0 ∷ []) ∷ (0 ∷ 0 ∷ 0 ∷ []) ∷ (0 ∷ 0 ∷ 0 ∷ []) ∷ (0 ∷ 0 ∷ 0 ∷ []) ∷ (1 ∷ 0 ∷ 0 ∷ []) ∷ (0 ∷ 0 ∷ 0 ∷ []) ∷ (0 ∷ 0 ∷ 0 ∷ []) ∷ [];
     })
-unfolding end_of lines_from words_from octal_text word_in step_in twin_in pair_in cell_in module_copy_in index_in span_in place_in is_name with_stuck majority flipped forced lines_of lines_below digits told_from told_entries counts_below
+unfolding end_of lines_from tokens_from octal_text word_in step_in twin_in pair_in cell_in module_copy_in index_in span_in place_in is_name with_stuck majority flipped forced lines_of lines_below digits told_from told_entries counts_below
 second_half = refl
 
 -- it meets the step that is not admissible
@@ -58,30 +58,30 @@ inadmissible : end_of (saved_of [] (codes "LVDC SAVE 1\nSTEPS 3\nCOUNT 3\nCOPY 1
       repairs = [];
       counts = (0 ∷ 0 ∷ 0 ∷ []) ∷ (0 ∷ 0 ∷ 0 ∷ []) ∷ (0 ∷ 0 ∷ 0 ∷ []) ∷ (0 ∷ 0 ∷ 0 ∷ []) ∷ (0 ∷ 0 ∷ 0 ∷ []) ∷ (0 ∷ 0 ∷ 0 ∷ []) ∷ (0 ∷ 0 ∷ 0 ∷ []) ∷ [];
     })
-unfolding end_of lines_from words_from octal_text word_in step_in twin_in pair_in cell_in module_copy_in index_in span_in place_in is_name with_stuck majority flipped forced lines_of lines_below digits told_from told_entries counts_below
+unfolding end_of lines_from tokens_from octal_text word_in step_in twin_in pair_in cell_in module_copy_in index_in span_in place_in is_name with_stuck majority flipped forced lines_of lines_below digits told_from told_entries counts_below
 inadmissible = refl
 
 -- refusals: of the title, of a line that is missing, of one behind the end
 no_title : resume_answer (codes "LVDC SAVE 2\n") [] ≡ answer_with 2 (codes "REFUSED BadSave 1\n") []
-unfolding lines_from words_from octal_text word_in step_in twin_in pair_in cell_in module_copy_in index_in span_in place_in is_name with_stuck majority flipped forced lines_of lines_below digits told_from told_entries counts_below
+unfolding lines_from tokens_from octal_text word_in step_in twin_in pair_in cell_in module_copy_in index_in span_in place_in is_name with_stuck majority flipped forced lines_of lines_below digits told_from told_entries counts_below
 no_title = refl
 
 no_text : resume_answer (codes "") [] ≡ answer_with 2 (codes "REFUSED BadSave 1\n") []
-unfolding lines_from words_from octal_text word_in step_in twin_in pair_in cell_in module_copy_in index_in span_in place_in is_name with_stuck majority flipped forced lines_of lines_below digits told_from told_entries counts_below
+unfolding lines_from tokens_from octal_text word_in step_in twin_in pair_in cell_in module_copy_in index_in span_in place_in is_name with_stuck majority flipped forced lines_of lines_below digits told_from told_entries counts_below
 no_text = refl
 
 a_line_too_few : resume_answer (codes "LVDC SAVE 1\nSTEPS 3\nCOUNT 3\nCOPY 1 1 0 000000000 000000000\nCOPY 1 3 0 000000000 000000000\nCOPY 2 1 0 000002004 000000000\nCOPY 2 2 0 000002004 000000000\nCOPY 2 3 0 000002004 000000000\nCOPY 3 1 0 000017000\nCOPY 3 2 0 000017000\nCOPY 3 3 0 000017000\nCOPY 4 1 0 000000012\nCOPY 4 2 0 000000012\nCOPY 4 3 0 000000012\nCOPY 5 1 1 177777776 177777777\nCOPY 5 2 0 177777777 177777777\nCOPY 5 3 0 177777777 177777777\nCOPY 6 1 0 000000000 000000000 000000000 000000000 000000000\nCOPY 6 2 0 000000000 000000000 000000000 000000000 000000000\nCOPY 6 3 0 000000000 000000000 000000000 000000000 000000000\nCOPY 7 1 0 000000000 000000000\nCOPY 7 2 0 000000000 000000000\nCOPY 7 3 0 000000000 000000000\nSELECT 1 0 0 0\nCELL 0 0 00 000 1000037000\nCELL 0 0 00 001 1000027001\nCELL 0 0 00 002 1000033002\nCELL 0 0 00 003 1000010003\nCELL 0 0 01 000 1377757777\nCELL 0 0 01 001 1000000001\nCELL 1 0 00 000 1000037000\nCELL 1 0 00 001 1000027001\nCELL 1 0 00 002 1000033002\nCELL 1 0 00 003 1000010003\nCELL 1 0 01 000 1377757777\nCELL 1 0 01 001 1000000001\nWORD 0 00 000 000017000\nWORD 0 00 001 000007001\nWORD 0 00 002 000013002\nWORD 0 00 003 000010003\nWORD 0 01 000 177777777\nWORD 0 01 001 000000001\nREPAIR 1 0 01 000 0 SWITCH\nDAMAGE 0 0 01 000 1 0000000001\nFLIP 5 1 2 2 0 000000001\nABCDEFGHIJKLMNOPQRSTU\nEND\n") [] ≡ answer_with 2 (codes "REFUSED BadSave 5\n") []
-unfolding lines_from words_from octal_text word_in step_in twin_in pair_in cell_in module_copy_in index_in span_in place_in is_name with_stuck majority flipped forced lines_of lines_below digits told_from told_entries counts_below
+unfolding lines_from tokens_from octal_text word_in step_in twin_in pair_in cell_in module_copy_in index_in span_in place_in is_name with_stuck majority flipped forced lines_of lines_below digits told_from told_entries counts_below
 a_line_too_few = refl
 
 after_the_end : resume_answer (codes "LVDC SAVE 1\nSTEPS 3\nCOUNT 3\nCOPY 1 1 0 000000000 000000000\nCOPY 1 2 0 000000000 000000000\nCOPY 1 3 0 000000000 000000000\nCOPY 2 1 0 000002004 000000000\nCOPY 2 2 0 000002004 000000000\nCOPY 2 3 0 000002004 000000000\nCOPY 3 1 0 000017000\nCOPY 3 2 0 000017000\nCOPY 3 3 0 000017000\nCOPY 4 1 0 000000012\nCOPY 4 2 0 000000012\nCOPY 4 3 0 000000012\nCOPY 5 1 1 177777776 177777777\nCOPY 5 2 0 177777777 177777777\nCOPY 5 3 0 177777777 177777777\nCOPY 6 1 0 000000000 000000000 000000000 000000000 000000000\nCOPY 6 2 0 000000000 000000000 000000000 000000000 000000000\nCOPY 6 3 0 000000000 000000000 000000000 000000000 000000000\nCOPY 7 1 0 000000000 000000000\nCOPY 7 2 0 000000000 000000000\nCOPY 7 3 0 000000000 000000000\nSELECT 1 0 0 0\nCELL 0 0 00 000 1000037000\nCELL 0 0 00 001 1000027001\nCELL 0 0 00 002 1000033002\nCELL 0 0 00 003 1000010003\nCELL 0 0 01 000 1377757777\nCELL 0 0 01 001 1000000001\nCELL 1 0 00 000 1000037000\nCELL 1 0 00 001 1000027001\nCELL 1 0 00 002 1000033002\nCELL 1 0 00 003 1000010003\nCELL 1 0 01 000 1377757777\nCELL 1 0 01 001 1000000001\nWORD 0 00 000 000017000\nWORD 0 00 001 000007001\nWORD 0 00 002 000013002\nWORD 0 00 003 000010003\nWORD 0 01 000 177777777\nWORD 0 01 001 000000001\nREPAIR 1 0 01 000 0 SWITCH\nDAMAGE 0 0 01 000 1 0000000001\nFLIP 5 1 2 2 0 000000001\nABCDEFGHIJKLMNOPQRSTU\nEND\nEND\n") [] ≡ answer_with 2 (codes "REFUSED BadSave 49\n") []
-unfolding lines_from words_from octal_text word_in step_in twin_in pair_in cell_in module_copy_in index_in span_in place_in is_name with_stuck majority flipped forced lines_of lines_below digits told_from told_entries counts_below
+unfolding lines_from tokens_from octal_text word_in step_in twin_in pair_in cell_in module_copy_in index_in span_in place_in is_name with_stuck majority flipped forced lines_of lines_below digits told_from told_entries counts_below
 after_the_end = refl
 
 no_end : resume_answer (codes "LVDC SAVE 1\nSTEPS 3\nCOUNT 3\nCOPY 1 1 0 000000000 000000000\nCOPY 1 2 0 000000000 000000000\nCOPY 1 3 0 000000000 000000000\nCOPY 2 1 0 000002004 000000000\nCOPY 2 2 0 000002004 000000000\nCOPY 2 3 0 000002004 000000000\nCOPY 3 1 0 000017000\nCOPY 3 2 0 000017000\nCOPY 3 3 0 000017000\nCOPY 4 1 0 000000012\nCOPY 4 2 0 000000012\nCOPY 4 3 0 000000012\nCOPY 5 1 1 177777776 177777777\nCOPY 5 2 0 177777777 177777777\nCOPY 5 3 0 177777777 177777777\nCOPY 6 1 0 000000000 000000000 000000000 000000000 000000000\nCOPY 6 2 0 000000000 000000000 000000000 000000000 000000000\nCOPY 6 3 0 000000000 000000000 000000000 000000000 000000000\nCOPY 7 1 0 000000000 000000000\nCOPY 7 2 0 000000000 000000000\nCOPY 7 3 0 000000000 000000000\nSELECT 1 0 0 0\nCELL 0 0 00 000 1000037000\nCELL 0 0 00 001 1000027001\nCELL 0 0 00 002 1000033002\nCELL 0 0 00 003 1000010003\nCELL 0 0 01 000 1377757777\nCELL 0 0 01 001 1000000001\nCELL 1 0 00 000 1000037000\nCELL 1 0 00 001 1000027001\nCELL 1 0 00 002 1000033002\nCELL 1 0 00 003 1000010003\nCELL 1 0 01 000 1377757777\nCELL 1 0 01 001 1000000001\nWORD 0 00 000 000017000\nWORD 0 00 001 000007001\nWORD 0 00 002 000013002\nWORD 0 00 003 000010003\nWORD 0 01 000 177777777\nWORD 0 01 001 000000001\nREPAIR 1 0 01 000 0 SWITCH\nDAMAGE 0 0 01 000 1 0000000001\nFLIP 5 1 2 2 0 000000001\nABCDEFGHIJKLMNOPQRSTU\n") [] ≡ answer_with 2 (codes "REFUSED BadSave 48\n") []
-unfolding lines_from words_from octal_text word_in step_in twin_in pair_in cell_in module_copy_in index_in span_in place_in is_name with_stuck majority flipped forced lines_of lines_below digits told_from told_entries counts_below
+unfolding lines_from tokens_from octal_text word_in step_in twin_in pair_in cell_in module_copy_in index_in span_in place_in is_name with_stuck majority flipped forced lines_of lines_below digits told_from told_entries counts_below
 no_end = refl
 
 a_device : resume_answer (codes "LVDC SAVE 1\nSTEPS 3\nCOUNT 3\nCOPY 1 1 0 000000000 000000000\nCOPY 1 2 0 000000000 000000000\nCOPY 1 3 0 000000000 000000000\nCOPY 2 1 0 000002004 000000000\nCOPY 2 2 0 000002004 000000000\nCOPY 2 3 0 000002004 000000000\nCOPY 3 1 0 000017000\nCOPY 3 2 0 000017000\nCOPY 3 3 0 000017000\nCOPY 4 1 0 000000012\nCOPY 4 2 0 000000012\nCOPY 4 3 0 000000012\nCOPY 5 1 1 177777776 177777777\nCOPY 5 2 0 177777777 177777777\nCOPY 5 3 0 177777777 177777777\nCOPY 6 1 0 000000000 000000000 000000000 000000000 000000000\nCOPY 6 2 0 000000000 000000000 000000000 000000000 000000000\nCOPY 6 3 0 000000000 000000000 000000000 000000000 000000000\nCOPY 7 1 0 000000000 000000000\nCOPY 7 2 0 000000000 000000000\nCOPY 7 3 0 000000000 000000000\nSELECT 1 0 0 0\nCELL 0 0 00 000 1000037000\nCELL 0 0 00 001 1000027001\nCELL 0 0 00 002 1000033002\nCELL 0 0 00 003 1000010003\nCELL 0 0 01 000 1377757777\nCELL 0 0 01 001 1000000001\nCELL 1 0 00 000 1000037000\nCELL 1 0 00 001 1000027001\nCELL 1 0 00 002 1000033002\nCELL 1 0 00 003 1000010003\nCELL 1 0 01 000 1377757777\nCELL 1 0 01 001 1000000001\nWORD 0 00 000 000017000\nWORD 0 00 001 000007001\nWORD 0 00 002 000013002\nWORD 0 00 003 000010003\nWORD 0 01 000 177777777\nWORD 0 01 001 000000001\nREPAIR 1 0 01 000 0 SWITCH\nUNPLUG 000 2\nDAMAGE 0 0 01 000 1 0000000001\nFLIP 5 1 2 2 0 000000001\nABCDEFGHIJKLMNOPQRSTU\nEND\n") [] ≡ answer_with 2 (codes "REFUSED NoDevice 45\n") []
-unfolding lines_from words_from octal_text word_in step_in twin_in pair_in cell_in module_copy_in index_in span_in place_in is_name with_stuck majority flipped forced lines_of lines_below digits told_from told_entries counts_below
+unfolding lines_from tokens_from octal_text word_in step_in twin_in pair_in cell_in module_copy_in index_in span_in place_in is_name with_stuck majority flipped forced lines_of lines_below digits told_from told_entries counts_below
 a_device = refl

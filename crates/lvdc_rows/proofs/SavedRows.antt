@@ -5,7 +5,7 @@ use Rattle.std.specs.Fmt.{digits}
 use Rattle.lvdc_map.specs.Address.{Spot}
 use Rattle.lvdc_port.specs.Device.{Device}
 use Rattle.lvdc_port.specs.declared.device.Kind.TheVariants.{Tape, Latch, Recorder}
-use Rattle.lvdc_text.specs.Lines.{words_from}
+use Rattle.lvdc_text.specs.Lines.{tokens_from}
 use Rattle.lvdc_text.specs.Numbers.{octal_text, word_in}
 use Rattle.lvdc_lines.specs.Noted.{lines_of}
 use Rattle.lvdc_vote.specs.Bits.{majority}
@@ -58,35 +58,35 @@ is_line text = is_some (entry_of text)
 
 modules_of_a_copy : (is_line (codes "COPY 0 1 0 000000000 000000000") ≡ false) × (is_line (codes "COPY 7 1 0 000000000 000000000") ≡ true)
     × (is_line (codes "COPY 8 1 0 000000000 000000000") ≡ false)
-unfolding is_line lines_of words_from word_in octal_text digits
+unfolding is_line lines_of tokens_from word_in octal_text digits
 modules_of_a_copy = (refl, refl, refl)
 
 copies_of_a_module : (is_line (codes "COPY 3 0 0 000000000") ≡ false) × (is_line (codes "COPY 3 3 0 000000000") ≡ true)
     × (is_line (codes "COPY 3 4 0 000000000") ≡ false)
-unfolding is_line lines_of words_from word_in octal_text digits
+unfolding is_line lines_of tokens_from word_in octal_text digits
 copies_of_a_module = (refl, refl, refl)
 
 steps_of_a_copy : (is_line (codes "COPY 3 1 3000000 000000000") ≡ true) × (is_line (codes "COPY 3 1 3000001 000000000") ≡ false)
-unfolding is_line lines_of words_from word_in octal_text digits
+unfolding is_line lines_of tokens_from word_in octal_text digits
 steps_of_a_copy = (refl, refl)
 
 twins_selected : entry_of (codes "SELECT 0 1 0 0") ≡ Some (says.Select (0 ∷ 1 ∷ 0 ∷ 0 ∷ []))
-unfolding lines_of words_from word_in octal_text digits
+unfolding lines_of tokens_from word_in octal_text digits
 twins_selected = refl
 
 twins_below_two : (is_line (codes "SELECT 2 0 0 0") ≡ false) × (is_line (codes "SELECT 0 2 0 0") ≡ false) × (is_line (codes "SELECT 0 0 2 0") ≡ false)
     × (is_line (codes "SELECT 0 0 0 2") ≡ false) × (is_line (codes "SELECT 0 0 0 1") ≡ true)
-unfolding is_line lines_of words_from word_in octal_text digits
+unfolding is_line lines_of tokens_from word_in octal_text digits
 twins_below_two = (refl, refl, refl, refl, refl)
 
 places_of_words : (is_line (codes "WORD 7 17 377 000000001") ≡ true) × (is_line (codes "WORD 8 17 377 000000001") ≡ false)
     × (is_line (codes "WORD 7 20 377 000000001") ≡ false) × (is_line (codes "WORD 7 17 400 000000001") ≡ false)
-unfolding is_line lines_of words_from word_in octal_text digits
+unfolding is_line lines_of tokens_from word_in octal_text digits
 places_of_words = (refl, refl, refl, refl)
 
 repairs : (is_line (codes "REPAIR 3000000 0 00 000 1") ≡ true) × (is_line (codes "REPAIR 3000001 0 00 000 1") ≡ false)
     × (is_line (codes "REPAIR 5 0 00 000 2") ≡ false)
-unfolding is_line lines_of words_from word_in octal_text digits
+unfolding is_line lines_of tokens_from word_in octal_text digits
 repairs = (refl, refl, refl)
 
 -- ---- a time begins and nothing has stopped: PHASE is the first latch of module 1, STOP the first of module 7

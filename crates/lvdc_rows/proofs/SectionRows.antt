@@ -8,7 +8,7 @@ use Rattle.lvdc_map.specs.Hop.{hop_of}
 use Rattle.lvdc_port.specs.Device.{Device}
 use Rattle.lvdc_port.specs.declared.device.Kind.TheVariants.{Tape}
 use Rattle.lvdc_text.specs.Joined.{text_of}
-use Rattle.lvdc_text.specs.Lines.{lines_from, words_from, lines_of, part_of}
+use Rattle.lvdc_text.specs.Lines.{lines_from, tokens_from, lines_of, part_of}
 use Rattle.lvdc_text.specs.Numbers.{word_in}
 use Rattle.lvdc_deck.specs.Deck.{told_from, deck_from, deck_of, after_program, constant_by}
 use Rattle.lvdc_deck.specs.Loading.{source_in, source_from}
@@ -36,11 +36,11 @@ a_port_of_four_digits : port_in (codes "0017") ≡ None
 a_port_of_four_digits = refl
 
 nine_digits_of_run : asked (λ deck. deck.count) (after_image (codes "RUN 000000001" ∷ [])) ≡ Ok 1
-unfolding asked after_image tapes lines_from words_from told_from deck_from image_of words_told
+unfolding asked after_image tapes lines_from tokens_from told_from deck_from image_of words_told
 nine_digits_of_run = refl
 
 ten_digits_of_run : asked (λ deck. deck.count) (after_image (codes "RUN 0000000001" ∷ [])) ≡ Err (BadLine 4)
-unfolding asked after_image tapes lines_from words_from told_from deck_from image_of words_told
+unfolding asked after_image tapes lines_from tokens_from told_from deck_from image_of words_told
 ten_digits_of_run = refl
 
 -- ---- SIMPLEX: pairs 0 to 3, each a digit, rising
@@ -50,52 +50,52 @@ pairs : (pairs_from 0 (codes "0" ∷ codes "1" ∷ codes "3" ∷ []) ≡ Some 11
 pairs = (refl, refl, refl, refl, refl)
 
 no_pair : asked (λ deck. deck.count) (after_image (codes "SIMPLEX" ∷ codes "RUN 1" ∷ [])) ≡ Err (BadLine 4)
-unfolding asked after_image tapes lines_from words_from told_from deck_from image_of words_told
+unfolding asked after_image tapes lines_from tokens_from told_from deck_from image_of words_told
 no_pair = refl
 
 -- ---- PORTS: words for tapes and unplug lines in their order
 
 two_tapes : asked (λ deck. deck.supplies) (after_image (codes "PORTS" ∷ codes "TAPE 2 5" ∷ codes "TAPE 1 6" ∷ codes "RUN 1" ∷ [])) ≡ Ok (record { port = 2; word = 5 } ∷ record { port = 1; word = 6 } ∷ [])
-unfolding asked after_image tapes lines_from words_from told_from deck_from image_of words_told word_in
+unfolding asked after_image tapes lines_from tokens_from told_from deck_from image_of words_told word_in
 two_tapes = refl
 
 two_unplugs : asked (λ deck. deck.unplugs) (after_image (codes "PORTS" ∷ codes "UNPLUG 2 5" ∷ codes "UNPLUG 1 3" ∷ codes "RUN 1" ∷ [])) ≡ Ok (record { port = 2; time = 5 } ∷ record { port = 1; time = 3 } ∷ [])
-unfolding asked after_image tapes lines_from words_from told_from deck_from image_of words_told
+unfolding asked after_image tapes lines_from tokens_from told_from deck_from image_of words_told
 two_unplugs = refl
 
 no_device_at_014 : asked (λ deck. deck.unplugs) (after_image (codes "PORTS" ∷ codes "UNPLUG 14 3" ∷ codes "RUN 1" ∷ [])) ≡ Err (NoDevice 5)
-unfolding asked after_image tapes lines_from words_from told_from deck_from image_of words_told
+unfolding asked after_image tapes lines_from tokens_from told_from deck_from image_of words_told
 no_device_at_014 = refl
 
 no_time : asked (λ deck. deck.unplugs) (after_image (codes "PORTS" ∷ codes "UNPLUG 2" ∷ codes "RUN 1" ∷ [])) ≡ Err (BadLine 5)
-unfolding asked after_image tapes lines_from words_from told_from deck_from image_of words_told
+unfolding asked after_image tapes lines_from tokens_from told_from deck_from image_of words_told
 no_time = refl
 
 another_word : asked (λ deck. deck.unplugs) (after_image (codes "PORTS" ∷ codes "PLUG 2 3" ∷ codes "RUN 1" ∷ [])) ≡ Err (BadLine 5)
-unfolding asked after_image tapes lines_from words_from told_from deck_from image_of words_told
+unfolding asked after_image tapes lines_from tokens_from told_from deck_from image_of words_told
 another_word = refl
 
 -- ---- FAULTS and ORDER
 
 two_events : asked (λ deck. deck.script) (after_image (codes "FAULTS" ∷ codes "LAG 1 1 1 1" ∷ codes "LAG 2 1 1 1" ∷ codes "RUN 1" ∷ [])) ≡ Ok (Lag 1 1 1 1 ∷ Lag 2 1 1 1 ∷ [])
-unfolding asked after_image tapes lines_from words_from told_from deck_from image_of words_told module_copy_in span_in step_in
+unfolding asked after_image tapes lines_from tokens_from told_from deck_from image_of words_told module_copy_in span_in step_in
 two_events = refl
 
 -- of each order, whether it begins with a lower number than it ends with
 two_orders : asked (λ deck. map (λ order. nat_lt (slice_index order 0) (slice_index order 20)) deck.orders) (after_image (codes "ORDER" ∷ codes "ABCDEFGHIJKLMNOPQRSTU" ∷ codes "UTSRQPONMLKJIHGFEDCBA" ∷ codes "RUN 1" ∷ [])) ≡ Ok (true ∷ false ∷ [])
-unfolding asked after_image tapes lines_from words_from told_from deck_from image_of words_told
+unfolding asked after_image tapes lines_from tokens_from told_from deck_from image_of words_told
 two_orders = refl
 
 sixteen_orders : asked (λ deck. length deck.orders) (after_image (codes "ORDER" ∷ replicate 16 (codes "ABCDEFGHIJKLMNOPQRSTU") ++ codes "RUN 1" ∷ [])) ≡ Ok 16
-unfolding asked after_image tapes lines_from words_from told_from deck_from image_of words_told
+unfolding asked after_image tapes lines_from tokens_from told_from deck_from image_of words_told
 sixteen_orders = refl
 
 seventeen_orders : asked (λ deck. length deck.orders) (after_image (codes "ORDER" ∷ replicate 17 (codes "ABCDEFGHIJKLMNOPQRSTU") ++ codes "RUN 1" ∷ [])) ≡ Err (BadLine 21)
-unfolding asked after_image tapes lines_from words_from told_from deck_from image_of words_told
+unfolding asked after_image tapes lines_from tokens_from told_from deck_from image_of words_told
 seventeen_orders = refl
 
 an_order_with_a_word : asked (λ deck. deck.count) (after_image (codes "ORDER A" ∷ codes "RUN 1" ∷ [])) ≡ Err (BadLine 4)
-unfolding asked after_image tapes lines_from words_from told_from deck_from image_of words_told
+unfolding asked after_image tapes lines_from tokens_from told_from deck_from image_of words_told
 an_order_with_a_word = refl
 
 -- ---- the program: its last line is the first END, and a source is what stands from SOURCE on

@@ -8,7 +8,7 @@ use Rattle.lvdc_vote.specs.Bits.{majority, flipped}
 use Rattle.lvdc_map.specs.Address.{Spot, number_of}
 use Rattle.lvdc_map.specs.Hop.{hop_of}
 use Rattle.lvdc_map.specs.declared.placed.Placed.{Placed}
-use Rattle.lvdc_text.specs.Lines.{lines_from, words_from}
+use Rattle.lvdc_text.specs.Lines.{lines_from, tokens_from}
 use Rattle.lvdc_text.specs.Numbers.{octal_text, word_in}
 use Rattle.lvdc_text.specs.declared.cutting.Line.{Line}
 use Rattle.lvdc_port.specs.Device.{Device}
@@ -87,7 +87,7 @@ what_three_times_bring = refl
 -- two times, which line 5 asks for: step 9 isn't one of theirs
 two_times : study_answer (codes "IMAGE\nLVDC 1\n0 00 000 000010000\nEND\nRUN 2\nCAMPAIGN\nSCRIPT A\nFLIP 5 1 9 9 0 000000001\n") []
     ≡ answer_with 0 (codes "SCRIPT A ADMISSIBLE SAME COPIES 0 REPAIRS 0 - FORM YES\nSTUDY 1 ADMISSIBLE 1 SAME 1 FORM 1\n") []
-unfolding lines_from words_from told_from deck_from words_told image_of entry_in word_in module_copy_in index_in span_in step_in is_name from_campaign other_line scripts_from with_stuck majority flipped counts_below least_below digits octal_text lines_of
+unfolding lines_from tokens_from told_from deck_from words_told image_of entry_in word_in module_copy_in index_in span_in step_in is_name from_campaign other_line scripts_from with_stuck majority flipped counts_below least_below digits octal_text lines_of
 two_times = refl
 
 -- ---- what a run starts from, and what of a state doesn't count at a waypoint

@@ -4,7 +4,7 @@ use Rattle.std.specs.Prelude.{codes}
 use Rattle.std.specs.Fmt.{digits}
 use Rattle.lvdc_word.specs.Cell.{with_stuck}
 use Rattle.lvdc_vote.specs.Bits.{majority, flipped}
-use Rattle.lvdc_text.specs.Lines.{lines_from, words_from}
+use Rattle.lvdc_text.specs.Lines.{lines_from, tokens_from}
 use Rattle.lvdc_text.specs.Numbers.{octal_text, word_in}
 use Rattle.lvdc_map.specs.Address.{Spot}
 use Rattle.lvdc_map.specs.Hop.{hop_of}
@@ -74,7 +74,7 @@ broken (Err fault) = answer_with 2 [] []
 
 a_failed_write_after_a_save : broken (saved_of (tape [] ∷ recorder [] ∷ []) saved_text)
     ≡ answer_with 10 (codes "LVDC TRACE\nSTEP 4\nVOTE 1 000000002 000000000\nVOTE 2 000002004 000000000\nVOTE 3 000012017\nVOTE 4 000000012\nVOTE 5 000000005 000000000\nVOTE 6 000000000 000000000 000000000 000000000 000000000\nVOTE 7 000000000 000000173\nEND DEVICE 5 017\n") (tape [] ∷ recorder [] ∷ [])
-unfolding broken saved_text tape recorder lines_from words_from octal_text word_in step_in twin_in pair_in cell_in module_copy_in index_in span_in place_in with_stuck majority flipped lines_of lines_below digits told_from
+unfolding broken saved_text tape recorder lines_from tokens_from octal_text word_in step_in twin_in pair_in cell_in module_copy_in index_in span_in place_in with_stuck majority flipped lines_of lines_below digits told_from
 a_failed_write_after_a_save = refl
 
 -- no bytes are no saved text

@@ -10,7 +10,7 @@ use Rattle.std.proofs.lemmas.List.Splits.{slice_split_at, slice_split_none}
 use Rattle.std.proofs.lemmas.Str.Parse.{IsNumeralModel, numerals_by_fold}
 use Rattle.std.proofs.lemmas.Fmt.{digits_decimal, decimal_nonempty, first_decimal, decimal_digit}
 use Rattle.std.specs.Prelude.{fold}
-use Rattle.lvdc_text.specs.Lines.{is_blank, has_bytes, word_texts_of}
+use Rattle.lvdc_text.specs.Lines.{is_blank, has_bytes, token_texts_of}
 use Rattle.lvdc_text.specs.Numbers.{is_digit, value_of, is_plain, octal_text, plain_number_of, number_of}
 use Rattle.lvdc_text.proofs.Digits.{octal_text-zero, octal_text-suc}
 use Rattle.lvdc_text.proofs.ReadBack.{length-octal_text, number_of-decimal}
@@ -94,7 +94,7 @@ kept ((b ∷ bs) ∷ words) all =
 
 -- the words of a text are those that it was made of
 pub words_back : (word : List ℕ) (words : List (List ℕ)) → IsWord word → AreWords words
-    → word_texts_of (word ++ after_blanks words) ≡ word ∷ words
+    → token_texts_of (word ++ after_blanks words) ≡ word ∷ words
 words_back word words one more = ap (filter has_bytes) (pieces_of word words one more) ∙ kept (word ∷ words) (one, more)
 
 -- ---- bytes of a line

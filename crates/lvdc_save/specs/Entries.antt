@@ -5,7 +5,7 @@ use Rattle.std.specs.Str.{bytes_eq}
 use Rattle.std.specs.declared.option.Option.{Option}
 use Rattle.std.specs.declared.option.Option.TheVariants.{None, Some}
 use Rattle.lvdc_map.specs.Address.{Spot}
-use Rattle.lvdc_text.specs.Lines.{word_texts_of}
+use Rattle.lvdc_text.specs.Lines.{token_texts_of}
 use Rattle.lvdc_text.specs.Numbers.{word_in}
 use Rattle.lvdc_fault.specs.declared.event.Event.{Event}
 use Rattle.lvdc_lines.specs.Fields.{decimal_in, octal_in, place_in}
@@ -235,4 +235,4 @@ spelled text None = None
 
 -- what a line says
 abbrev pub entry_of : List ℕ → Option Entry
-entry_of text = spelled text (entry_in (word_texts_of text))
+entry_of text = spelled text (entry_in (token_texts_of text))

@@ -10,6 +10,10 @@ use Rattle.lvdc_save.specs.declared.saved.Saved.{Saved}
 use Rattle.lvdc_save.specs.Entries.{entry_of}
 use Rattle.lvdc_save.specs.Reading.{Progress, nothing_said, by_entry, and_then, told_from, whole_of, saved_of}
 
+-- what an index past the end reads
+abbrev pub no_line : Line
+no_line = record { number = 0; start = 0; end = 0 }
+
 module _ (devices : List Device) (bytes : List ℕ) (s : Progress) (lines : List Line) (i : ℕ) (d : Line) (total : Result Progress SaveFault)
     (so_far : told_from devices s (numbered bytes (drop i lines)) ≡ total) where
   by_after : i < length lines → (after : Result Progress SaveFault) →

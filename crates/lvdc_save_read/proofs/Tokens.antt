@@ -2,22 +2,22 @@
 use Rattle.std.proofs.Common.{◌≡◌, ℕ, ◌+◌, ◌-◌, ◌<◌, ◌≤◌, Bool, true, false, ◌||◌, List, [], ◌∷◌, ◌++◌, map, length, get_or, take, drop, Option, None, Some, refl, sym, ap, ◌∙◌, append_assoc, append-nil, ◌≢◌, arith}
 use Rattle.std.specs.List.{list_any}
 use Rattle.std.proofs.lemmas.List.{drop_more, drop_all, take_all}
-use Rattle.lvdc_text.specs.declared.cutting.Line.{Line}
+use Rattle.lvdc_text.specs.declared.cutting.Token.{Token}
 use Rattle.lvdc_text.specs.Numbers.{word_in}
 use Rattle.lvdc_lines.specs.Fields.{decimal_in}
 use Rattle.lvdc_save.specs.Entries.{steps_in, twin_in, spot_in, switch_in, words_with, words_in, copy_of, repair_of, copy_line_in, select_line_in, cell_line_in, word_line_in, exchange_line_in, repair_line_in, unplug_line_in}
 
--- the texts of the parts from an index on begin with that of the part there
-texts-more : (text_of : Line → List ℕ) (lines : List Line) (i : ℕ) (d : Line) → i < length lines →
-    map text_of (drop i lines) ≡ text_of (get_or lines i d) ∷ map text_of (drop (i + 1) lines)
-texts-more text_of lines i d within = ap (map text_of) (drop_more lines i d within)
+-- the texts of the tokens from an index on begin with that of the token there
+texts-more : (text_of : Token → List ℕ) (tokens : List Token) (i : ℕ) (d : Token) → i < length tokens →
+    map text_of (drop i tokens) ≡ text_of (get_or tokens i d) ∷ map text_of (drop (i + 1) tokens)
+texts-more text_of tokens i d within = ap (map text_of) (drop_more tokens i d within)
 
-texts-done : (text_of : Line → List ℕ) (lines : List Line) (i : ℕ) → length lines ≤ i → map text_of (drop i lines) ≡ []
-texts-done text_of lines i all = ap (map text_of) (drop_all i lines all)
+texts-done : (text_of : Token → List ℕ) (tokens : List Token) (i : ℕ) → length tokens ≤ i → map text_of (drop i tokens) ≡ []
+texts-done text_of tokens i all = ap (map text_of) (drop_all i tokens all)
 
 -- what an index past the end reads
-abbrev pub no_line : Line
-no_line = record { number = 0; start = 0; end = 0 }
+abbrev pub no_token : Token
+no_token = record { start = 0; end = 0 }
 
 -- these words beside those that follow
 abbrev pub and_words : List ℕ → Option (List ℕ) → Option (List ℕ)
@@ -32,7 +32,7 @@ and_words-with : (words : List ℕ) (word : ℕ) (later : Option (List ℕ)) →
 and_words-with words word (Some later) = ap (λ (ws : List ℕ). Some ws) (sym (append_assoc words (word ∷ []) later))
 and_words-with words word None = refl
 
-module _ (text_of : Line → List ℕ) (tokens : List Line) (i : ℕ) (d : Line) (words : List ℕ) (total : Option (List ℕ))
+module _ (text_of : Token → List ℕ) (tokens : List Token) (i : ℕ) (d : Token) (words : List ℕ) (total : Option (List ℕ))
     (so_far : and_words words (words_in (map text_of (drop i tokens))) ≡ total) where
   by_word : i < length tokens → (found : Option ℕ) → word_in (text_of (get_or tokens i d)) ≡ found →
       and_words words (words_with found (words_in (map text_of (drop (i + 1) tokens)))) ≡ total
@@ -56,7 +56,7 @@ module _ (text_of : Line → List ℕ) (tokens : List Line) (i : ℕ) (d : Line)
 
 -- ---- a test of tokens
 
-module _ (text_of : Line → List ℕ) (test : List ℕ → Bool) (tokens : List Line) (i : ℕ) (d : Line)
+module _ (text_of : Token → List ℕ) (test : List ℕ → Bool) (tokens : List Token) (i : ℕ) (d : Token)
     (so_far : list_any test (map text_of (drop i tokens)) ≡ list_any test (map text_of tokens)) where
   by_test : i < length tokens → (has : Bool) → test (text_of (get_or tokens i d)) ≡ has →
       (has || list_any test (map text_of (drop (i + 1) tokens))) ≡ list_any test (map text_of tokens)

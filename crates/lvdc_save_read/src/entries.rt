@@ -4,7 +4,7 @@ ghost use Rattle.std.specs.Prelude.{◌≡◌, ◌<◌, ◌≤◌, ◌+◌, ◌-
 ghost use Rattle.std.specs.List.{list_any};
 ghost use Rattle.std.specs.Str.{bytes_eq};
 ghost use Rattle.lvdc_map.specs.Banks.{IsPlace};
-ghost use Rattle.lvdc_text.specs.Lines.{IsWithin, part_of};
+ghost use Rattle.lvdc_text.specs.Lines.{LiesIn, token_text};
 ghost use Rattle.lvdc_save_read.specs.Sound.{IsEntry};
 ghost use Rattle.lvdc_save.specs.Lines.{entry_line};
 ghost use Rattle.lvdc_save.specs.Entries.{title_in, steps_line_in, count_line_in, pair_bit, simplex_line_in, copy_of, copy_line_in, select_of, select_line_in, cell_of, cell_line_in, word_of, word_line_in, exchange_of, exchange_line_in, switch_in, repair_of, repair_line_in, state_line_in, unplug_line_in, script_of, end_in, list_line_in, head_line_in, entry_in, entry_of};
@@ -17,13 +17,13 @@ use lvdc_model::Repair;
 use lvdc_plain::{Exchange, Unplug};
 use lvdc_port::Supply;
 use lvdc_save::{CopyState, Entry, put_entry};
-use lvdc_text::{Line, octal_word, part, spells, tokens};
+use lvdc_text::{Token, octal_word, spells, token_text, tokens};
 use lvdc_twin::Held;
 use lvdc_word::{Cell, NoMemory, Seq, Word};
 use std::alloc::Global;
 
-fn title_in(fields: &[Line]) -> Option<Entry>
-    ensures entry { (text : List ℕ) → result ≡ title_in (map (part_of text) fields.now) }
+fn title_in(fields: &[Token]) -> Option<Entry>
+    ensures entry { (text : List ℕ) → result ≡ title_in (map (token_text text) fields.now) }
     ensures ranges { IfSome result IsEntry }
 {
     match fields {
@@ -32,36 +32,36 @@ fn title_in(fields: &[Line]) -> Option<Entry>
     }
 }
 
-fn steps_line_in(text: &[u8], fields: &[Line]) -> Option<Entry>
-    requires { All (IsWithin text.now) fields.now }
-    ensures entry { result ≡ steps_line_in (map (part_of text.now) fields.now) }
+fn steps_line_in(text: &[u8], fields: &[Token]) -> Option<Entry>
+    requires { All (LiesIn text.now) fields.now }
+    ensures entry { result ≡ steps_line_in (map (token_text text.now) fields.now) }
     ensures ranges { IfSome result IsEntry }
 {
     let [steps] = fields else {
         return None;
     };
-    Some(Entry::Steps(steps_in(part(text, steps))?))
+    Some(Entry::Steps(steps_in(token_text(text, steps))?))
 }
 
-fn count_line_in(text: &[u8], fields: &[Line]) -> Option<Entry>
-    requires { All (IsWithin text.now) fields.now }
-    ensures entry { result ≡ count_line_in (map (part_of text.now) fields.now) }
+fn count_line_in(text: &[u8], fields: &[Token]) -> Option<Entry>
+    requires { All (LiesIn text.now) fields.now }
+    ensures entry { result ≡ count_line_in (map (token_text text.now) fields.now) }
     ensures ranges { IfSome result IsEntry }
 {
     let [count] = fields else {
         return None;
     };
-    Some(Entry::Count(times_in(part(text, count))?))
+    Some(Entry::Count(times_in(token_text(text, count))?))
 }
 
 /// Does one of the tokens name this pair?
-fn names_pair(text: &[u8], fields: &[Line], pair: u8) -> bool
+fn names_pair(text: &[u8], fields: &[Token], pair: u8) -> bool
     requires pair { pair < 4 }
-    requires within { All (IsWithin text.now) fields.now }
-    ensures { result ≡ list_any (λ token. bytes_eq token ((48 + pair) ∷ [])) (map (part_of text.now) fields.now) }
+    requires within { All (LiesIn text.now) fields.now }
+    ensures { result ≡ list_any (λ token. bytes_eq token ((48 + pair) ∷ [])) (map (token_text text.now) fields.now) }
 {
     for field in fields {
-        if part(text, field) == [b'0' + pair].as_slice() {
+        if token_text(text, field) == [b'0' + pair].as_slice() {
             return true;
         }
     }
@@ -69,10 +69,10 @@ fn names_pair(text: &[u8], fields: &[Line], pair: u8) -> bool
 }
 
 /// A bit for the pair that one of the tokens names.
-fn pair_bit(text: &[u8], fields: &[Line], pair: u8) -> u8
+fn pair_bit(text: &[u8], fields: &[Token], pair: u8) -> u8
     requires pair { pair < 4 }
-    requires within { All (IsWithin text.now) fields.now }
-    ensures value { result ≡ pair_bit pair (map (part_of text.now) fields.now) }
+    requires within { All (LiesIn text.now) fields.now }
+    ensures value { result ≡ pair_bit pair (map (token_text text.now) fields.now) }
     ensures small { result ≤ 8 }
 {
     if names_pair(text, fields, pair) {
@@ -82,9 +82,9 @@ fn pair_bit(text: &[u8], fields: &[Line], pair: u8) -> u8
     }
 }
 
-fn simplex_line_in(text: &[u8], fields: &[Line]) -> Option<Entry>
-    requires { All (IsWithin text.now) fields.now }
-    ensures entry { result ≡ simplex_line_in (map (part_of text.now) fields.now) }
+fn simplex_line_in(text: &[u8], fields: &[Token]) -> Option<Entry>
+    requires { All (LiesIn text.now) fields.now }
+    ensures entry { result ≡ simplex_line_in (map (token_text text.now) fields.now) }
     ensures ranges { IfSome result IsEntry }
 {
     let pairs = pair_bit(text, fields, 0)
@@ -121,18 +121,18 @@ fn copy_of(
     }))
 }
 
-fn copy_line_in(alloc: Global, text: &[u8], fields: &[Line]) -> Result<Option<Entry>, NoMemory>
-    requires { All (IsWithin text.now) fields.now }
-    ensures entry { IfOk result (λ found. found ≡ copy_line_in (map (part_of text.now) fields.now)) }
+fn copy_line_in(alloc: Global, text: &[u8], fields: &[Token]) -> Result<Option<Entry>, NoMemory>
+    requires { All (LiesIn text.now) fields.now }
+    ensures entry { IfOk result (λ found. found ≡ copy_line_in (map (token_text text.now) fields.now)) }
     ensures ranges { IfOk result (λ found. IfSome found IsEntry) }
 {
     match fields {
         [number, copy, count, latches @ ..] => {
             let latches = words_in(alloc, text, latches)?;
             Ok(copy_of(
-                decimal_in(1, 8, part(text, number)),
-                decimal_in(1, 4, part(text, copy)),
-                steps_in(part(text, count)),
+                decimal_in(1, 8, token_text(text, number)),
+                decimal_in(1, 4, token_text(text, copy)),
+                steps_in(token_text(text, count)),
                 latches,
             ))
         }
@@ -157,17 +157,17 @@ fn select_of(
     Some(Entry::Select([first?, second?, third?, fourth?]))
 }
 
-fn select_line_in(text: &[u8], fields: &[Line]) -> Option<Entry>
-    requires { All (IsWithin text.now) fields.now }
-    ensures entry { result ≡ select_line_in (map (part_of text.now) fields.now) }
+fn select_line_in(text: &[u8], fields: &[Token]) -> Option<Entry>
+    requires { All (LiesIn text.now) fields.now }
+    ensures entry { result ≡ select_line_in (map (token_text text.now) fields.now) }
     ensures ranges { IfSome result IsEntry }
 {
     match fields {
         [first, second, third, fourth] => select_of(
-            twin_in(part(text, first)),
-            twin_in(part(text, second)),
-            twin_in(part(text, third)),
-            twin_in(part(text, fourth)),
+            twin_in(token_text(text, first)),
+            twin_in(token_text(text, second)),
+            twin_in(token_text(text, third)),
+            twin_in(token_text(text, fourth)),
         ),
         _ => None,
     }
@@ -187,16 +187,20 @@ fn cell_of(twin: Option<u8>, at: Option<Address>, cell: Option<Cell>) -> Option<
     }))
 }
 
-fn cell_line_in(text: &[u8], fields: &[Line]) -> Option<Entry>
-    requires { All (IsWithin text.now) fields.now }
-    ensures entry { result ≡ cell_line_in (map (part_of text.now) fields.now) }
+fn cell_line_in(text: &[u8], fields: &[Token]) -> Option<Entry>
+    requires { All (LiesIn text.now) fields.now }
+    ensures entry { result ≡ cell_line_in (map (token_text text.now) fields.now) }
     ensures ranges { IfSome result IsEntry }
 {
     match fields {
         [twin, pair, sector, loc, cell] => cell_of(
-            twin_in(part(text, twin)),
-            place_in(part(text, pair), part(text, sector), part(text, loc)),
-            cell_in(part(text, cell)),
+            twin_in(token_text(text, twin)),
+            place_in(
+                token_text(text, pair),
+                token_text(text, sector),
+                token_text(text, loc),
+            ),
+            cell_in(token_text(text, cell)),
         ),
         _ => None,
     }
@@ -213,15 +217,19 @@ fn word_of(at: Option<Address>, word: Option<Word>) -> Option<Entry>
     }))
 }
 
-fn word_line_in(text: &[u8], fields: &[Line]) -> Option<Entry>
-    requires { All (IsWithin text.now) fields.now }
-    ensures entry { result ≡ word_line_in (map (part_of text.now) fields.now) }
+fn word_line_in(text: &[u8], fields: &[Token]) -> Option<Entry>
+    requires { All (LiesIn text.now) fields.now }
+    ensures entry { result ≡ word_line_in (map (token_text text.now) fields.now) }
     ensures ranges { IfSome result IsEntry }
 {
     match fields {
         [pair, sector, loc, word] => word_of(
-            spot_in(part(text, pair), part(text, sector), part(text, loc)),
-            octal_word(part(text, word)),
+            spot_in(
+                token_text(text, pair),
+                token_text(text, sector),
+                token_text(text, loc),
+            ),
+            octal_word(token_text(text, word)),
         ),
         _ => None,
     }
@@ -245,25 +253,25 @@ fn exchange_of(
     }))
 }
 
-fn exchange_line_in(reading: bool, text: &[u8], fields: &[Line]) -> Option<Entry>
-    requires { All (IsWithin text.now) fields.now }
-    ensures entry { result ≡ exchange_line_in reading (map (part_of text.now) fields.now) }
+fn exchange_line_in(reading: bool, text: &[u8], fields: &[Token]) -> Option<Entry>
+    requires { All (LiesIn text.now) fields.now }
+    ensures entry { result ≡ exchange_line_in reading (map (token_text text.now) fields.now) }
     ensures ranges { IfSome result IsEntry }
 {
     match fields {
         [time, port, word] => exchange_of(
             reading,
-            times_in(part(text, time)),
-            port_in(part(text, port)),
-            octal_word(part(text, word)),
+            times_in(token_text(text, time)),
+            port_in(token_text(text, port)),
+            octal_word(token_text(text, word)),
         ),
         _ => None,
     }
 }
 
 /// Whether SWITCH stands at the end.
-fn switch_in(fields: &[Line]) -> Option<bool>
-    ensures { (text : List ℕ) → result ≡ switch_in (map (part_of text) fields.now) }
+fn switch_in(fields: &[Token]) -> Option<bool>
+    ensures { (text : List ℕ) → result ≡ switch_in (map (token_text text) fields.now) }
 {
     match fields {
         [] => Some(false),
@@ -291,52 +299,56 @@ fn repair_of(
     }))
 }
 
-fn repair_line_in(text: &[u8], fields: &[Line]) -> Option<Entry>
-    requires { All (IsWithin text.now) fields.now }
-    ensures entry { result ≡ repair_line_in (map (part_of text.now) fields.now) }
+fn repair_line_in(text: &[u8], fields: &[Token]) -> Option<Entry>
+    requires { All (LiesIn text.now) fields.now }
+    ensures entry { result ≡ repair_line_in (map (token_text text.now) fields.now) }
     ensures ranges { IfSome result IsEntry }
 {
     match fields {
         [step, pair, sector, loc, twin, rest @ ..] => repair_of(
             switch_in(rest),
-            steps_in(part(text, step)),
-            spot_in(part(text, pair), part(text, sector), part(text, loc)),
-            twin_in(part(text, twin)),
+            steps_in(token_text(text, step)),
+            spot_in(
+                token_text(text, pair),
+                token_text(text, sector),
+                token_text(text, loc),
+            ),
+            twin_in(token_text(text, twin)),
         ),
         _ => None,
     }
 }
 
-fn state_line_in(text: &[u8], fields: &[Line]) -> Option<Entry>
-    requires { All (IsWithin text.now) fields.now }
-    ensures entry { result ≡ state_line_in (map (part_of text.now) fields.now) }
+fn state_line_in(text: &[u8], fields: &[Token]) -> Option<Entry>
+    requires { All (LiesIn text.now) fields.now }
+    ensures entry { result ≡ state_line_in (map (token_text text.now) fields.now) }
     ensures ranges { IfSome result IsEntry }
 {
     let [port, word] = fields else {
         return None;
     };
-    let port = port_in(part(text, port))?;
-    let word = octal_word(part(text, word))?;
+    let port = port_in(token_text(text, port))?;
+    let word = octal_word(token_text(text, word))?;
     Some(Entry::State(Supply { port, word }))
 }
 
-fn unplug_line_in(text: &[u8], fields: &[Line]) -> Option<Entry>
-    requires { All (IsWithin text.now) fields.now }
-    ensures entry { result ≡ unplug_line_in (map (part_of text.now) fields.now) }
+fn unplug_line_in(text: &[u8], fields: &[Token]) -> Option<Entry>
+    requires { All (LiesIn text.now) fields.now }
+    ensures entry { result ≡ unplug_line_in (map (token_text text.now) fields.now) }
     ensures ranges { IfSome result IsEntry }
 {
     let [port, time] = fields else {
         return None;
     };
-    let port = port_in(part(text, port))?;
-    let time = times_in(part(text, time))?;
+    let port = port_in(token_text(text, port))?;
+    let time = times_in(token_text(text, time))?;
     Some(Entry::Unplug(Unplug { port, time }))
 }
 
 /// What a fault line or an order line with these tokens says.
-fn script_line_in(text: &[u8], tokens: &[Line]) -> Option<Entry>
-    requires { All (IsWithin text.now) tokens.now }
-    ensures entry { result ≡ script_of (fault_in (map (part_of text.now) tokens.now)) (order_in (map (part_of text.now) tokens.now)) }
+fn script_line_in(text: &[u8], tokens: &[Token]) -> Option<Entry>
+    requires { All (LiesIn text.now) tokens.now }
+    ensures entry { result ≡ script_of (fault_in (map (token_text text.now) tokens.now)) (order_in (map (token_text text.now) tokens.now)) }
     ensures ranges { IfSome result IsEntry }
 {
     match event_of(text, tokens) {
@@ -345,8 +357,8 @@ fn script_line_in(text: &[u8], tokens: &[Line]) -> Option<Entry>
     }
 }
 
-fn end_in(fields: &[Line]) -> Option<Entry>
-    ensures entry { (text : List ℕ) → result ≡ end_in (map (part_of text) fields.now) }
+fn end_in(fields: &[Token]) -> Option<Entry>
+    ensures entry { (text : List ℕ) → result ≡ end_in (map (token_text text) fields.now) }
     ensures ranges { IfSome result IsEntry }
 {
     match fields {
@@ -356,11 +368,11 @@ fn end_in(fields: &[Line]) -> Option<Entry>
 }
 
 /// What a line of a list with these tokens says, of which the first has this text.
-fn list_line_in(text: &[u8], word: &[u8], tokens: &[Line], fields: &[Line]) -> Option<Entry>
-    requires within { All (IsWithin text.now) tokens.now }
-    requires fields_within { All (IsWithin text.now) fields.now }
-    requires parts { map (part_of text.now) tokens.now ≡ word.now ∷ map (part_of text.now) fields.now }
-    ensures entry { result ≡ list_line_in word.now (map (part_of text.now) fields.now) }
+fn list_line_in(text: &[u8], word: &[u8], tokens: &[Token], fields: &[Token]) -> Option<Entry>
+    requires within { All (LiesIn text.now) tokens.now }
+    requires fields_within { All (LiesIn text.now) fields.now }
+    requires parts { map (token_text text.now) tokens.now ≡ word.now ∷ map (token_text text.now) fields.now }
+    ensures entry { result ≡ list_line_in word.now (map (token_text text.now) fields.now) }
     ensures ranges { IfSome result IsEntry }
 {
     if spells(word, b"CELL") {
@@ -387,13 +399,13 @@ fn head_line_in(
     alloc: Global,
     text: &[u8],
     word: &[u8],
-    tokens: &[Line],
-    fields: &[Line],
+    tokens: &[Token],
+    fields: &[Token],
 ) -> Result<Option<Entry>, NoMemory>
-    requires within { All (IsWithin text.now) tokens.now }
-    requires fields_within { All (IsWithin text.now) fields.now }
-    requires parts { map (part_of text.now) tokens.now ≡ word.now ∷ map (part_of text.now) fields.now }
-    ensures entry { IfOk result (λ found. found ≡ head_line_in word.now (map (part_of text.now) fields.now)) }
+    requires within { All (LiesIn text.now) tokens.now }
+    requires fields_within { All (LiesIn text.now) fields.now }
+    requires parts { map (token_text text.now) tokens.now ≡ word.now ∷ map (token_text text.now) fields.now }
+    ensures entry { IfOk result (λ found. found ≡ head_line_in word.now (map (token_text text.now) fields.now)) }
     ensures ranges { IfOk result (λ found. IfSome found IsEntry) }
 {
     if spells(word, b"COPY") {
@@ -417,13 +429,13 @@ fn head_line_in(
 }
 
 /// What a line with these tokens says.
-fn entry_in(alloc: Global, text: &[u8], tokens: &[Line]) -> Result<Option<Entry>, NoMemory>
-    requires { All (IsWithin text.now) tokens.now }
-    ensures entry { IfOk result (λ found. found ≡ entry_in (map (part_of text.now) tokens.now)) }
+fn entry_in(alloc: Global, text: &[u8], tokens: &[Token]) -> Result<Option<Entry>, NoMemory>
+    requires { All (LiesIn text.now) tokens.now }
+    ensures entry { IfOk result (λ found. found ≡ entry_in (map (token_text text.now) tokens.now)) }
     ensures ranges { IfOk result (λ found. IfSome found IsEntry) }
 {
     match tokens {
-        [first, fields @ ..] => head_line_in(alloc, text, part(text, first), tokens, fields),
+        [first, fields @ ..] => head_line_in(alloc, text, token_text(text, first), tokens, fields),
         [] => Ok(None),
     }
 }

@@ -1,14 +1,14 @@
 //! The fields of lines.
 
 ghost use Rattle.std.specs.Prelude.{◌≡◌, ◌<◌, ◌≤◌, map, option_map, IfSome, IfOk, All};
-ghost use Rattle.lvdc_text.specs.Lines.{IsWithin, part_of};
+ghost use Rattle.lvdc_text.specs.Lines.{LiesIn, token_text};
 ghost use Rattle.lvdc_fault.specs.Events.{TIMES};
 ghost use Rattle.lvdc_save.specs.Entries.{steps_in, times_in, port_in, twin_in, cell_in, spot_in, words_in};
 
 use lvdc_fault::MOST_TIMES;
 use lvdc_lines::{decimal_in, octal_in};
 use lvdc_map::Address;
-use lvdc_text::{Line, octal_word, part};
+use lvdc_text::{Token, octal_word, token_text};
 use lvdc_word::{Cell, NoMemory, Word};
 use std::alloc::Global;
 
@@ -66,14 +66,14 @@ pub(crate) fn spot_in(pair: &[u8], sector: &[u8], loc: &[u8]) -> Option<Address>
 pub(crate) fn words_in(
     alloc: Global,
     text: &[u8],
-    tokens: &[Line],
+    tokens: &[Token],
 ) -> Result<Option<Vec<Word>>, NoMemory>
-    requires { All (IsWithin text.now) tokens.now }
-    ensures { IfOk result (λ found. option_map (λ words. words.items) found ≡ words_in (map (part_of text.now) tokens.now)) }
+    requires { All (LiesIn text.now) tokens.now }
+    ensures { IfOk result (λ found. option_map (λ words. words.items) found ≡ words_in (map (token_text text.now) tokens.now)) }
 {
     let mut words = Vec::new(alloc);
     for token in tokens {
-        match octal_word(part(text, token)) {
+        match octal_word(token_text(text, token)) {
             Some(word) => words.push(word)?,
             None => return Ok(None),
         }

@@ -1,6 +1,6 @@
 -- The parts of a line: label, operation and operand, each ended by a blank; what follows is comment.
 use Rattle.std.specs.Prelude.{ℕ, Bool, true, false, not, List, [], ◌∷◌, slice_index_or}
-use Rattle.lvdc_text.specs.Lines.{is_blank, word_texts_of}
+use Rattle.lvdc_text.specs.Lines.{is_blank, token_texts_of}
 
 -- the parts of a line; one that is missing is empty
 pub record Parts : Type 0 where
@@ -24,4 +24,4 @@ parts_in false words = record { label = []; operation = word_at words 0; operand
 
 -- the parts of a line
 unfoldable pub parts_of : List ℕ → Parts
-parts_of text = parts_in (is_labelled text) (word_texts_of text)
+parts_of text = parts_in (is_labelled text) (token_texts_of text)

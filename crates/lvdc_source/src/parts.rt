@@ -1,9 +1,9 @@
 ghost use Rattle.std.specs.Prelude.{◌≡◌, ◌≤◌, length, map, All};
-ghost use Rattle.lvdc_text.specs.Lines.{IsWithin, part_of, word_texts_of};
+ghost use Rattle.lvdc_text.specs.Lines.{token_texts_of, LiesIn, token_text};
 ghost use Rattle.lvdc_source.specs.Lines.{is_labelled, word_at, parts_of};
 ghost use Rattle.lvdc_text.specs.declared.comment.TheConstants.{LONGEST_LINE};
 
-use lvdc_text::{LONGEST_LINE, Line, few_tokens, is_blank, part};
+use lvdc_text::{LONGEST_LINE, Token, few_tokens, is_blank, token_text};
 
 /// The parts of a line; one that is missing is empty.
 #[derive(Clone, Copy)]
@@ -27,21 +27,21 @@ fn is_labelled(text: &[u8]) -> bool
 }
 
 /// The word at this index, or the empty text.
-fn word_at<'a>(text: &'a [u8], words: &[Line], index: usize) -> &'a [u8]
-    requires { All (IsWithin text.now) words.now }
-    ensures { result.now ≡ word_at (map (part_of text.now) words.now) index }
+fn word_at<'a>(text: &'a [u8], words: &[Token], index: usize) -> &'a [u8]
+    requires { All (LiesIn text.now) words.now }
+    ensures { result.now ≡ word_at (map (token_text text.now) words.now) index }
 {
     match words.get(index) {
-        Some(word) => part(text, word),
+        Some(word) => token_text(text, word),
         None => &[],
     }
 }
 
 /// The parts of a line whose words these are.
 #[tactic(auto, unfolding(crate::specs::Lines::parts_of))]
-pub fn parts_by<'a>(text: &'a [u8], words: &[Line]) -> Parts<'a>
-    requires within { All (IsWithin text.now) words.now }
-    requires words { map (part_of text.now) words.now ≡ word_texts_of text.now }
+pub fn parts_by<'a>(text: &'a [u8], words: &[Token]) -> Parts<'a>
+    requires within { All (LiesIn text.now) words.now }
+    requires words { map (token_text text.now) words.now ≡ token_texts_of text.now }
     ensures label { result.label.now ≡ (parts_of text.now).label }
     ensures operation { result.operation.now ≡ (parts_of text.now).operation }
     ensures operand { result.operand.now ≡ (parts_of text.now).operand }

@@ -1,11 +1,11 @@
--- Lines and words lie within the bytes, and are no more than these.
+-- Lines and tokens lie within the bytes, and are no more than these.
 use Rattle.std.proofs.Common.{◌≡◌, ℕ, ◌+◌, ◌-◌, ◌<◌, ◌≤◌, Bool, true, false, List, [], ◌∷◌, length, take, get_or, refl, sym, ap, ◌∙◌, subst, arith, if◌then◌else◌, All, length-take, ◌==◌}
 use Rattle.std.specs.List.{AllByRecursion, slice_split, onto_first}
 use Rattle.std.specs.Str.Lines.{strip_carriage_return}
 use Rattle.std.proofs.lemmas.List.Elements.{All-from_recursion}
 use Rattle.std.proofs.lemmas.List.Splits.{slice_split-cons_yes, slice_split-cons_no, length-slice_split}
-use Rattle.lvdc_text.specs.Lines.{is_line_feed, lines_from, lines_of, is_blank, words_from, words_of, IsWithin}
-use Rattle.lvdc_text.proofs.FirstParts.{lines_from-ended, lines_from-open, lines_from-empty, lines_from-none, words_from-empty, words_from-none, words_from-some}
+use Rattle.lvdc_text.specs.Lines.{is_line_feed, lines_from, lines_of, is_blank, tokens_from, tokens_of, IsWithin, LiesIn}
+use Rattle.lvdc_text.proofs.FirstParts.{lines_from-ended, lines_from-open, lines_from-empty, lines_from-none, tokens_from-empty, tokens_from-none, tokens_from-some}
 
 -- the bytes of the pieces, and one more for each
 abbrev size_of : List (List ℕ) → ℕ
@@ -44,24 +44,24 @@ lines_from-within number start (piece ∷ next ∷ pieces) bytes s n =
     subst (AllByRecursion (IsWithin bytes)) (sym (lines_from-ended number start piece (next ∷ pieces) (omega arith)))
     (record { in_order = omega arith; in_range = omega arith; counted = omega arith }, lines_from-within (number + 1) (start + length piece + 1) (next ∷ pieces) bytes (omega arith) (omega arith))
 
-words_from-within : (number start : ℕ) (pieces : List (List ℕ)) (text : List ℕ) → start + size_of pieces ≤ length text + 1 → number + size_of pieces ≤ length text + 2
-    → AllByRecursion (IsWithin text) (words_from number start pieces)
-words_from-within number start [] text s n = subst (AllByRecursion (IsWithin text)) (sym (words_from-none number start)) tt
-words_from-within number start ([] ∷ pieces) text s n =
-    subst (AllByRecursion (IsWithin text)) (sym (words_from-empty number start pieces)) (words_from-within number (start + 1) pieces text (omega arith) (omega arith))
-words_from-within number start ((b ∷ bs) ∷ pieces) text s n =
-    subst (AllByRecursion (IsWithin text)) (sym (words_from-some number start (b ∷ bs) pieces (omega arith)))
-    (record { in_order = omega arith; in_range = omega arith; counted = omega arith }, words_from-within (number + 1) (start + length (b ∷ bs) + 1) pieces text (omega arith) (omega arith))
+tokens_from-within : (start : ℕ) (pieces : List (List ℕ)) (text : List ℕ) → start + size_of pieces ≤ length text + 1
+    → AllByRecursion (LiesIn text) (tokens_from start pieces)
+tokens_from-within start [] text s = subst (AllByRecursion (LiesIn text)) (sym (tokens_from-none start)) tt
+tokens_from-within start ([] ∷ pieces) text s =
+    subst (AllByRecursion (LiesIn text)) (sym (tokens_from-empty start pieces)) (tokens_from-within (start + 1) pieces text (omega arith))
+tokens_from-within start ((b ∷ bs) ∷ pieces) text s =
+    subst (AllByRecursion (LiesIn text)) (sym (tokens_from-some start (b ∷ bs) pieces (omega arith)))
+    (record { in_order = omega arith; in_range = omega arith }, tokens_from-within (start + length (b ∷ bs) + 1) pieces text (omega arith))
 
 pub lines_of-within : (bytes : List ℕ) → All (IsWithin bytes) (lines_of bytes)
 lines_of-within bytes =
     let size = size_of-slice_split is_line_feed bytes in
     All-from_recursion (IsWithin bytes) (lines_of bytes) (lines_from-within 1 0 (slice_split is_line_feed bytes) bytes (omega arith) (omega arith))
 
-pub words_of-within : (text : List ℕ) → All (IsWithin text) (words_of text)
-words_of-within text =
+pub tokens_of-within : (text : List ℕ) → All (LiesIn text) (tokens_of text)
+tokens_of-within text =
     let size = size_of-slice_split is_blank text in
-    All-from_recursion (IsWithin text) (words_of text) (words_from-within 1 0 (slice_split is_blank text) text (omega arith) (omega arith))
+    All-from_recursion (LiesIn text) (tokens_of text) (tokens_from-within 0 (slice_split is_blank text) text (omega arith))
 
 length-lines_from : (number start : ℕ) (pieces : List (List ℕ)) → length (lines_from number start pieces) ≤ size_of pieces - 1
 length-lines_from number start [] = omega (arith, ap length (lines_from-none number start))
@@ -70,14 +70,14 @@ length-lines_from number start ((b ∷ bs) ∷ []) = omega (arith, ap length (li
 length-lines_from number start (piece ∷ next ∷ pieces) =
     omega (arith, ap length (lines_from-ended number start piece (next ∷ pieces) (omega arith)), length-lines_from (number + 1) (start + length piece + 1) (next ∷ pieces))
 
-length-words_from : (number start : ℕ) (pieces : List (List ℕ)) → length (words_from number start pieces) ≤ size_of pieces - 1
-length-words_from number start [] = omega (arith, ap length (words_from-none number start))
-length-words_from number start ([] ∷ pieces) = omega (arith, ap length (words_from-empty number start pieces), length-words_from number (start + 1) pieces)
-length-words_from number start ((b ∷ bs) ∷ pieces) =
-    omega (arith, ap length (words_from-some number start (b ∷ bs) pieces (omega arith)), length-words_from (number + 1) (start + length (b ∷ bs) + 1) pieces)
+length-tokens_from : (start : ℕ) (pieces : List (List ℕ)) → length (tokens_from start pieces) ≤ size_of pieces - 1
+length-tokens_from start [] = omega (arith, ap length (tokens_from-none start))
+length-tokens_from start ([] ∷ pieces) = omega (arith, ap length (tokens_from-empty start pieces), length-tokens_from (start + 1) pieces)
+length-tokens_from start ((b ∷ bs) ∷ pieces) =
+    omega (arith, ap length (tokens_from-some start (b ∷ bs) pieces (omega arith)), length-tokens_from (start + length (b ∷ bs) + 1) pieces)
 
 pub length-lines_of : (bytes : List ℕ) → length (lines_of bytes) ≤ length bytes
 length-lines_of bytes = omega (arith, length-lines_from 1 0 (slice_split is_line_feed bytes), size_of-slice_split is_line_feed bytes)
 
-pub length-words_of : (text : List ℕ) → length (words_of text) ≤ length text
-length-words_of text = omega (arith, length-words_from 1 0 (slice_split is_blank text), size_of-slice_split is_blank text)
+pub length-tokens_of : (text : List ℕ) → length (tokens_of text) ≤ length text
+length-tokens_of text = omega (arith, length-tokens_from 0 (slice_split is_blank text), size_of-slice_split is_blank text)

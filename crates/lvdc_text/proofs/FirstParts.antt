@@ -1,4 +1,4 @@
--- The first line, and the first word, of what is left.
+-- The first line, and the first token, of what is left.
 use Rattle.std.proofs.Common.{◌≡◌, ℕ, ◌+◌, ◌-◌, ◌<◌, Bool, true, false, ◌==◌, not, List, [], ◌∷◌, ◌++◌, ◌≤◌, length, get_or, take, drop, refl, ap, sym, ◌∙◌, append_assoc, arith, length-take, length-drop, if◌then◌else◌, All}
 use Rattle.std.proofs.lemmas.List.{append-nil, take-append-drop, drop-drop, drop_more, drop_all, take_all, get_or-drop}
 use Rattle.std.proofs.lemmas.List.Folds.{list_all_more}
@@ -9,7 +9,8 @@ use Rattle.std.specs.Str.Lines.{strip_carriage_return}
 use Rattle.std.proofs.lemmas.Bool.Decides.{nat_tests}
 use Rattle.std.proofs.lemmas.Grind.{common_steps}
 use Rattle.lvdc_text.specs.declared.cutting.Line.{Line}
-use Rattle.lvdc_text.specs.Lines.{numbered_part, is_line_feed, lines_from, is_blank, words_from, words_left}
+use Rattle.lvdc_text.specs.declared.cutting.Token.{Token}
+use Rattle.lvdc_text.specs.Lines.{numbered_part, is_line_feed, lines_from, is_blank, token_at, tokens_from, tokens_left}
 
 -- whether the byte doesn't end a part
 abbrev pub goes_on : (ℕ → Bool) → ℕ → Bool
@@ -57,37 +58,36 @@ pub last_line : (number start : ℕ) (text : List ℕ) → All (λ b. is_line_fe
     → lines_from number start (slice_split is_line_feed text) ≡ numbered_part number start (length text) ∷ []
 last_line number start text h l = ap (lines_from number start) (slice_split_none is_line_feed text h) ∙ lines_from-open number start text l
 
-pub words_from-empty : (number start : ℕ) (pieces : List (List ℕ)) → words_from number start ([] ∷ pieces) ≡ words_from number (start + 1) pieces
-unfolding words_from
-words_from-empty number start pieces = refl
+pub tokens_from-empty : (start : ℕ) (pieces : List (List ℕ)) → tokens_from start ([] ∷ pieces) ≡ tokens_from (start + 1) pieces
+unfolding tokens_from
+tokens_from-empty start pieces = refl
 
-pub words_from-none : (number start : ℕ) → words_from number start [] ≡ []
-unfolding words_from
-words_from-none number start = refl
+pub tokens_from-none : (start : ℕ) → tokens_from start [] ≡ []
+unfolding tokens_from
+tokens_from-none start = refl
 
-pub words_from-some : (number start : ℕ) (piece : List ℕ) (pieces : List (List ℕ)) → 0 < length piece
-    → words_from number start (piece ∷ pieces) ≡ numbered_part number start (length piece) ∷ words_from (number + 1) (start + length piece + 1) pieces
-unfolding words_from
-words_from-some number start piece pieces l =
-    ap (λ empty. if empty then words_from number (start + 1) pieces else numbered_part number start (length piece) ∷ words_from (number + 1) (start + length piece + 1) pieces) (not_zero (length piece) l)
+pub tokens_from-some : (start : ℕ) (piece : List ℕ) (pieces : List (List ℕ)) → 0 < length piece
+    → tokens_from start (piece ∷ pieces) ≡ token_at start (length piece) ∷ tokens_from (start + length piece + 1) pieces
+unfolding tokens_from
+tokens_from-some start piece pieces l =
+    ap (λ empty. if empty then tokens_from (start + 1) pieces else token_at start (length piece) ∷ tokens_from (start + length piece + 1) pieces) (not_zero (length piece) l)
 
 -- a blank is passed over
-pub blank_first : (number start b : ℕ) (rest : List ℕ) → is_blank b ≡ true
-    → words_from number start (slice_split is_blank (b ∷ rest)) ≡ words_from number (start + 1) (slice_split is_blank rest)
-blank_first number start b rest h = ap (words_from number start) (slice_split-cons_yes is_blank b rest h) ∙ words_from-empty number start (slice_split is_blank rest)
+pub blank_first : (start b : ℕ) (rest : List ℕ) → is_blank b ≡ true → tokens_from start (slice_split is_blank (b ∷ rest)) ≡ tokens_from (start + 1) (slice_split is_blank rest)
+blank_first start b rest h = ap (tokens_from start) (slice_split-cons_yes is_blank b rest h) ∙ tokens_from-empty start (slice_split is_blank rest)
 
--- a word that a blank ends
-pub first_word : (number start b : ℕ) (text rest : List ℕ) → All (λ b. is_blank b ≡ false) text → 0 < length text → is_blank b ≡ true
-    → words_from number start (slice_split is_blank (text ++ b ∷ rest)) ≡ numbered_part number start (length text) ∷ words_from (number + 1) (start + length text + 1) (slice_split is_blank rest)
-first_word number start b text rest h l k =
-    ap (words_from number start) (slice_split_at is_blank text b rest h k) ∙ words_from-some number start text (slice_split is_blank rest) l
+-- a token that a blank ends
+pub first_token : (start b : ℕ) (text rest : List ℕ) → All (λ b. is_blank b ≡ false) text → 0 < length text → is_blank b ≡ true
+    → tokens_from start (slice_split is_blank (text ++ b ∷ rest)) ≡ token_at start (length text) ∷ tokens_from (start + length text + 1) (slice_split is_blank rest)
+first_token start b text rest h l k =
+    ap (tokens_from start) (slice_split_at is_blank text b rest h k) ∙ tokens_from-some start text (slice_split is_blank rest) l
 
--- a word that nothing ends
-pub last_word : (number start : ℕ) (text : List ℕ) → All (λ b. is_blank b ≡ false) text → 0 < length text
-    → words_from number start (slice_split is_blank text) ≡ numbered_part number start (length text) ∷ []
-last_word number start text h l =
-    ap (words_from number start) (slice_split_none is_blank text h) ∙ words_from-some number start text [] l
-    ∙ ap (λ rest. numbered_part number start (length text) ∷ rest) (words_from-none (number + 1) (start + length text + 1))
+-- a token that nothing ends
+pub last_token : (start : ℕ) (text : List ℕ) → All (λ b. is_blank b ≡ false) text → 0 < length text
+    → tokens_from start (slice_split is_blank text) ≡ token_at start (length text) ∷ []
+last_token start text h l =
+    ap (tokens_from start) (slice_split_none is_blank text h) ∙ tokens_from-some start text [] l
+    ∙ ap (λ rest. token_at start (length text) ∷ rest) (tokens_from-none (start + length text + 1))
 
 -- the bytes up to this place, and from it
 cut_at : (start at : ℕ) (bytes : List ℕ) → start ≤ at → at < length bytes
@@ -154,43 +154,43 @@ no_line number start bytes lines all l e =
     sym (append-nil lines) ∙ ap (λ rest. lines ++ rest) (sym (ap (λ bs. lines_from number start (slice_split is_line_feed bs)) (drop_all start bytes l) ∙ lines_from-empty number start)) ∙ e
 
 -- a blank is passed over
-pub blank_skipped : (number at : ℕ) (text : List ℕ) → at < length text → is_blank (get_or text at 0) ≡ true → words_left number at text ≡ words_left number (at + 1) text
-blank_skipped number at text l k =
-    ap (λ bs. words_from number at (slice_split is_blank bs)) (drop_more text at 0 l) ∙ blank_first number at (get_or text at 0) (drop (at + 1) text) k
+pub blank_skipped : (at : ℕ) (text : List ℕ) → at < length text → is_blank (get_or text at 0) ≡ true → tokens_left at text ≡ tokens_left (at + 1) text
+blank_skipped at text l k =
+    ap (λ bs. tokens_from at (slice_split is_blank bs)) (drop_more text at 0 l) ∙ blank_first at (get_or text at 0) (drop (at + 1) text) k
 
--- no word is left at the end
-pub none_left : (number at : ℕ) (text : List ℕ) → length text ≤ at → words_left number at text ≡ []
-none_left number at text l =
-    ap (λ bs. words_from number at (slice_split is_blank bs)) (drop_all at text l) ∙ words_from-empty number at [] ∙ words_from-none number (at + 1)
+-- no token is left at the end
+pub none_left : (at : ℕ) (text : List ℕ) → length text ≤ at → tokens_left at text ≡ []
+none_left at text l =
+    ap (λ bs. tokens_from at (slice_split is_blank bs)) (drop_all at text l) ∙ tokens_from-empty at [] ∙ tokens_from-none (at + 1)
 
--- a blank ends the word in hand
-pub word_ended : (number start at : ℕ) (text : List ℕ) → start < at → at < length text → list_all (goes_on is_blank) (take (at - start) (drop start text)) ≡ true → is_blank (get_or text at 0) ≡ true
-    → words_left number start text ≡ record { number = number; start = start; end = at } ∷ words_left (number + 1) at text
-word_ended number start at text o l h k =
-    let word = take (at - start) (drop start text) in
+-- a blank ends the token in hand
+pub token_ended : (start at : ℕ) (text : List ℕ) → start < at → at < length text → list_all (goes_on is_blank) (take (at - start) (drop start text)) ≡ true → is_blank (get_or text at 0) ≡ true
+    → tokens_left start text ≡ record { start = start; end = at } ∷ tokens_left at text
+token_ended start at text o l h k =
+    let token = take (at - start) (drop start text) in
     let size = cut_length start at text (omega arith) (omega arith) in
     let place : start + length (take (at - start) (drop start text)) ≡ at = omega arith in
-    ap (λ bs. words_from number start (slice_split is_blank bs)) (cut_at start at text (omega arith) l)
-    ∙ first_word number start (get_or text at 0) word (drop (at + 1) text) (ends_nowhere is_blank word h) (omega arith) k
-    ∙ ap (λ n. record { number = number; start = start; end = n } ∷ words_from (number + 1) (n + 1) (slice_split is_blank (drop (at + 1) text))) place
-    ∙ ap (λ ws. record { number = number; start = start; end = at } ∷ ws) (sym (blank_skipped (number + 1) at text l k))
+    ap (λ bs. tokens_from start (slice_split is_blank bs)) (cut_at start at text (omega arith) l)
+    ∙ first_token start (get_or text at 0) token (drop (at + 1) text) (ends_nowhere is_blank token h) (omega arith) k
+    ∙ ap (λ n. record { start = start; end = n } ∷ tokens_from (n + 1) (slice_split is_blank (drop (at + 1) text))) place
+    ∙ ap (λ ts. record { start = start; end = at } ∷ ts) (sym (blank_skipped at text l k))
 
--- nothing ends the last word
-pub word_open : (number start : ℕ) (text : List ℕ) → start < length text → list_all (goes_on is_blank) (take (length text - start) (drop start text)) ≡ true
-    → words_left number start text ≡ record { number = number; start = start; end = length text } ∷ words_left (number + 1) (length text) text
-word_open number start text l h =
+-- nothing ends the last token
+pub token_open : (start : ℕ) (text : List ℕ) → start < length text → list_all (goes_on is_blank) (take (length text - start) (drop start text)) ≡ true
+    → tokens_left start text ≡ record { start = start; end = length text } ∷ tokens_left (length text) text
+token_open start text l h =
     let some : 0 < length (drop start text) = omega (arith, length-drop start text) in
-    last_word number start (drop start text) (ends_nowhere is_blank (drop start text) (rest_whole (goes_on is_blank) start text h)) some
-    ∙ ap (λ word. word ∷ []) (part_to_end number start text l)
-    ∙ ap (λ ws. record { number = number; start = start; end = length text } ∷ ws) (sym (none_left (number + 1) (length text) text (omega arith)))
+    last_token start (drop start text) (ends_nowhere is_blank (drop start text) (rest_whole (goes_on is_blank) start text h)) some
+    ∙ ap (λ n. record { start = start; end = n } ∷ []) (rest_length start text l)
+    ∙ ap (λ ts. record { start = start; end = length text } ∷ ts) (sym (none_left (length text) text (omega arith)))
 
--- one more word
-pub words_more : (words all : List Line) (token : Line) (left later : List Line) → words ++ left ≡ all → left ≡ token ∷ later → (words ++ token ∷ []) ++ later ≡ all
-words_more words all token left later e is = append_assoc words (token ∷ []) later ∙ ap (λ ws. words ++ ws) (sym is) ∙ e
+-- one more token
+pub tokens_more : (tokens all : List Token) (token : Token) (left later : List Token) → tokens ++ left ≡ all → left ≡ token ∷ later → (tokens ++ token ∷ []) ++ later ≡ all
+tokens_more tokens all token left later e is = append_assoc tokens (token ∷ []) later ∙ ap (λ ts. tokens ++ ts) (sym is) ∙ e
 
--- all words
-pub words_done : (words all left : List Line) → words ++ left ≡ all → left ≡ [] → words ≡ all
-words_done words all left e is = sym (append-nil words) ∙ ap (λ ws. words ++ ws) (sym is) ∙ e
+-- all tokens
+pub tokens_done : (tokens all left : List Token) → tokens ++ left ≡ all → left ≡ [] → tokens ≡ all
+tokens_done tokens all left e is = sym (append-nil tokens) ∙ ap (λ ts. tokens ++ ts) (sym is) ∙ e
 
 -- a CR at the end is stripped
 pub strip-cr : (text front : List ℕ) (last : ℕ) → text ≡ front ++ last ∷ [] → last ≡ 13 → length front ≡ length (strip_carriage_return text)

@@ -5,7 +5,7 @@ use Rattle.std.specs.Fmt.{digits}
 use Rattle.std.specs.IoError.{error_kind}
 use Rattle.std.specs.declared.io.Error.{Error}
 use Rattle.std.specs.declared.io.ErrorKind.TheVariants.{Interrupted}
-use Rattle.lvdc_text.specs.Lines.{numbered_part, lines_from, lines_of, words_from, words_of}
+use Rattle.lvdc_text.specs.Lines.{numbered_part, lines_from, lines_of, token_at, tokens_from, tokens_of}
 use Rattle.lvdc_text.specs.Numbers.{number_of, octal_text}
 use Rattle.lvdc_text.specs.Pieces.{pieces_text, fields_text}
 use Rattle.lvdc_text.specs.declared.pieces.Piece.TheVariants.{Decimal, Small, Octal, Word, Cell, Address}
@@ -21,9 +21,9 @@ nothing_after_the_last : lines_of (10 ∷ 13 ∷ 10 ∷ []) ≡ numbered_part 1 
 unfolding lines_from
 nothing_after_the_last = refl
 
-blanks_part_words : words_of (32 ∷ 65 ∷ 66 ∷ 9 ∷ 32 ∷ 55 ∷ []) ≡ numbered_part 1 1 2 ∷ numbered_part 2 5 1 ∷ []
-unfolding words_from
-blanks_part_words = refl
+blanks_part_tokens : tokens_of (32 ∷ 65 ∷ 66 ∷ 9 ∷ 32 ∷ 55 ∷ []) ≡ token_at 1 2 ∷ token_at 5 1 ∷ []
+unfolding tokens_from
+blanks_part_tokens = refl
 
 octal_with_zeros : number_of 8 3 (codes "017") ≡ Some 0o17
 octal_with_zeros = refl

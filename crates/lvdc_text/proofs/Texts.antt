@@ -1,12 +1,12 @@
--- The texts of the lines, and of the words, are the pieces that they were cut from.
+-- The texts of the lines, and of the tokens, are the pieces that they were cut from.
 use Rattle.std.proofs.Common.{◌≡◌, ℕ, ◌+◌, ◌-◌, ◌<◌, ◌≤◌, Bool, true, false, not, List, [], ◌∷◌, ◌++◌, length, take, drop, map, get_or, refl, sym, ap, ◌∙◌, subst, arith, if◌then◌else◌, length-take, ◌==◌}
 use Rattle.std.specs.List.{slice_split, onto_first, filter}
 use Rattle.std.specs.Str.Lines.{strip_carriage_return, lines_of_parts}
 use Rattle.std.proofs.lemmas.List.{take-append-drop, take-append-le, drop-drop}
 use Rattle.std.proofs.Math.Seq.{take-length}
 use Rattle.std.proofs.lemmas.List.Splits.{slice_split-cons_yes, slice_split-cons_no, length-slice_split}
-use Rattle.lvdc_text.specs.Lines.{numbered_part, part_of, is_line_feed, lines_from, lines_of, texts_of, is_blank, words_from, words_of, word_texts_of, has_bytes}
-use Rattle.lvdc_text.proofs.FirstParts.{not_zero, lines_from-ended, lines_from-open, lines_from-empty, lines_from-none, words_from-empty, words_from-none, words_from-some}
+use Rattle.lvdc_text.specs.Lines.{numbered_part, part_of, is_line_feed, lines_from, lines_of, texts_of, is_blank, token_at, tokens_from, tokens_of, token_texts_of, has_bytes, token_text}
+use Rattle.lvdc_text.proofs.FirstParts.{not_zero, lines_from-ended, lines_from-open, lines_from-empty, lines_from-none, tokens_from-empty, tokens_from-none, tokens_from-some}
 use Rattle.lvdc_text.proofs.Bounds.{stripped_fits}
 
 -- the pieces stand in the bytes one after the other from this place on, with a byte between
@@ -67,19 +67,19 @@ texts-lines_from number start (piece ∷ next ∷ pieces) bytes h =
     ap (map (part_of bytes)) (lines_from-ended number start piece (next ∷ pieces) (omega arith))
     ∙ same_cons (part_of bytes (numbered_part number start (length (strip_carriage_return piece)))) (strip_carriage_return piece) (map (part_of bytes) (lines_from (number + 1) (start + length piece + 1) (next ∷ pieces))) (lines_of_parts (next ∷ pieces)) (part_stripped number start piece bytes h.0) (texts-lines_from (number + 1) (start + length piece + 1) (next ∷ pieces) bytes h.1)
 
-texts-words_from : (number start : ℕ) (pieces : List (List ℕ)) (text : List ℕ) → StandsFrom text start pieces → map (part_of text) (words_from number start pieces) ≡ filter has_bytes pieces
-texts-words_from number start [] text h = ap (map (part_of text)) (words_from-none number start)
-texts-words_from number start ([] ∷ pieces) text h =
+texts-tokens_from : (start : ℕ) (pieces : List (List ℕ)) (text : List ℕ) → StandsFrom text start pieces → map (token_text text) (tokens_from start pieces) ≡ filter has_bytes pieces
+texts-tokens_from start [] text h = ap (map (token_text text)) (tokens_from-none start)
+texts-tokens_from start ([] ∷ pieces) text h =
     let place : start + 0 + 1 ≡ start + 1 = omega arith in
-    ap (map (part_of text)) (words_from-empty number start pieces) ∙ texts-words_from number (start + 1) pieces text (subst (λ n. StandsFrom text n pieces) place h.1)
-texts-words_from number start ((b ∷ bs) ∷ pieces) text h =
+    ap (map (token_text text)) (tokens_from-empty start pieces) ∙ texts-tokens_from (start + 1) pieces text (subst (λ n. StandsFrom text n pieces) place h.1)
+texts-tokens_from start ((b ∷ bs) ∷ pieces) text h =
     let some : (length (b ∷ bs) == 0) ≡ false = not_zero (length (b ∷ bs)) (omega arith) in
-    ap (map (part_of text)) (words_from-some number start (b ∷ bs) pieces (omega arith))
-    ∙ same_cons (part_of text (numbered_part number start (length (b ∷ bs)))) (b ∷ bs) (map (part_of text) (words_from (number + 1) (start + length (b ∷ bs) + 1) pieces)) (filter has_bytes pieces) (part_whole number start (b ∷ bs) text h.0) (texts-words_from (number + 1) (start + length (b ∷ bs) + 1) pieces text h.1)
+    ap (map (token_text text)) (tokens_from-some start (b ∷ bs) pieces (omega arith))
+    ∙ same_cons (token_text text (token_at start (length (b ∷ bs)))) (b ∷ bs) (map (token_text text) (tokens_from (start + length (b ∷ bs) + 1) pieces)) (filter has_bytes pieces) (part_whole 0 start (b ∷ bs) text h.0) (texts-tokens_from (start + length (b ∷ bs) + 1) pieces text h.1)
     ∙ ap (λ empty. if not empty then (b ∷ bs) ∷ filter has_bytes pieces else filter has_bytes pieces) (sym some)
 
 pub texts-lines_of : (bytes : List ℕ) → map (part_of bytes) (lines_of bytes) ≡ texts_of bytes
 texts-lines_of bytes = texts-lines_from 1 0 (slice_split is_line_feed bytes) bytes (stands-slice_split is_line_feed bytes 0 bytes refl)
 
-pub texts-words_of : (text : List ℕ) → map (part_of text) (words_of text) ≡ word_texts_of text
-texts-words_of text = texts-words_from 1 0 (slice_split is_blank text) text (stands-slice_split is_blank text 0 text refl)
+pub texts-tokens_of : (text : List ℕ) → map (token_text text) (tokens_of text) ≡ token_texts_of text
+texts-tokens_of text = texts-tokens_from 0 (slice_split is_blank text) text (stands-slice_split is_blank text 0 text refl)

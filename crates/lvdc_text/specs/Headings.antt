@@ -2,7 +2,7 @@
 use Rattle.std.specs.Prelude.{ℕ, Bool, false, List, [], ◌∷◌, position}
 use Rattle.std.specs.Str.{bytes_eq}
 use Rattle.std.specs.declared.option.Option.{Option}
-use Rattle.lvdc_text.specs.Lines.{part_of, word_texts_of}
+use Rattle.lvdc_text.specs.Lines.{part_of, token_texts_of}
 use Rattle.lvdc_text.specs.declared.cutting.Line.{Line}
 
 -- these tokens are one word, and it is this one
@@ -12,7 +12,7 @@ is_word word tokens = false
 
 -- the text is this word alone, but for outer blanks
 abbrev pub is_alone : List ℕ → List ℕ → Bool
-is_alone word text = is_word word (word_texts_of text)
+is_alone word text = is_word word (token_texts_of text)
 
 -- the place of the first of these lines that is this word alone
 abbrev pub place_of : List ℕ → List ℕ → List Line → Option ℕ

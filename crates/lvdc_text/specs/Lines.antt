@@ -1,11 +1,12 @@
--- How bytes fall into lines, and lines into words, which other texts call tokens.
+-- How bytes fall into lines, and lines into tokens.
 use Rattle.std.specs.Prelude.{ℕ, ◌+◌, ◌≤◌, nat_lt, length, map, drop, slice_range, Bool, true, ◌||◌, ◌==◌, not, List, [], ◌∷◌, if◌then◌else◌}
 use Rattle.std.specs.List.{slice_split, filter, list_all}
 use Rattle.std.specs.Str.Lines.{strip_carriage_return, lines_of_parts}
 use Rattle.lvdc_text.specs.declared.cutting.Line.{Line}
+use Rattle.lvdc_text.specs.declared.cutting.Token.{Token}
 use Rattle.lvdc_text.specs.declared.comment.TheConstants.{LONGEST_LINE}
 
--- the part with this number, from this place on, of this length
+-- the line with this number, from this place on, of this length
 abbrev pub numbered_part : ℕ → ℕ → ℕ → Line
 numbered_part number start count = record { number = number; start = start; end = start + count }
 
@@ -33,38 +34,51 @@ texts_of bytes = lines_of_parts (slice_split is_line_feed bytes)
 abbrev pub is_blank : ℕ → Bool
 is_blank b = b == 32 || b == 9
 
--- the words in the pieces between blanks, where the first has this number and the pieces begin here: those that aren't empty
-unfoldable pub words_from : ℕ → ℕ → List (List ℕ) → List Line
-words_from number start [] = []
-words_from number start (piece ∷ pieces) =
-    if length piece == 0 then words_from number (start + 1) pieces
-    else numbered_part number start (length piece) ∷ words_from (number + 1) (start + length piece + 1) pieces
+-- the token from this place on, of this length
+abbrev pub token_at : ℕ → ℕ → Token
+token_at start count = record { start = start; end = start + count }
 
--- the words of the text from a place on, where the first has this number
-abbrev pub words_left : ℕ → ℕ → List ℕ → List Line
-words_left number start text = words_from number start (slice_split is_blank (drop start text))
+-- the tokens in the pieces between blanks, where the pieces begin here: those that aren't empty
+unfoldable pub tokens_from : ℕ → List (List ℕ) → List Token
+tokens_from start [] = []
+tokens_from start (piece ∷ pieces) =
+    if length piece == 0 then tokens_from (start + 1) pieces
+    else token_at start (length piece) ∷ tokens_from (start + length piece + 1) pieces
 
--- the words of the text, from 1
-abbrev pub words_of : List ℕ → List Line
-words_of text = words_from 1 0 (slice_split is_blank text)
+-- the tokens of the text from a place on
+abbrev pub tokens_left : ℕ → List ℕ → List Token
+tokens_left start text = tokens_from start (slice_split is_blank (drop start text))
+
+-- the tokens of the text
+abbrev pub tokens_of : List ℕ → List Token
+tokens_of text = tokens_from 0 (slice_split is_blank text)
 
 -- the piece isn't empty
 abbrev pub has_bytes : List ℕ → Bool
 has_bytes piece = not (length piece == 0)
 
--- the texts of the words: the pieces between blanks that aren't empty
-abbrev pub word_texts_of : List ℕ → List (List ℕ)
-word_texts_of text = filter has_bytes (slice_split is_blank text)
+-- the texts of the tokens: the pieces between blanks that aren't empty
+abbrev pub token_texts_of : List ℕ → List (List ℕ)
+token_texts_of text = filter has_bytes (slice_split is_blank text)
 
--- the part lies within the bytes, and its number is no more than their count
+-- the line lies within the bytes, and its number is no more than their count
 pub record IsWithin (bytes : List ℕ) (line : Line) : Type 0 where
   pub in_order : line.start ≤ line.end
   pub in_range : line.end ≤ length bytes
   pub counted : line.number ≤ length bytes
 
--- the bytes of the part
+-- the bytes of the line
 abbrev pub part_of : List ℕ → Line → List ℕ
 part_of bytes line = slice_range bytes line.start line.end
+
+-- the token lies within the text
+pub record LiesIn (text : List ℕ) (token : Token) : Type 0 where
+  pub in_order : token.start ≤ token.end
+  pub in_range : token.end ≤ length text
+
+-- the bytes of the token
+abbrev pub token_text : List ℕ → Token → List ℕ
+token_text text token = slice_range text token.start token.end
 
 -- the bytes of a line, and its number
 pub record NumberedLine : Type 0 where

@@ -20,7 +20,7 @@ mod transfer;
 
 pub use calls::{Reads, Writes};
 pub use comment::{LONGEST_LINE, is_comment, is_long};
-pub use cutting::{Line, few_tokens, is_blank, lines, part, tokens};
+pub use cutting::{Line, Token, few_tokens, is_blank, lines, part, token_text, tokens};
 pub use faulty::{FaultySink, FaultySource};
 pub use headings::{is_alone, is_word, place_of, spells};
 pub use index::Index;

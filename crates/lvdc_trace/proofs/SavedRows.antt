@@ -4,7 +4,7 @@ use Rattle.std.specs.Prelude.{codes}
 use Rattle.std.specs.Fmt.{digits}
 use Rattle.lvdc_word.specs.Cell.{with_stuck}
 use Rattle.lvdc_vote.specs.Bits.{majority, flipped, forced}
-use Rattle.lvdc_text.specs.Lines.{lines_from, words_from}
+use Rattle.lvdc_text.specs.Lines.{lines_from, tokens_from}
 use Rattle.lvdc_text.specs.Numbers.{octal_text, word_in}
 use Rattle.lvdc_machine.specs.declared.mode.Mode.TheVariants.{Guarded, Through}
 use Rattle.lvdc_lines.specs.Fields.{step_in, twin_in, pair_in, cell_in, module_copy_in, index_in, span_in, place_in}
@@ -27,27 +27,27 @@ steps_3_to_5 : List ℕ
 steps_3_to_5 = codes "LVDC TRACE\nSTEP 3\nFETCH 0 00 001 000007001\nFAULT 5 1\nVOTE 1 000000001 000000000\nVOTE 2 000002004 000000000\nVOTE 3 000007001\nVOTE 4 000000012\nVOTE 5 177777777 177777777\nVOTE 6 000000000 000000000 000000000 000000000 000000000\nVOTE 7 000000000 000000000\nCOPY 5 1 177777776 177777777\nSTEP 4\nOPERAND 0 01 001 000000001\nFAULT 5 2\nVOTE 1 000000002 000000000\nVOTE 5 177777777 000000001\nCOPY 5 2 177777776 000000001\nSTEP 5\nFAULT 5 3\nVOTE 1 000000000 000000000\nVOTE 2 000004004 000000000\nVOTE 5 200000000 000000001\nCOPY 5 3 200000001 000000001\nMORE\n"
 
 the_steps_that_are_left : trace_answer Guarded (window 3 3) text [] ≡ answer_with 0 steps_3_to_5 []
-unfolding text steps_3_to_5 lines_from words_from octal_text word_in step_in twin_in pair_in cell_in module_copy_in index_in span_in place_in with_stuck majority flipped forced lines_of lines_below digits told_from
+unfolding text steps_3_to_5 lines_from tokens_from octal_text word_in step_in twin_in pair_in cell_in module_copy_in index_in span_in place_in with_stuck majority flipped forced lines_of lines_below digits told_from
 the_steps_that_are_left = refl
 
 -- a window that begins before the state begins with it
 from_before_the_state : trace_answer Guarded (window 0 3) text [] ≡ answer_with 0 steps_3_to_5 []
-unfolding text steps_3_to_5 lines_from words_from octal_text word_in step_in twin_in pair_in cell_in module_copy_in index_in span_in place_in with_stuck majority flipped forced lines_of lines_below digits told_from
+unfolding text steps_3_to_5 lines_from tokens_from octal_text word_in step_in twin_in pair_in cell_in module_copy_in index_in span_in place_in with_stuck majority flipped forced lines_of lines_below digits told_from
 from_before_the_state = refl
 
 -- it may begin after the last step
 after_the_last_step : trace_answer Guarded (window 9 1) text [] ≡ answer_with 0 (codes "LVDC TRACE\nEND DONE\n") []
-unfolding text lines_from words_from octal_text word_in step_in twin_in pair_in cell_in module_copy_in index_in span_in place_in with_stuck majority flipped forced lines_of lines_below digits told_from
+unfolding text lines_from tokens_from octal_text word_in step_in twin_in pair_in cell_in module_copy_in index_in span_in place_in with_stuck majority flipped forced lines_of lines_below digits told_from
 after_the_last_step = refl
 
 -- the title alone is a saved text, which lacks the rest
 a_title_alone : trace_answer Guarded (window 0 1) (codes "LVDC SAVE 1\r\n") [] ≡ answer_with 2 (codes "REFUSED BadSave 2\n") []
-unfolding lines_from words_from told_from digits
+unfolding lines_from tokens_from told_from digits
 a_title_alone = refl
 
 -- through every fault it is a deck's first line, and none
 through_every_fault : trace_answer Through (window 0 1) (codes "LVDC SAVE 1\r\n") [] ≡ answer_with 2 (codes "REFUSED NoProgram 1\n") []
-unfolding lines_from words_from deck_from digits
+unfolding lines_from tokens_from deck_from digits
 through_every_fault = refl
 
 -- with a blank behind it the title is none

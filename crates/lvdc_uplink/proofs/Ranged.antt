@@ -5,7 +5,7 @@ use Rattle.std.specs.Option.{option_and_then, option_map}
 use Rattle.std.specs.Str.{bytes_eq}
 use Rattle.std.proofs.lemmas.Bool.{ltb-true, leb-true}
 use Rattle.lvdc_map.specs.Address.{Spot}
-use Rattle.lvdc_text.specs.Lines.{word_texts_of, is_long}
+use Rattle.lvdc_text.specs.Lines.{token_texts_of, is_long}
 use Rattle.lvdc_text.specs.Numbers.{number_of, below, word_in}
 use Rattle.lvdc_lines.specs.Fields.{from, octal_in, pair_in, place_of, place_in}
 use Rattle.lvdc_uplink.specs.Messages.{id_in, count_in, content_in, checked_of, open_of, open_in, frame_of, frame_in, commit_of, commit_in, abandon_in, message_in, message_of}
@@ -123,4 +123,4 @@ message_in-ranged (word ∷ fields) =
     (either (bytes_eq word (codes "ABANDON")) (abandon_in fields) None (abandon_in-ranged fields) tt)))
 
 pub message_of-ranged : (text : List ℕ) → IsRanged (message_of text)
-message_of-ranged text = either (is_long text) None (message_in (word_texts_of text)) tt (message_in-ranged (word_texts_of text))
+message_of-ranged text = either (is_long text) None (message_in (token_texts_of text)) tt (message_in-ranged (token_texts_of text))

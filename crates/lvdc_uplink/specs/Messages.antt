@@ -2,7 +2,7 @@
 use Rattle.std.specs.Prelude.{ℕ, ◌-◌, ◌≤◌, ◌<◌, nat_lt, nat_le, ◌&&◌, List, [], ◌∷◌, take, length, slice_index_or, codes, if◌then◌else◌, Option, None, Some, option_map, option_and_then}
 use Rattle.std.specs.Str.{bytes_eq}
 use Rattle.lvdc_map.specs.Address.{Spot}
-use Rattle.lvdc_text.specs.Lines.{word_texts_of, is_long}
+use Rattle.lvdc_text.specs.Lines.{token_texts_of, is_long}
 use Rattle.lvdc_text.specs.Numbers.{number_of, below, word_in}
 use Rattle.lvdc_lines.specs.Fields.{from, place_in}
 use Rattle.lvdc_uplink.specs.Frames.{Frame}
@@ -102,7 +102,7 @@ message_in (word ∷ fields) =
 
 -- the message that a line is, where it is one
 abbrev pub message_of : List ℕ → Option Message
-message_of text = if is_long text then None else message_in (word_texts_of text)
+message_of text = if is_long text then None else message_in (token_texts_of text)
 
 -- ---- ranges
 

@@ -1,24 +1,24 @@
 ghost use Rattle.std.specs.Prelude.{◌≡◌, map, IfSome, All};
-ghost use Rattle.lvdc_text.specs.Lines.{IsWithin, part_of};
+ghost use Rattle.lvdc_text.specs.Lines.{LiesIn, token_text};
 ghost use Rattle.lvdc_uplink.specs.Messages.{message_in, message_of, IsMessage};
 
 use crate::fields::{abandon_in, commit_in, frame_in, open_in};
 use crate::message::Message;
-use lvdc_text::{Line, few_tokens, is_long, part};
+use lvdc_text::{Token, few_tokens, is_long, token_text};
 
 /// The most tokens of a message: FRAME with eight words has so many.
 const MOST_TOKENS: usize = 15;
 
 /// The message of these tokens.
-fn message_in(text: &[u8], tokens: &[Line]) -> Option<Message>
-    requires { All (IsWithin text.now) tokens.now }
-    ensures message { result ≡ message_in (map (part_of text.now) tokens.now) }
+fn message_in(text: &[u8], tokens: &[Token]) -> Option<Message>
+    requires { All (LiesIn text.now) tokens.now }
+    ensures message { result ≡ message_in (map (token_text text.now) tokens.now) }
     ensures ranges { IfSome result IsMessage }
 {
     let [first, fields @ ..] = tokens else {
         return None;
     };
-    let word = part(text, first);
+    let word = token_text(text, first);
     if word == b"OPEN".as_slice() {
         open_in(text, fields)
     } else if word == b"FRAME".as_slice() {

@@ -4,8 +4,7 @@ use Rattle.std.proofs.lemmas.List.Elements.{All-push}
 use Rattle.lvdc_text.specs.Lines.{IsWithin, part_of, is_long, is_comment}
 use Rattle.lvdc_text.specs.declared.cutting.Line.{Line}
 use Rattle.lvdc_text.specs.declared.comment.TheConstants.{LONGEST_LINE}
-use Rattle.lvdc_deck.proofs.Tokens.{no_line}
-use Rattle.lvdc_deck.proofs.Steps.{commands-long, commands-skipped, commands-more, commands-done}
+use Rattle.lvdc_deck.proofs.Steps.{no_line, commands-long, commands-skipped, commands-more, commands-done}
 use Rattle.lvdc_deck.proofs.commands.commands_in.Goals as goal
 use Rattle.lvdc_deck.proofs.commands.commands_in.Goals.{then-not-is_comment+in_ok-push, else-not-is_comment}
 

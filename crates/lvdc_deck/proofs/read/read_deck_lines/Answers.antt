@@ -5,8 +5,7 @@ use Rattle.lvdc_text.specs.Lines.{part_of}
 use Rattle.lvdc_text.specs.declared.cutting.Line.{Line}
 use Rattle.lvdc_deck.specs.Deck.{end_of, opening_of, deck_from}
 use Rattle.lvdc_deck.specs.declared.section.Opening.TheVariants as opening
-use Rattle.lvdc_deck.proofs.Tokens.{no_line}
-use Rattle.lvdc_deck.proofs.Steps.{deck-by, deck-program, deck-none}
+use Rattle.lvdc_deck.proofs.Steps.{no_line, deck-by, deck-program, deck-none}
 use Rattle.lvdc_deck.proofs.Ends.{further-behind, further-back, skipped-other, program-other, end-over, end-first}
 use Rattle.lvdc_deck.proofs.read.read_deck_lines.Goals as goal
 

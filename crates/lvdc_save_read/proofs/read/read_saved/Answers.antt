@@ -3,8 +3,7 @@ use Rattle.lvdc_text.specs.Lines.{numbered}
 use Rattle.lvdc_save.specs.Reading.{Progress, told_from}
 use Rattle.lvdc_save_read.specs.Sound.{IsSoundProgress}
 use Rattle.lvdc_save_read.proofs.Soundness.{sound_first}
-use Rattle.lvdc_save_read.proofs.Tokens.{no_line}
-use Rattle.lvdc_save_read.proofs.ReadingLines.{told-more, told-bad, told-done, saved-done, saved-bad, ok_of, err_of}
+use Rattle.lvdc_save_read.proofs.ReadingLines.{no_line, told-more, told-bad, told-done, saved-done, saved-bad, ok_of, err_of}
 use Rattle.lvdc_save_read.proofs.Fitting.{result-fits}
 use Rattle.lvdc_save_read.proofs.read.read_saved.Goals as goal
 

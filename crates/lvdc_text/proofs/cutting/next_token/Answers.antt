@@ -4,4 +4,4 @@ use Rattle.lvdc_text.proofs.cutting.next_token.Goals as goal
 
 pub returns-then-start-text-clause-none : goal.returns-then-start-text-clause-none
 returns-then-start-text-clause-none c =
-    c.skip_blanks-start.ensures.skipped c.args.number ∙ none_left c.args.number c.skip_blanks-start.result c.args.text.now (omega arith)
+    c.skip_blanks-start.ensures.skipped ∙ none_left c.skip_blanks-start.result c.args.text.now (omega arith)

@@ -6,5 +6,5 @@ pub loop-at-preserved : goal.loop-at-preserved
 loop-at-preserved c = record {
   after = omega arith;
   within = omega arith;
-  skipped = λ number. c.loop-at.invariant.skipped number ∙ blank_skipped number c.loop-at.at c.args.text.now c.loop-at-test.true (sym c.is_blank.ensures ∙ c.if-is_blank.true);
+  skipped = c.loop-at.invariant.skipped ∙ blank_skipped c.loop-at.at c.args.text.now c.loop-at-test.true (sym c.is_blank.ensures ∙ c.if-is_blank.true);
 }

@@ -2,8 +2,7 @@ use Rattle.std.proofs.Common.{◌≡◌, ◌+◌, true, false, map, Ok, Err, sym
 use Rattle.std.proofs.lemmas.List.{take_rest}
 use Rattle.std.proofs.lemmas.Result.{IfOk-weaker, IfErr-weaker}
 use Rattle.lvdc_deck.specs.Sections.{Sections, is_debug}
-use Rattle.lvdc_deck.proofs.Tokens.{no_line}
-use Rattle.lvdc_deck.proofs.Steps.{told-more, told-commands, told-bad, told-done}
+use Rattle.lvdc_deck.proofs.Steps.{no_line, told-more, told-commands, told-bad, told-done}
 use Rattle.lvdc_deck.proofs.said.Said.take_lines.Goals as goal
 
 pub returns-in-Err-clause-refusal : goal.returns-in-Err-clause-refusal
