@@ -1,60 +1,51 @@
 ghost use Rattle.std.specs.Prelude.{◌≡◌, ◌≤◌, ◌+◌, ◌*◌, ◌++◌, length, map, codes, decimal, OnOk, All};
-ghost use Rattle.lvdc_text.specs.Numbers.{octal_text};
 ghost use Rattle.lvdc_text.specs.Lines.{IsWithin, part_of};
 ghost use Rattle.lvdc_uplink.specs.Link.{after_text};
 ghost use Rattle.lvdc_uplink.specs.History.{answers_from, link_after};
 ghost use Rattle.lvdc_uplink.specs.Answers.{answer_line, answers_text};
+ghost use Rattle.lvdc_uplink.specs.declared.answer.Answer.TheVariants.{Framed};
 
 use crate::{Answer, Uplink};
-use lvdc_text::{Line, part, put_decimal, put_octal, put_text};
-use lvdc_word::{NoMemory, Word};
+use lvdc_text::{Line, Piece, part, put_line, put_text};
+use lvdc_word::NoMemory;
 
-/// Appends a text and a number.
-fn put_number(out: &mut Vec<u8>, text: &[u8], number: u32) -> Result<(), NoMemory>
-    ensures text { OnOk result (out.new.items ≡ out.old.items ++ (text.now ++ decimal number)) }
-    ensures short { OnOk result (length out.new.items ≤ length out.old.items + length text.now + 10) }
+/// Appends a name and a number, as a line.
+fn put_number(out: &mut Vec<u8>, name: &[u8], number: u32) -> Result<(), NoMemory>
+    ensures text { OnOk result (out.new.items ≡ out.old.items ++ ((name.now ++ codes " " ++ decimal number) ++ codes "\n")) }
+    ensures short { OnOk result (length out.new.items ≤ length out.old.items + (length name.now + 12)) }
 {
-    out.extend_from_slice(text)?;
-    put_decimal(out, u64::from(number))?;
+    put_line(out, name, &[Piece::Decimal(u64::from(number))])?;
     Ok(())
 }
 
-/// Appends the id of a load and the number of a frame that is staged.
+/// Appends that a frame of a load is staged, by the load's id and the frame's number.
 fn put_frame(out: &mut Vec<u8>, id: u32, i: u8) -> Result<(), NoMemory>
-    ensures text { OnOk result (out.new.items ≡ out.old.items ++ (codes "ACK FRAME " ++ decimal id ++ codes " " ++ decimal i)) }
-    ensures short { OnOk result (length out.new.items ≤ length out.old.items + 31) }
+    ensures text { OnOk result (out.new.items ≡ out.old.items ++ (answer_line (Framed id i) ++ codes "\n")) }
+    ensures short { OnOk result (length out.new.items ≤ length out.old.items + 32) }
 {
-    put_number(out, b"ACK FRAME ", id)?;
-    put_number(out, b" ", u32::from(i))
+    let (id, number) = (Piece::Decimal(u64::from(id)), Piece::Small(i));
+    put_line(out, b"ACK FRAME", &[id, number])?;
+    Ok(())
 }
 
-/// Appends the check word that a load should have.
-fn put_check(out: &mut Vec<u8>, check: Word) -> Result<(), NoMemory>
-    ensures text { OnOk result (out.new.items ≡ out.old.items ++ (codes "NAK Check " ++ octal_text 9 check)) }
-    ensures short { OnOk result (length out.new.items ≤ length out.old.items + 19) }
-{
-    out.extend_from_slice(b"NAK Check ")?;
-    put_octal(out, u64::from(check.value()), 9)
-}
-
-/// Appends what an answer says, without the end of its line.
+/// Appends the line of an answer.
 fn put_answer(out: &mut Vec<u8>, answer: Answer) -> Result<(), NoMemory>
-    ensures text { OnOk result (out.new.items ≡ out.old.items ++ answer_line answer) }
-    ensures short { OnOk result (length out.new.items ≤ length out.old.items + 31) }
+    ensures text { OnOk result (out.new.items ≡ out.old.items ++ (answer_line answer ++ codes "\n")) }
+    ensures short { OnOk result (length out.new.items ≤ length out.old.items + 32) }
 {
     match answer {
-        Answer::Opened(id) => put_number(out, b"ACK OPEN ", id),
+        Answer::Opened(id) => put_number(out, b"ACK OPEN", id),
         Answer::Framed { id, i } => put_frame(out, id, i),
-        Answer::Committed(id) => put_number(out, b"ACK COMMIT ", id),
-        Answer::Abandoned(id) => put_number(out, b"ACK ABANDON ", id),
-        Answer::Busy(id) => put_number(out, b"NAK Busy ", id),
-        Answer::Old(id) => put_number(out, b"NAK Old ", id),
-        Answer::Check(check) => put_check(out, check),
-        Answer::Differs(number) => put_number(out, b"NAK Differs ", u32::from(number)),
-        Answer::Missing(number) => put_number(out, b"NAK Missing ", u32::from(number)),
-        Answer::Form => put_text(out, b"NAK Form"),
-        Answer::NoLoad => put_text(out, b"NAK NoLoad"),
-        Answer::Range => put_text(out, b"NAK Range"),
+        Answer::Committed(id) => put_number(out, b"ACK COMMIT", id),
+        Answer::Abandoned(id) => put_number(out, b"ACK ABANDON", id),
+        Answer::Busy(id) => put_number(out, b"NAK Busy", id),
+        Answer::Old(id) => put_number(out, b"NAK Old", id),
+        Answer::Check(check) => put_line(out, b"NAK Check", &[Piece::Word(check)]),
+        Answer::Differs(number) => put_number(out, b"NAK Differs", u32::from(number)),
+        Answer::Missing(number) => put_number(out, b"NAK Missing", u32::from(number)),
+        Answer::Form => put_text(out, b"NAK Form\n"),
+        Answer::NoLoad => put_text(out, b"NAK NoLoad\n"),
+        Answer::Range => put_text(out, b"NAK Range\n"),
     }
 }
 
@@ -65,9 +56,7 @@ fn send_line(uplink: &mut Uplink, text: &[u8], out: &mut Vec<u8>) -> Result<(), 
     ensures short { OnOk result (length out.new.items ≤ length out.old.items + 32) }
 {
     let answer = uplink.message(text)?;
-    put_answer(out, answer)?;
-    out.push(b'\n')?;
-    Ok(())
+    put_answer(out, answer)
 }
 
 /// Sends these lines one after another, and appends the line of each answer.
