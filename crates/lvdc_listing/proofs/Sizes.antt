@@ -1,5 +1,5 @@
 -- How long the rows of a listing are.
-use Rattle.std.proofs.Common.{◌≡◌, ℕ, zero, suc, ◌+◌, ◌-◌, ◌*◌, ◌/◌, ◌%◌, ◌^◌, ◌<◌, ◌≤◌, Bool, true, false, List, [], ◌∷◌, ◌++◌, length, take, drop, map, zip, flat_map, Option, None, Some, if◌then◌else◌, ◌==◌, refl, ap, ◌∙◌, subst, arith, length-append, length-take, get_or, All}
+use Rattle.std.proofs.Common.{◌≡◌, ℕ, zero, suc, ◌+◌, ◌-◌, ◌*◌, ◌^◌, ◌<◌, ◌≤◌, Bool, true, false, List, [], ◌∷◌, ◌++◌, length, take, drop, map, zip, flat_map, Option, None, Some, if◌then◌else◌, ◌==◌, refl, ap, ◌∙◌, subst, arith, length-append, length-take, get_or, All}
 use Rattle.std.specs.List.{AllByRecursion, slice_split, onto_first}
 use Rattle.std.specs.Map.{values_of}
 use Rattle.std.specs.Str.Lines.{strip_carriage_return}
@@ -10,10 +10,10 @@ use Rattle.std.proofs.lemmas.List.Splits.{slice_split-cons_yes, slice_split-cons
 use Rattle.lvdc_map.specs.Address.{Spot}
 use Rattle.lvdc_map.specs.Memory.{Memory, memory_of, word_at}
 use Rattle.lvdc_text.specs.Lines.{is_line_feed, lines_from, lines_of, numbered_part, part_of, IsWithin, NumberedLine, numbered, is_comment}
-use Rattle.lvdc_text.specs.Numbers.{octal_text}
 use Rattle.lvdc_text.specs.declared.cutting.Line.{Line}
 use Rattle.lvdc_text.specs.Joined.{text_of}
 use Rattle.lvdc_text.proofs.Joining.{text_of-append}
+use Rattle.lvdc_text.proofs.ReadBack.{length-octal_text}
 use Rattle.lvdc_source.specs.Items.{IsShort}
 use Rattle.lvdc_source.specs.declared.item.Body.{Body}
 use Rattle.lvdc_source.specs.declared.item.Body.TheVariants as says
@@ -27,11 +27,6 @@ use Rattle.lvdc_listing.specs.Rows.{Field, row, line_rows, pool_row, name_rows}
 use Rattle.lvdc_listing.proofs.Steps.{comment_row, end_row, item_row, other_row}
 
 -- ---- places and fields
-
-length-octal_text : (width n : ℕ) → length (octal_text width n) ≡ width
-unfolding octal_text
-length-octal_text zero n = refl
-length-octal_text (suc width) n = let rest = length-octal_text width (n / 8) in omega (arith, length-append (octal_text width (n / 8)) ((48 + n % 8) ∷ []))
 
 length-syllable : (syl : Option ℕ) → length (syllable_text syl) ≡ 1
 length-syllable None = refl

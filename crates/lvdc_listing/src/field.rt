@@ -2,37 +2,28 @@
 
 ghost use Rattle.std.specs.Prelude.{◌≡◌, ◌++◌, OnOk, IfOk};
 ghost use Rattle.lvdc_map.specs.Memory.{Memory, IsMemory};
+ghost use Rattle.lvdc_text.specs.Pieces.{piece_text, IsFit};
 ghost use Rattle.lvdc_place.specs.Placement.{IsInPairs};
 ghost use Rattle.lvdc_asm.specs.Target.{IsHalf};
-ghost use Rattle.lvdc_listing.specs.Places.{sector_text, syllable_text, place_text, syllable_in, held_text, field_text};
+ghost use Rattle.lvdc_listing.specs.Places.{syllable_text, place_text, syllable_in, held_text, field_text};
 
-use lvdc_map::{Address, Words};
+use lvdc_map::Words;
 use lvdc_place::Spot;
 use lvdc_source::Body;
-use lvdc_text::put_octal;
+use lvdc_text::{Piece, put};
 use lvdc_word::{NoMemory, Syllable, Word};
 use std::alloc::Global;
 
-/// Appends pair and sector.
-pub(crate) fn put_sector(out: &mut Vec<u8>, at: Address) -> Result<(), NoMemory>
-    ensures { OnOk result (out.new.items ≡ out.old.items ++ sector_text at) }
-{
-    put_octal(out, u64::from(at.pair), 1)?;
-    out.extend_from_slice(b" ")?;
-    put_octal(out, u64::from(at.sector), 2)?;
-    Ok(())
-}
-
-/// Appends the syllable of code, or a dash for words.
-fn put_syllable(out: &mut Vec<u8>, syl: Option<u8>) -> Result<(), NoMemory>
+/// The syllable of code, or a dash for words.
+fn syllable_piece(syl: Option<u8>) -> Piece<'static>
     requires { IsHalf syl }
-    ensures { OnOk result (out.new.items ≡ out.old.items ++ syllable_text syl) }
+    ensures text { piece_text result ≡ syllable_text syl }
+    ensures fit { IsFit result }
 {
     match syl {
-        None => out.extend_from_slice(b"-")?,
-        Some(syl) => put_octal(out, u64::from(syl), 1)?,
+        None => Piece::Bytes(b"-"),
+        Some(syl) => Piece::Octal(u64::from(syl), 1),
     }
-    Ok(())
 }
 
 /// Appends pair, sector, syllable and location.
@@ -40,12 +31,22 @@ pub(crate) fn put_place(out: &mut Vec<u8>, here: &Spot) -> Result<(), NoMemory>
     requires { IsHalf here.now.syl }
     ensures { OnOk result (out.new.items ≡ out.old.items ++ place_text here.now) }
 {
-    put_sector(out, here.at)?;
-    out.extend_from_slice(b" ")?;
-    put_syllable(out, here.syl)?;
-    out.extend_from_slice(b" ")?;
-    put_octal(out, u64::from(here.at.loc), 3)?;
-    Ok(())
+    let pair = Piece::Octal(u64::from(here.at.pair), 1);
+    let sector = Piece::Octal(u64::from(here.at.sector), 2);
+    let loc = Piece::Octal(u64::from(here.at.loc), 3);
+    let syl = syllable_piece(here.syl);
+    put(
+        out,
+        &[
+            pair,
+            Piece::Bytes(b" "),
+            sector,
+            Piece::Bytes(b" "),
+            syl,
+            Piece::Bytes(b" "),
+            loc,
+        ],
+    )
 }
 
 /// The syllable of a word that stands in this slot.
@@ -60,18 +61,15 @@ fn syllable_in(word: Word, syl: Option<u8>) -> Syllable
 fn put_held(out: &mut Vec<u8>, word: Word, syl: Option<u8>, body: &Body) -> Result<(), NoMemory>
     ensures { OnOk result (out.new.items ≡ out.old.items ++ held_text word syl body.now) }
 {
+    let blank = Piece::Bytes(b" ");
     match body {
         Body::Instruction { .. } => {
-            out.extend_from_slice(b" ")?;
-            put_octal(out, u64::from(syllable_in(word, syl).value()), 5)?;
+            let bits = syllable_in(word, syl).value();
+            put(out, &[blank, Piece::Octal(u64::from(bits), 5)])
         }
-        Body::Constant(_) => {
-            out.extend_from_slice(b" ")?;
-            put_octal(out, u64::from(word.value()), 9)?;
-        }
-        _ => {}
+        Body::Constant(_) => put(out, &[blank, Piece::Word(word)]),
+        _ => Ok(()),
     }
-    Ok(())
 }
 
 /// The field of an item that stands here.

@@ -9,6 +9,7 @@ ghost use Rattle.lvdc_listing.specs.Rows.{name_rows};
 use crate::field::put_place;
 use lvdc_asm::Assembly;
 use lvdc_place::Spot;
+use lvdc_text::{Piece, put, put_text};
 use lvdc_word::NoMemory;
 
 /// Appends the row of the name that a line defines, where it defines one.
@@ -22,12 +23,10 @@ fn put_name(out: &mut Vec<u8>, label: &[u8], spot: Option<Spot>) -> Result<(), N
     if label.is_empty() {
         return Ok(());
     }
-    out.extend_from_slice(b"NAME ")?;
-    out.extend_from_slice(label)?;
-    out.extend_from_slice(b" ")?;
+    let (name, label) = (Piece::Bytes(b"NAME "), Piece::Bytes(label));
+    put(out, &[name, label, Piece::Bytes(b" ")])?;
     put_place(out, &here)?;
-    out.extend_from_slice(b"\n")?;
-    Ok(())
+    put_text(out, b"\n")
 }
 
 /// Appends the rows of the names, in the order of their definition.

@@ -6,24 +6,19 @@ ghost use Rattle.lvdc_map.specs.Memory.{Memory, IsMemory};
 ghost use Rattle.lvdc_text.specs.Joined.{text_of};
 ghost use Rattle.lvdc_listing.specs.Rows.{pool_row};
 
-use crate::field::put_sector;
 use lvdc_asm::Assembly;
 use lvdc_map::{Address, Words};
-use lvdc_text::put_octal;
+use lvdc_text::{Piece, put_line};
 use lvdc_word::{NoMemory, Word};
 
 /// Appends the row of a pooled word.
 fn put_pooled(out: &mut Vec<u8>, at: Address, word: Word) -> Result<(), NoMemory>
     ensures { OnOk result (out.new.items ≡ out.old.items ++ text_of (pool_row (λ _. word) at ∷ [])) }
 {
-    out.extend_from_slice(b"POOL ")?;
-    put_sector(out, at)?;
-    out.extend_from_slice(b" ")?;
-    put_octal(out, u64::from(at.loc), 3)?;
-    out.extend_from_slice(b" ")?;
-    put_octal(out, u64::from(word.value()), 9)?;
-    out.extend_from_slice(b"\n")?;
-    Ok(())
+    let pair = Piece::Octal(u64::from(at.pair), 1);
+    let sector = Piece::Octal(u64::from(at.sector), 2);
+    let loc = Piece::Octal(u64::from(at.loc), 3);
+    put_line(out, b"POOL", &[pair, sector, loc, Piece::Word(word)])
 }
 
 /// Appends the rows of the pooled words, in the order of their first use.

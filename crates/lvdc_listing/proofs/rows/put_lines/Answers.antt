@@ -1,4 +1,4 @@
-use Rattle.std.proofs.Common.{rules, ◌≡◌, ◌==◌, ◌<◌, ◌≤◌, ◌∙◌, true, false, length, get_or, sym, arith}
+use Rattle.std.proofs.Common.{rules, ◌<◌, ◌∙◌, length, sym, arith}
 use Rattle.std.proofs.lemmas.Bool.Decides.{nat_tests}
 use Rattle.lvdc_map.specs.Memory.{memory_of}
 use Rattle.lvdc_text.specs.declared.cutting.Line.{Line}
