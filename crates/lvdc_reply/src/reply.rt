@@ -1,7 +1,7 @@
 ghost use Rattle.std.specs.Prelude.{◌≡◌, ◌+◌, ◌≤◌, length, IfOk};
 ghost use Rattle.lvdc_reply.specs.Answer.{refusal_text};
 
-use lvdc_text::put_decimal;
+use lvdc_text::{Piece, put_line};
 use lvdc_word::{NoMemory, Seq};
 use std::alloc::Global;
 
@@ -19,11 +19,8 @@ pub fn refusal(alloc: Global, status: u8, cause: &[u8], line: u32) -> Result<Rep
     ensures short { IfOk result (λ reply. length reply.text ≤ length cause.now + 30) }
 {
     let mut text = Vec::new(alloc);
-    text.extend_from_slice(b"REFUSED ")?;
-    text.extend_from_slice(cause)?;
-    text.extend_from_slice(b" ")?;
-    put_decimal(&mut text, u64::from(line))?;
-    text.extend_from_slice(b"\n")?;
+    let (cause, line) = (Piece::Bytes(cause), Piece::Decimal(u64::from(line)));
+    put_line(&mut text, b"REFUSED", &[cause, line])?;
     Ok(Reply {
         status,
         text: Seq::from_vec(text),
