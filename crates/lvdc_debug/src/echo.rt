@@ -4,7 +4,7 @@ ghost use Rattle.std.specs.Prelude.{◌≡◌, ◌+◌, ◌≤◌, ◌++◌, len
 ghost use Rattle.lvdc_debug.specs.Commands.{after_blanks, before_blanks};
 ghost use Rattle.lvdc_debug.specs.Session.{echo_line};
 
-use lvdc_text::is_blank;
+use lvdc_text::{Piece, is_blank, put_line};
 use lvdc_word::NoMemory;
 
 /// The text without blanks in front.
@@ -34,8 +34,6 @@ pub(crate) fn put_echo(out: &mut Vec<u8>, text: &[u8]) -> Result<(), NoMemory>
     ensures line { OnOk result (out.new.items ≡ out.old.items ++ echo_line text.now) }
     ensures short { OnOk result (length out.new.items ≤ length out.old.items + length text.now + 3) }
 {
-    out.extend_from_slice(b"> ")?;
-    out.extend_from_slice(before_blanks(after_blanks(text)))?;
-    out.extend_from_slice(b"\n")?;
-    Ok(())
+    let line = Piece::Bytes(before_blanks(after_blanks(text)));
+    put_line(out, b">", &[line])
 }

@@ -1,6 +1,6 @@
 //! The answers of a session, as they are written.
 
-ghost use Rattle.std.specs.Prelude.{◌≡◌, ℕ, ◌+◌, ◌*◌, ◌≤◌, ◌<◌, ◌++◌, List, length, OnOk};
+ghost use Rattle.std.specs.Prelude.{◌≡◌, ℕ, ◌+◌, ◌*◌, ◌≤◌, ◌<◌, ◌++◌, List, length, codes, OnOk};
 ghost use Rattle.lvdc_port.specs.Device.{Device};
 ghost use Rattle.lvdc_vote.specs.Numbers.{latches_of};
 ghost use Rattle.lvdc_fault.specs.Events.{IsCopy};
@@ -18,7 +18,7 @@ use lvdc_map::Address;
 use lvdc_modules::latches;
 use lvdc_plain::Visible;
 use lvdc_report::{put_end, put_memory_line, put_registers, put_unknown_line};
-use lvdc_text::{Piece, fill_octal, put, put_decimal, put_line, put_octal};
+use lvdc_text::{Piece, fill_octal, put, put_line};
 use lvdc_word::{NoMemory, Syllable, Word};
 
 /// Adds pair or module, sector, syllable and location, as `p ss s lll`.
@@ -105,17 +105,6 @@ fn further(at: Address, more: u16) -> Address
     }
 }
 
-/// Adds the line of a word by what is shown of it.
-fn put_word_line(out: &mut Vec<u8>, at: Address, shown: Shown) -> Result<(), NoMemory>
-    ensures line { OnOk result (out.new.items ≡ out.old.items ++ word_shown at shown) }
-    ensures short { OnOk result (length out.new.items ≤ length out.old.items + 23) }
-{
-    match shown {
-        Shown::Known(word) => put_memory_line(out, at, word),
-        Shown::Unknown => put_unknown_line(out, at),
-    }
-}
-
 /// Adds the line of a word as the machine shows it.
 fn put_word(out: &mut Vec<u8>, machine: &Machine, at: Address) -> Result<(), NoMemory>
     requires { at.pair < 4 }
@@ -123,7 +112,10 @@ fn put_word(out: &mut Vec<u8>, machine: &Machine, at: Address) -> Result<(), NoM
         → out.new.items ≡ out.old.items ++ word_shown at (shown_of o (state_by machine.now.end machine.now.mode o t) at)) }
     ensures short { OnOk result (length out.new.items ≤ length out.old.items + 23) }
 {
-    put_word_line(out, at, machine.shown(at))?;
+    match machine.shown(at) {
+        Shown::Known(word) => put_memory_line(out, at, word)?,
+        Shown::Unknown => put_unknown_line(out, at)?,
+    }
     Ok(())
 }
 
@@ -148,15 +140,14 @@ fn syllable_of(syl: u8, word: Word) -> Syllable
     if syl == 1 { one } else { zero }
 }
 
-/// Adds a syllable in octal and as an instruction.
+/// Adds a syllable in octal and as an instruction, each after a blank, and LF.
 fn put_syllable(out: &mut Vec<u8>, syllable: Syllable) -> Result<(), NoMemory>
-    ensures text { OnOk result (out.new.items ≡ out.old.items ++ instruction_text syllable) }
-    ensures short { OnOk result (length out.new.items ≤ length out.old.items + 13) }
+    ensures text { OnOk result (out.new.items ≡ out.old.items ++ codes " " ++ instruction_text syllable ++ codes "\n") }
+    ensures short { OnOk result (length out.new.items ≤ length out.old.items + 15) }
 {
-    put_octal(out, u64::from(syllable.value()), 5)?;
-    out.extend_from_slice(b" ")?;
-    out.extend_from_slice(&print(decode(syllable)))?;
-    Ok(())
+    let bits = Piece::Octal(u64::from(syllable.value()), 5);
+    let instruction = print(decode(syllable));
+    put_line(out, b"", &[bits, Piece::Bytes(&instruction)])
 }
 
 /// Adds the line of an instruction by what is shown of its word.
@@ -172,14 +163,9 @@ fn put_instruction_line(
 {
     put_place(out, at.pair, at.sector, syl, at.loc)?;
     match shown {
-        Shown::Known(word) => {
-            out.extend_from_slice(b" ")?;
-            put_syllable(out, syllable_of(syl, word))?;
-            out.extend_from_slice(b"\n")?;
-        }
-        Shown::Unknown => out.extend_from_slice(b" ?\n")?,
+        Shown::Known(word) => put_syllable(out, syllable_of(syl, word)),
+        Shown::Unknown => put_line(out, b"", &[Piece::Bytes(b"?")]),
     }
-    Ok(())
 }
 
 /// Adds the line of an instruction as the machine shows its word.
@@ -256,10 +242,11 @@ pub fn put_copy(out: &mut Vec<u8>, machine: &Machine, number: u8, copy: u8) -> R
     ensures line { OnOk result (out.new.items ≡ out.old.items ++ copy_line machine.now.copies number copy) }
     ensures short { OnOk result (length out.new.items ≤ length out.old.items + 100) }
 {
-    out.extend_from_slice(b"COPY ")?;
-    put_decimal(out, u64::from(number))?;
-    out.extend_from_slice(b" ")?;
-    put_decimal(out, u64::from(copy))?;
+    let (word, blank) = (Piece::Bytes(b"COPY "), Piece::Bytes(b" "));
+    put(
+        out,
+        &[word, Piece::Small(number), blank, Piece::Small(copy)],
+    )?;
     put_latches(out, machine, number, copy)?;
     out.extend_from_slice(b"\n")?;
     Ok(())
