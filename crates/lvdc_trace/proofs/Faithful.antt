@@ -1,6 +1,6 @@
 -- A step that a guarded run makes is one of the plain run.
-use Rattle.std.proofs.Common.{◌≡◌, ◌≢◌, ℕ, zero, suc, ◌+◌, ◌-◌, ◌*◌, ◌/◌, ◌%◌, ◌<◌, ◌^◌, Bool, true, false, List, [], ◌∷◌, Result, Ok, Err, codes, refl, sym, ap, subst, ◌∙◌, arith}
-use Rattle.std.specs.Prelude.{slice_index, ◌==◌, if◌then◌else◌}
+use Rattle.std.proofs.Common.{◌≡◌, ℕ, zero, suc, ◌-◌, ◌*◌, ◌/◌, ◌%◌, ◌<◌, ◌^◌, Bool, true, false, List, Result, Ok, Err, codes, refl, sym, ap, subst, ◌∙◌, arith}
+use Rattle.std.specs.Prelude.{slice_index, ◌==◌}
 use Rattle.std.proofs.lemmas.Bool.Decides.{nat_tests}
 use Rattle.std.specs.declared.option.Option.{Option}
 use Rattle.std.specs.declared.option.Option.TheVariants.{None, Some}
@@ -19,7 +19,7 @@ use Rattle.lvdc_twin.specs.declared.both_bad.BothBad.{BothBad}
 use Rattle.lvdc_twin.specs.declared.read_out.ReadOut.{ReadOut}
 use Rattle.lvdc_modules.specs.declared.wanted.Wanted.{Wanted}
 use Rattle.lvdc_modules.specs.declared.wanted.Wanted.TheVariants.{Nothing, Fetch, Operand, Store as Stores, PortRead, PortWrite}
-use Rattle.lvdc_plain.specs.Accesses.{fetched, operand, store, store_of, accessed}
+use Rattle.lvdc_plain.specs.Accesses.{fetched, operand, store_of, accessed}
 use Rattle.lvdc_plain.specs.Plain.{PlainState}
 use Rattle.lvdc_plain.specs.Table.{fetched_instr, request_by}
 use Rattle.lvdc_plain.specs.declared.records.Stop.{Stop}
@@ -37,11 +37,11 @@ use Rattle.lvdc_model.specs.Judging.{first_bad, first_bad_below}
 use Rattle.lvdc_model.specs.Runs.{guarded, alone, own_verdict, own_logic, own_memory, read_of_wish, recovers}
 use Rattle.lvdc_model.specs.Trial.{Trial, plain_at, plain_in}
 use Rattle.lvdc_model.specs.Twins.{Twins, shows, answer_by, read_answer}
-use Rattle.lvdc_model.specs.Voted.{Voted, votes}
+use Rattle.lvdc_model.specs.Voted.{Voted}
 use Rattle.lvdc_laws_voted.specs.Ends.{ShowsTimes, IsBegun, Comes, Good, Bad, EndsAt}
 use Rattle.lvdc_laws_voted.specs.Relation.{IsOnCourse, Goes, Halts}
 use Rattle.lvdc_machine.specs.Made.{read_made, exchange_made, made_if, made_unless, made_next}
-use Rattle.lvdc_machine.specs.Steps.{run_of, step_of}
+use Rattle.lvdc_machine.specs.Steps.{run_of}
 use Rattle.lvdc_machine.specs.declared.made.Made.{Made}
 use Rattle.lvdc_machine.specs.declared.mode.Mode.TheVariants.{Guarded}
 use Rattle.lvdc_report.specs.Report.{visible_in}

@@ -1,20 +1,13 @@
 -- How long the lines of a step are.
-use Rattle.std.proofs.Common.{◌≡◌, ℕ, zero, suc, ◌+◌, ◌*◌, ◌<◌, ◌≤◌, ◌^◌, Bool, true, false, List, ◌++◌, length, decimal, codes, refl, sym, ap, ◌∙◌, arith, length-append}
-use Rattle.std.specs.declared.option.Option.{Option}
-use Rattle.std.specs.declared.option.Option.TheVariants.{None, Some}
+use Rattle.std.proofs.Common.{◌≡◌, ℕ, zero, suc, ◌+◌, ◌*◌, ◌<◌, ◌≤◌, Bool, true, false, List, length, decimal, refl, arith, length-append}
 use Rattle.std.proofs.lemmas.Fmt.{length-decimal-le}
-use Rattle.lvdc_map.specs.Address.{Spot}
 use Rattle.lvdc_vote.specs.Copies.{Copies}
 use Rattle.lvdc_vote.specs.Numbers.{latches_of}
 use Rattle.lvdc_text.proofs.ReadBack.{length-octal_text}
-use Rattle.lvdc_modules.specs.declared.wanted.Wanted.{Wanted}
-use Rattle.lvdc_modules.specs.declared.wanted.Wanted.TheVariants.{Nothing, Fetch, Operand, Store, PortRead, PortWrite}
-use Rattle.lvdc_model.specs.declared.repair.Repair.{Repair}
-use Rattle.lvdc_lines.specs.Noted.{lines_below, direction}
-use Rattle.lvdc_lines.proofs.LineSizes.{byte_short, length-switch_text, length-direction}
+use Rattle.lvdc_lines.specs.Noted.{lines_below}
 use Rattle.lvdc_logic.specs.Logic.{latch_of, vote_at, is_outvoted}
 use Rattle.lvdc_debug.specs.Session.{latch_text, copy_line}
-use Rattle.lvdc_trace.specs.Steps.{access_line, port_line, exchange_text, repair_text, vote_line, told_copy, told_copies, copies_text}
+use Rattle.lvdc_trace.specs.Steps.{vote_line, told_copy, told_copies, copies_text}
 
 -- a number of one digit
 pub one_digit : (n : ℕ) → n < 10 → length (decimal n) ≤ 1
@@ -28,24 +21,6 @@ length-latches word (suc count) =
     let before = length-latches word count in
     let last = length-octal_text 9 (word count) in
     omega (arith, before, last, length-append (lines_below (λ index. latch_text (word index)) count) (latch_text (word count)))
-
-length-access_line : (name : List ℕ) (at : Spot) (word : ℕ) → length (access_line name at word) ≡ length name + 20
-length-access_line name at word = simp (length-append, length-octal_text) (omega arith)
-
-length-port_line : (reading : Bool) (port word : ℕ) → length (port_line reading port word) ≤ 18
-length-port_line reading port word = simp (length-append, length-octal_text) (omega (arith, length-direction reading))
-
-pub length-exchange_text : (w : Wanted) (word : ℕ) → length (exchange_text w word) ≤ 27
-length-exchange_text Nothing word = omega arith
-length-exchange_text (Fetch at) word = omega (arith, length-access_line (codes "FETCH") at word)
-length-exchange_text (Operand at) word = omega (arith, length-access_line (codes "OPERAND") at word)
-length-exchange_text (Store at stored) word = omega (arith, length-access_line (codes "STORE") at stored)
-length-exchange_text (PortRead port) word = omega (arith, length-port_line true port word)
-length-exchange_text (PortWrite port sent) word = omega (arith, length-port_line false port sent)
-
--- the line of a repair whose twin is a number of one byte
-pub length-repair_line : (r : Repair) → r.twin < 256 → length (repair_text (Some r)) ≤ 27
-length-repair_line r h = simp (length-append, length-octal_text) (omega (arith, length-switch_text r.switched, byte_short r.twin h))
 
 pub length-vote_line : (copies : List Copies) (number : ℕ) → number < 8 → length (vote_line copies number) ≤ 7 + 10 * latches_of number
 length-vote_line copies number h =

@@ -1,5 +1,5 @@
 -- A machine that goes on, and then goes on again.
-use Rattle.std.proofs.Common.{◌≡◌, ℕ, ◌+◌, ◌≤◌, List, map, IsSome, IsNone, refl, sym, ap, subst, ◌∙◌, arith}
+use Rattle.std.proofs.Common.{◌≡◌, ℕ, ◌+◌, ◌≤◌, List, map, IsSome, refl, sym, ap, subst, ◌∙◌, arith}
 use Rattle.lvdc_port.specs.Device as device
 use Rattle.lvdc_plain.specs.Lists.{AreFit}
 use Rattle.lvdc_model.specs.Trial.{Trial}

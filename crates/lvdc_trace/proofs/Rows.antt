@@ -1,11 +1,10 @@
 -- Worked traces, by computing.
-use Rattle.std.proofs.Common.{◌≡◌, ℕ, ◌+◌, refl, true, false, List, [], ◌∷◌, ◌++◌}
+use Rattle.std.proofs.Common.{◌≡◌, ℕ, ◌+◌, refl, List, [], ◌∷◌, ◌++◌}
 use Rattle.std.specs.Prelude.{codes}
 use Rattle.std.specs.Fmt.{digits}
 use Rattle.lvdc_word.specs.Cell.{with_stuck}
 use Rattle.lvdc_vote.specs.Bits.{majority, flipped}
 use Rattle.lvdc_text.specs.Numbers.{octal_text}
-use Rattle.lvdc_map.specs.Address.{Spot}
 use Rattle.lvdc_map.specs.Hop.{hop_of}
 use Rattle.lvdc_map.specs.declared.placed.Placed.{Placed}
 use Rattle.lvdc_port.specs.Device.{Device}

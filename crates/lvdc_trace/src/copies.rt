@@ -6,7 +6,7 @@ ghost use Rattle.lvdc_trace.specs.Steps.{fault_line, fault_lines, faults_text, t
 
 use lvdc_debug::put_copy;
 use lvdc_machine::Machine;
-use lvdc_text::put_decimal;
+use lvdc_text::{Piece, put_line};
 use lvdc_word::NoMemory;
 
 /// Adds the line of a copy that was wrong in the step that was begun last, where it was.
@@ -19,11 +19,7 @@ fn put_fault(out: &mut Vec<u8>, machine: &Machine, number: u8, copy: u8) -> Resu
     if !machine.is_wrong(number, copy) {
         return Ok(());
     }
-    out.extend_from_slice(b"FAULT ")?;
-    put_decimal(out, u64::from(number))?;
-    out.extend_from_slice(b" ")?;
-    put_decimal(out, u64::from(copy))?;
-    out.extend_from_slice(b"\n")?;
+    put_line(out, b"FAULT", &[Piece::Small(number), Piece::Small(copy)])?;
     Ok(())
 }
 

@@ -18,7 +18,7 @@ use crate::exchange::{put_exchange, put_repair};
 use crate::votes::{Votes, put_votes};
 use lvdc_machine::{Machine, Made, Order};
 use lvdc_port::PortDevice;
-use lvdc_text::put_decimal;
+use lvdc_text::{Piece, put_line};
 use lvdc_word::NoMemory;
 
 /// Adds the lines of the step of this number, which the machine has made last, with the votes before it. Of the first step that
@@ -35,9 +35,7 @@ fn put_step(
         → out.new.items ≡ out.old.items ++ step_text first machine.now.script step made.now copies machine.now.copies) }
     ensures short { OnOk result (step < 10 ^ 7 → length out.new.items ≤ length out.old.items + 1115) }
 {
-    out.extend_from_slice(b"STEP ")?;
-    put_decimal(out, step)?;
-    out.extend_from_slice(b"\n")?;
+    put_line(out, b"STEP", &[Piece::Decimal(step)])?;
     put_exchange(out, made)?;
     put_repair(out, &made.repair)?;
     put_faults(out, machine)?;

@@ -12,7 +12,7 @@ ghost use Rattle.lvdc_trace.specs.Votes.{votes_in, AreVotesOf, AreVotes};
 use lvdc_debug::put_latch;
 use lvdc_machine::Machine;
 use lvdc_modules::latches;
-use lvdc_text::put_decimal;
+use lvdc_text::{Piece, put};
 use lvdc_word::{NoMemory, Word};
 
 /// The votes of the latches of each module, by index; no module has more than five.
@@ -120,8 +120,7 @@ fn put_vote_line(out: &mut Vec<u8>, machine: &Machine, number: u8) -> Result<(),
     requires last { number ≤ 7 }
     ensures { OnOk result (out.new.items ≡ out.old.items ++ vote_line machine.now.copies number) }
 {
-    out.extend_from_slice(b"VOTE ")?;
-    put_decimal(out, u64::from(number))?;
+    put(out, &[Piece::Bytes(b"VOTE "), Piece::Small(number)])?;
     put_vote_words(out, machine, number)?;
     out.extend_from_slice(b"\n")?;
     Ok(())

@@ -1,6 +1,6 @@
 use Rattle.std.proofs.Common.{ℕ, ap, length, arith, length-append}
 use Rattle.lvdc_lines.proofs.LineSizes.{step_short}
-use Rattle.lvdc_trace.proofs.Lengths.{length-exchange_text, length-copies_text}
+use Rattle.lvdc_trace.proofs.Lengths.{length-copies_text}
 use Rattle.lvdc_trace.proofs.step.put_step.Goals as goal
 
 pub returns-clause-short : goal.returns-clause-short
@@ -9,12 +9,9 @@ returns-clause-short c = λ early.
       arith,
       length-append {A = ℕ},
       step_short c.args.step early,
-      length-exchange_text c.args.made.now.wanted c.args.made.now.word,
       length-copies_text c.args.machine.now.copies,
-      ap length c.in_ok-extend_from_slice.ensures.items,
-      ap length c.in_ok-put_decimal.ensures.ok,
-      ap length c.in_ok-extend_from_slice-2.ensures.items,
-      ap length c.in_ok-put_exchange.ensures,
+      simp length-append at (ap length c.in_ok-put_line.ensures.text),
+      c.in_ok-put_exchange.ensures.short,
       c.in_ok-put_repair.ensures.short,
       c.in_ok-put_faults.ensures.short,
       c.in_ok-put_votes.ensures.short,

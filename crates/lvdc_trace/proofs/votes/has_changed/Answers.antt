@@ -1,4 +1,4 @@
-use Rattle.std.proofs.Common.{◌≡◌, ℕ, ◌+◌, ◌∙◌, Bool, true, false, refl, sym, ap, subst, add-one, arith}
+use Rattle.std.proofs.Common.{◌≡◌, ℕ, ◌+◌, ◌∙◌, Bool, true, false, refl, sym, ap, add-one, arith}
 use Rattle.std.specs.Prelude.{◌||◌, not, ◌==◌}
 use Rattle.lvdc_vote.specs.Numbers.{latches_of}
 use Rattle.lvdc_logic.specs.Logic.{vote_at}

@@ -1,4 +1,4 @@
-use Rattle.std.proofs.Common.{◌≡◌, ℕ, ◌+◌, ◌*◌, ◌≤◌, suc, ap, arith}
+use Rattle.std.proofs.Common.{◌≡◌, ℕ, ◌+◌, ◌*◌, suc, ap, arith}
 use Rattle.lvdc_vote.specs.Numbers.{latches_of}
 use Rattle.lvdc_lines.proofs.LineLists.{lines_below_none, lines_below_more}
 use Rattle.lvdc_trace.specs.Steps.{told_vote}
