@@ -2,7 +2,7 @@
 
 ghost use Rattle.std.specs.Prelude.{◌≡◌, ◌+◌, ◌*◌, ◌≤◌, ◌++◌, length, All, OnOk, IfOk};
 ghost use Rattle.lvdc_lines.specs.Noted.{lines_of};
-ghost use Rattle.lvdc_command_campaign.specs.Texts.{verdict_text, outcome_text, script_text, row_line, counts_text, admits, count_in, total_line, campaign_text};
+ghost use Rattle.lvdc_command_campaign.specs.Texts.{outcome_text, script_text, row_line, counts_text, admits, count_in, total_line, campaign_text};
 
 use lvdc_campaign::Row;
 use lvdc_fault::Verdict;
@@ -10,33 +10,28 @@ use lvdc_text::{Piece, put};
 use lvdc_word::NoMemory;
 use std::alloc::Global;
 
-/// Adds a verdict; its step and its module are decimal.
-fn put_verdict(out: &mut Vec<u8>, verdict: Verdict) -> Result<(), NoMemory>
-    ensures text { OnOk result (out.new.items ≡ out.old.items ++ verdict_text verdict) }
-    ensures short { OnOk result (length out.new.items ≤ length out.old.items + 36) }
-{
-    let blank = Piece::Bytes(b" ");
-    match verdict {
-        Verdict::Admissible => put(out, &[Piece::Bytes(b"ADMISSIBLE")]),
-        Verdict::Logic { step, module } => {
-            let (word, step) = (Piece::Bytes(b"LOGIC "), Piece::Decimal(step));
-            put(out, &[word, step, blank, Piece::Small(module)])
-        }
-        Verdict::Memory { step, address } => {
-            let (word, step) = (Piece::Bytes(b"MEMORY "), Piece::Decimal(step));
-            put(out, &[word, step, blank, Piece::Address(address)])
-        }
-    }
-}
-
-/// Adds SCRIPT, the name and the verdict: the line of a script begins so, in a campaign and in a study.
+/// Adds SCRIPT, the name and the verdict, whose step and module are decimal: the line of a script begins so, in a campaign and in a
+/// study.
 pub fn put_script(out: &mut Vec<u8>, name: &[u8], verdict: Verdict) -> Result<(), NoMemory>
     ensures text { OnOk result (out.new.items ≡ out.old.items ++ script_text name.now verdict) }
     ensures short { OnOk result (length out.new.items ≤ length out.old.items + (length name.now + 44)) }
 {
-    let (word, blank) = (Piece::Bytes(b"SCRIPT "), Piece::Bytes(b" "));
-    put(out, &[word, Piece::Bytes(name), blank])?;
-    put_verdict(out, verdict)
+    let (word, name) = (Piece::Bytes(b"SCRIPT "), Piece::Bytes(name));
+    let blank = Piece::Bytes(b" ");
+    match verdict {
+        Verdict::Admissible => put(out, &[word, name, Piece::Bytes(b" ADMISSIBLE")]),
+        Verdict::Logic { step, module } => {
+            let (logic, step) = (Piece::Bytes(b" LOGIC "), Piece::Decimal(step));
+            put(out, &[word, name, logic, step, blank, Piece::Small(module)])
+        }
+        Verdict::Memory { step, address } => {
+            let (memory, step) = (Piece::Bytes(b" MEMORY "), Piece::Decimal(step));
+            put(
+                out,
+                &[word, name, memory, step, blank, Piece::Address(address)],
+            )
+        }
+    }
 }
 
 /// What follows the verdict.
