@@ -24,7 +24,7 @@ use lvdc_deck::Deck;
 use lvdc_port::PortDevice;
 use lvdc_reply::Reply;
 use lvdc_study::{Bench, Program, Row, Unstudied, rows_keep_laws, study_scripts};
-use lvdc_text::put_octal;
+use lvdc_text::{Piece, put_line};
 use lvdc_word::{NoMemory, Seq};
 use std::alloc::Global;
 
@@ -82,9 +82,7 @@ fn tell_failure(alloc: Global, port: u8) -> Result<Reply, NoMemory>
     ensures short { IfOk result (λ reply. length reply.text ≤ LONGEST_REPORT) }
 {
     let mut text = Vec::new(alloc);
-    text.extend_from_slice(b"DEVICE ")?;
-    put_octal(&mut text, u64::from(port), 3)?;
-    text.extend_from_slice(b"\n")?;
+    put_line(&mut text, b"DEVICE", &[Piece::Octal(u64::from(port), 3)])?;
     Ok(Reply {
         status: 10,
         text: Seq::from_vec(text),

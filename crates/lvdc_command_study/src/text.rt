@@ -4,14 +4,23 @@ ghost use Rattle.std.specs.Prelude.{◌≡◌, ◌+◌, ◌*◌, ◌≤◌, ◌+
 ghost use Rattle.lvdc_text.specs.Pieces.{piece_text, piece_room, IsFit};
 ghost use Rattle.lvdc_lines.specs.Noted.{lines_of};
 ghost use Rattle.lvdc_command_campaign.specs.Texts.{admits, count_in};
+ghost use Rattle.lvdc_study.specs.declared.difference.Difference.TheVariants.{Words};
 ghost use Rattle.lvdc_command_study.specs.Texts.{difference_text, outcome_text, step_text, redundancy_text, form_text, row_line, total_line, study_text};
 
 use lvdc_command_campaign::{admits, put_counts, put_script};
-use lvdc_image::put_address;
+use lvdc_map::Address;
 use lvdc_study::{Difference, Row};
-use lvdc_text::{Piece, put, put_line};
+use lvdc_text::{Piece, put, put_line, put_text};
 use lvdc_word::NoMemory;
 use std::alloc::Global;
+
+/// Adds the address of the words that differ first.
+fn put_words(out: &mut Vec<u8>, at: Address) -> Result<(), NoMemory>
+    ensures text { OnOk result (out.new.items ≡ out.old.items ++ difference_text (Words at)) }
+    ensures short { OnOk result (length out.new.items ≤ length out.old.items + 25) }
+{
+    put(out, &[Piece::Bytes(b"WORDS "), Piece::Address(at)])
+}
 
 /// Adds what differs first.
 fn put_difference(out: &mut Vec<u8>, difference: Difference) -> Result<(), NoMemory>
@@ -19,29 +28,25 @@ fn put_difference(out: &mut Vec<u8>, difference: Difference) -> Result<(), NoMem
     ensures short { OnOk result (length out.new.items ≤ length out.old.items + 25) }
 {
     match difference {
-        Difference::End => put(out, &[Piece::Bytes(b"END")]),
+        Difference::End => put_text(out, b"END"),
         Difference::Port(time) => put(out, &[Piece::Bytes(b"PORT "), Piece::Decimal(time)]),
-        Difference::Registers => put(out, &[Piece::Bytes(b"REGISTERS")]),
-        Difference::Words(at) => {
-            out.extend_from_slice(b"WORDS ")?;
-            put_address(out, at)
-        }
+        Difference::Registers => put_text(out, b"REGISTERS"),
+        Difference::Words(at) => put_words(out, at),
     }
 }
 
-/// Adds the outcome.
+/// Adds the outcome, after a blank.
 fn put_outcome(out: &mut Vec<u8>, difference: Option<Difference>) -> Result<(), NoMemory>
-    ensures text { OnOk result (out.new.items ≡ out.old.items ++ outcome_text difference) }
-    ensures short { OnOk result (length out.new.items ≤ length out.old.items + 33) }
+    ensures text { OnOk result (out.new.items ≡ out.old.items ++ codes " " ++ outcome_text difference) }
+    ensures short { OnOk result (length out.new.items ≤ length out.old.items + 34) }
 {
     match difference {
-        None => out.extend_from_slice(b"SAME")?,
+        None => put_text(out, b" SAME"),
         Some(difference) => {
-            out.extend_from_slice(b"DIFFERS ")?;
-            put_difference(out, difference)?;
+            put_text(out, b" DIFFERS ")?;
+            put_difference(out, difference)
         }
     }
-    Ok(())
 }
 
 /// The step of the first repair.
@@ -86,10 +91,8 @@ fn put_row(out: &mut Vec<u8>, row: &Row) -> Result<(), NoMemory>
     ensures short { OnOk result (length row.now.name ≤ 8 → length out.new.items ≤ length out.old.items + 174) }
 {
     put_script(out, row.name.items(), row.verdict)?;
-    out.extend_from_slice(b" ")?;
     put_outcome(out, row.difference)?;
-    put_end(out, row)?;
-    Ok(())
+    put_end(out, row)
 }
 
 /// Adds the lines of the scripts.
