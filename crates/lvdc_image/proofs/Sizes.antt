@@ -8,11 +8,8 @@ use Rattle.lvdc_map.specs.Address.{number_of}
 use Rattle.lvdc_map.specs.Hop.{HopConstant}
 use Rattle.lvdc_map.specs.Memory.{are_rising}
 use Rattle.lvdc_map.specs.declared.placed.Placed.{Placed}
-use Rattle.lvdc_image.specs.Image.{IsPlaced, word_line, pair_name, simplex_lines, head_lines, text_of}
+use Rattle.lvdc_image.specs.Image.{IsPlaced, word_line, simplex_lines, head_lines, text_of}
 use Rattle.lvdc_image.proofs.Parts.{both}
-
-length-word_line : (placed : Placed) → length (word_line placed) ≡ 18
-length-word_line placed = simp (length-append, length-octal_text) (omega arith)
 
 pub length-words : (words : List Placed) → length (text_of (map word_line words)) ≡ 19 * length words
 length-words [] = refl
@@ -30,9 +27,6 @@ few-rising p (q ∷ ps) rising placed =
 pub few-words : (words : List Placed) → are_rising words ≡ true → All IsPlaced words → length words ≤ 32768
 few-words [] rising placed = omega arith
 few-words (p ∷ ps) rising placed = let all = few-rising p ps rising placed in omega (arith, all)
-
-length-pair_name : (banks pair : ℕ) → length (pair_name banks pair) ≤ 2
-length-pair_name banks pair = grind arith
 
 length-simplex_lines : (banks : ℕ) → length (text_of (simplex_lines banks)) ≤ 16
 length-simplex_lines banks = grind arith

@@ -15,10 +15,6 @@ abbrev pub with_words : List Placed → Result (List Placed) ImageFault → Resu
 with_words words (Ok more) = Ok (words ++ more)
 with_words words (Err fault) = Err fault
 
-pub with_words-nil : (read : Result (List Placed) ImageFault) → with_words [] read ≡ read
-with_words-nil (Ok more) = refl
-with_words-nil (Err fault) = refl
-
 with_words-word : (words : List Placed) (placed : Placed) (read : Result (List Placed) ImageFault)
     → with_words words (with_word (Ok placed) read) ≡ with_words (words ++ placed ∷ []) read
 with_words-word words placed (Ok more) = ap (λ (all : List Placed). Ok all) (sym (append_assoc words (placed ∷ []) more))

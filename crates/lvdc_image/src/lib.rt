@@ -1,7 +1,6 @@
 //! Image texts, versions 1 and 2: what a memory is filled with before a run, read from lines and printed.
 #![tactic(auto)]
 
-mod address;
 mod entry;
 mod fault;
 mod image;
@@ -10,7 +9,6 @@ mod read;
 mod simplex;
 mod start;
 
-pub use address::put_address;
 pub use fault::ImageFault;
 pub use image::Image;
 pub use print::{print_image, put_simplex};

@@ -6,9 +6,8 @@ ghost use Rattle.lvdc_image.specs.Reading.{texts, image_of};
 ghost use Rattle.lvdc_image.specs.declared.TheConstants.{LONGEST_IMAGE};
 
 use crate::Image;
-use crate::address::put_address;
 use lvdc_map::{Banks, Hop, Placed};
-use lvdc_text::put_octal;
+use lvdc_text::{Piece, put, put_line, put_text};
 use lvdc_word::NoMemory;
 use std::alloc::Global;
 
@@ -17,11 +16,8 @@ fn put_word(out: &mut Vec<u8>, placed: &Placed) -> Result<(), NoMemory>
     ensures line { OnOk result (out.new.items ≡ out.old.items ++ text_of (word_line placed.now ∷ [])) }
     ensures placed { OnOk result (IsPlaced placed.now) }
 {
-    put_address(out, placed.at)?;
-    out.extend_from_slice(b" ")?;
-    put_octal(out, u64::from(placed.word.value()), 9)?;
-    out.extend_from_slice(b"\n")?;
-    Ok(())
+    let (at, word) = (Piece::Address(placed.at), Piece::Word(placed.word));
+    put(out, &[at, Piece::Bytes(b" "), word, Piece::Bytes(b"\n")])
 }
 
 /// Appends the lines of the words.
@@ -66,8 +62,7 @@ fn put_banks(out: &mut Vec<u8>, banks: Banks) -> Result<(), NoMemory>
         return Ok(());
     }
     put_simplex(out, banks)?;
-    out.extend_from_slice(b"\n")?;
-    Ok(())
+    put_text(out, b"\n")
 }
 
 /// Appends the lines before the words.
@@ -77,15 +72,12 @@ fn put_head(out: &mut Vec<u8>, start: Option<Hop>, banks: Banks) -> Result<(), N
     ensures banks { banks < 16 }
 {
     match start {
-        None => out.extend_from_slice(b"LVDC 1\n")?,
+        None => put_text(out, b"LVDC 1\n"),
         Some(start) => {
-            out.extend_from_slice(b"LVDC 2\nSTART ")?;
-            put_octal(out, u64::from(start.to_word().value()), 9)?;
-            out.extend_from_slice(b"\n")?;
-            put_banks(out, banks)?;
+            put_line(out, b"LVDC 2\nSTART", &[Piece::Word(start.to_word())])?;
+            put_banks(out, banks)
         }
     }
-    Ok(())
 }
 
 /// The text of the image: version 2 where it has a start constant, else version 1. Each line ends with LF.
