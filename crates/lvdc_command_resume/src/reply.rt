@@ -31,7 +31,7 @@ use lvdc_port::PortDevice;
 use lvdc_reply::{Reply, refusal};
 use lvdc_save::{SaveFault, Saved};
 use lvdc_save_read::read_saved;
-use lvdc_text::put_octal;
+use lvdc_text::{Piece, put_line};
 use lvdc_word::{NoMemory, Seq};
 use std::alloc::Global;
 
@@ -60,9 +60,8 @@ pub fn refuse_device(alloc: Global, port: u8) -> Result<Reply, NoMemory>
     ensures short { IfOk result (λ reply. length reply.text < LONGEST_REPORT) }
 {
     let mut text = Vec::new(alloc);
-    text.extend_from_slice(b"REFUSED Device ")?;
-    put_octal(&mut text, u64::from(port), 3)?;
-    text.extend_from_slice(b"\n")?;
+    let port = Piece::Octal(u64::from(port), 3);
+    put_line(&mut text, b"REFUSED Device", &[port])?;
     Ok(Reply {
         status: 10,
         text: Seq::from_vec(text),
