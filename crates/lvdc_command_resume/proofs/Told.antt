@@ -166,14 +166,6 @@ were-supplied device_of told time state olds news tape taken since = record {
 
 -- ---- one word after the other
 
--- where nothing was given none is told anything
-pub were-none : {B : Type 0} (device_of : B → Device) (told : B → ℕ) (time : ℕ) (olds news : List B) → news ≡ olds
-    → WereTold device_of told time [] olds news
-were-none device_of told time olds news same = record {
-  times = λ port has. ap (λ bs. count_at device_of told port bs) same
-      ∙ ap (λ (w : Bool). told_if w time (count_at device_of told port olds)) (sym (written-none (kind_at device_of port news) port [] refl));
-}
-
 -- words behind others
 were-behind : {B : Type 0} (device_of : B → Device) (told : B → ℕ) (time : ℕ) (firsts : List Supply) (state : Supply) (old mid new : List B)
     → map device_of new ≡ after_state state (map device_of mid) → WereTold device_of told time firsts old mid

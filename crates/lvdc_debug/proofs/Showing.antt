@@ -10,20 +10,13 @@ use Rattle.lvdc_model.specs.Trial.{Trial}
 use Rattle.lvdc_model.specs.Voted.{Voted}
 use Rattle.lvdc_model.specs.declared.outcome.Outcome.{Outcome}
 use Rattle.lvdc_model.specs.declared.outcome.Outcome.TheVariants.{Done, Stopped, Inadmissible, Device}
-use Rattle.lvdc_machine.specs.Shows.{Shows}
 use Rattle.lvdc_machine.specs.Stands.{Stands, EndsAs, state_by}
-use Rattle.lvdc_machine.specs.View as view
-use Rattle.lvdc_machine.specs.View.{View, bus_of_votes, registers_on}
+use Rattle.lvdc_machine.specs.View.{View}
 use Rattle.lvdc_machine.specs.declared.mode.Mode.{Mode}
 use Rattle.lvdc_machine.specs.declared.mode.Mode.TheVariants.{Guarded}
-use Rattle.lvdc_report.specs.Voted.{visible_of}
 use Rattle.lvdc_debug.specs.Session.{state_after}
 use Rattle.lvdc_debug.specs.Session.{times_asked}
 use Rattle.lvdc_debug.specs.Standing.{failure_of, subject_of, StandsAfter}
-
--- the registers
-pub visible_shown : (o : Trial) (m : View) (ds : List device.Device) (v : Voted) → Shows o m ds v → view.visible_of m ≡ visible_of v
-visible_shown o m ds v s = let copies = s.copies in let steps = s.steps in λ i. registers_on (bus_of_votes (copies i)) (steps i)
 
 -- the state of a guarded machine is that of the guarded run, as the end that it keeps left it
 by_end : (o : Trial) (times steps : ℕ) (end : Option Outcome) → ((k : ℕ) → alone o k ≡ guarded o k) → EndsAs end o (3 * times) Guarded steps
