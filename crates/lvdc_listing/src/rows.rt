@@ -5,13 +5,13 @@ ghost use Rattle.lvdc_map.specs.Memory.{IsMemory, memory_of};
 ghost use Rattle.lvdc_text.specs.Lines.{IsWithin, numbered};
 ghost use Rattle.lvdc_text.specs.Joined.{text_of};
 ghost use Rattle.lvdc_listing.specs.Listing.{placed_items, item_field};
-ghost use Rattle.lvdc_listing.specs.Rows.{blanks, row_head, row, line_rows};
+ghost use Rattle.lvdc_listing.specs.Rows.{blanks, row, line_rows};
 
 use crate::field::field;
 use itoa::Buffer;
 use lvdc_asm::Assembly;
 use lvdc_map::Words;
-use lvdc_text::{Line, is_comment, part};
+use lvdc_text::{Line, Piece, is_comment, part, put, put_line};
 use lvdc_word::NoMemory;
 use std::alloc::Global;
 
@@ -42,26 +42,14 @@ fn put_number(out: &mut Vec<u8>, number: u32) -> Result<(), NoMemory>
     Ok(())
 }
 
-/// Appends the number of a line and its field.
-fn put_head(out: &mut Vec<u8>, number: u32, field: &[u8]) -> Result<(), NoMemory>
-    ensures { OnOk result (out.new.items ≡ out.old.items ++ row_head number field.now) }
-{
-    put_number(out, number)?;
-    out.extend_from_slice(b" ")?;
-    out.extend_from_slice(field)?;
-    put_blanks(out, FIELD, field.len())?;
-    Ok(())
-}
-
 /// Appends the row of a line.
 fn put_row(out: &mut Vec<u8>, number: u32, field: &[u8], text: &[u8]) -> Result<(), NoMemory>
     ensures { OnOk result (out.new.items ≡ out.old.items ++ text_of (row (record { number = number; text = text.now }) field.now ∷ [])) }
 {
-    put_head(out, number, field)?;
-    out.extend_from_slice(b" ")?;
-    out.extend_from_slice(text)?;
-    out.extend_from_slice(b"\n")?;
-    Ok(())
+    put_number(out, number)?;
+    put(out, &[Piece::Bytes(b" "), Piece::Bytes(field)])?;
+    put_blanks(out, FIELD, field.len())?;
+    put_line(out, b"", &[Piece::Bytes(text)])
 }
 
 /// Appends the rows of the lines of the source up to and with END.
