@@ -25,7 +25,7 @@ use Rattle.lvdc_study.specs.Waypoints.{apart}
 
 -- ---- the line that a step notes
 
-abbrev line-of : Wanted → Voted → List Exchange
+abbrev pub line-of : Wanted → Voted → List Exchange
 line-of (wanted.PortRead port) u = record { time = u.steps / 3; port = port; reading = true; word = port_word u (requests.Read port) } ∷ []
 line-of (wanted.PortWrite port word) u = record { time = u.steps / 3; port = port; reading = false; word = word } ∷ []
 line-of (wanted.Store at word) u = []
@@ -46,7 +46,7 @@ read-log : (r : Result ReadOut BothBad) (o : Trial) (u : Voted) (at : Spot) → 
 read-log (Err bad) o u at = sym (append-nil u.log)
 read-log (Ok r) o u at = sym (append-nil u.log)
 
-exchange-log : (w : Wanted) (o : Trial) (u : Voted) → (exchanges o u w).log ≡ u.log ++ line-of w u
+pub exchange-log : (w : Wanted) (o : Trial) (u : Voted) → (exchanges o u w).log ≡ u.log ++ line-of w u
 exchange-log (wanted.PortRead port) o u = refl
 exchange-log (wanted.PortWrite port word) o u = refl
 exchange-log (wanted.Store at word) o u = sym (append-nil u.log)
@@ -70,14 +70,14 @@ word-in [] = 0
 word-in (line ∷ lines) = line.word
 
 module _ (o : Trial) (u : Voted) (devices : List Device) (log : List Exchange) where
-  abbrev other : Voted
+  abbrev pub other : Voted
   other = record u { devices = devices; log = log }
 
   read-apart : (r : Result ReadOut BothBad) (at : Spot) → apart (reading r o u at) ≡ apart (reading r o other at)
   read-apart (Err bad) at = refl
   read-apart (Ok r) at = refl
 
-  exchange-apart : (w : Wanted) → line-of w u ≡ line-of w other → apart (exchanges o u w) ≡ apart (exchanges o other w)
+  pub exchange-apart : (w : Wanted) → line-of w u ≡ line-of w other → apart (exchanges o u w) ≡ apart (exchanges o other w)
   exchange-apart (wanted.PortRead port) e = ap (λ (word : ℕ). apart (latches o u 0 word)) (ap word-in e)
   exchange-apart (wanted.PortWrite port word) e = refl
   exchange-apart (wanted.Store at word) e = refl
@@ -139,7 +139,7 @@ module _ (o : Trial) (v : Voted) (devices : List Device) (log : List Exchange) w
       ∙ ap (λ (said : Verdict). length (judged-line said o else-begun)) (sym same-said)
 
 -- states that are alike are the same but for devices and log
-alike-is : (v w : Voted) → apart v ≡ apart w → record v { devices = w.devices; log = w.log } ≡ w
+pub alike-is : (v w : Voted) → apart v ≡ apart w → record v { devices = w.devices; log = w.log } ≡ w
 alike-is v w same = ap (λ (b : Voted). record b { devices = w.devices; log = w.log }) same
 
 -- ---- runs
@@ -153,9 +153,9 @@ from-front o v zero = refl
 from-front o v (suc n) = ap (alone_step o) (from-front o v n)
 
 -- a log only grows
-record Grows (before after : List Exchange) : Type 0 where
-  lines : List Exchange
-  is : after ≡ before ++ lines
+pub record Grows (before after : List Exchange) : Type 0 where
+  pub lines : List Exchange
+  pub is : after ≡ before ++ lines
 
 log-grows : (o : Trial) (v : Voted) (n : ℕ) → Grows v.log (run-by o v n).log
 log-grows o v zero = record { lines = []; is = sym (append-nil v.log) }

@@ -1,9 +1,8 @@
 -- What a machine that has replayed a trial has counted.
-use Rattle.std.proofs.Common.{◌≡◌, ℕ, zero, suc, ◌+◌, ◌-◌, ◌*◌, ◌≤◌, cond, List, refl, sym, ap, ◌∙◌, subst, add-zero, add-suc, arith}
+use Rattle.std.proofs.Common.{◌≡◌, ℕ, zero, suc, ◌+◌, ◌-◌, ◌*◌, ◌≤◌, cond, refl, sym, ap, ◌∙◌, add-zero, add-suc, arith}
 use Rattle.lvdc_plain.specs.Run.{IsOpening}
 use Rattle.lvdc_fault.specs.declared.verdict.Verdict.{Verdict}
 use Rattle.lvdc_fault.specs.declared.verdict.Verdict.TheVariants.{Admissible, Logic, Memory}
-use Rattle.lvdc_model.specs.declared.repair.Repair.{Repair}
 use Rattle.lvdc_model.specs.Judging.{is_begun, judged, or_else, first_bad, first_bad_below}
 use Rattle.lvdc_model.specs.Runs.{through, guarded}
 use Rattle.lvdc_model.specs.Trial.{Trial}

@@ -17,3 +17,10 @@ mod Again
 mod Lines
 mod Slices
 mod Rejoined
+mod Answering
+mod Truly
+mod Beside
+mod Joining
+mod Elsewhere
+mod Telling
+mod Saying

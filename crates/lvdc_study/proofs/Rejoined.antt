@@ -35,13 +35,13 @@ use Rattle.lvdc_runs.specs.Scripts.{trial_under}
 use Rattle.lvdc_runs.specs.Same.{is_same}
 use Rattle.lvdc_runs.specs.Stations.{fault_free_at}
 use Rattle.lvdc_study.specs.Rejoins.{GoesOn, TellsRejoined}
-use Rattle.lvdc_study.specs.Waypoints.{IsPrefix, IsWaypoint}
+use Rattle.lvdc_study.specs.Waypoints.{apart, IsPrefix, IsWaypoint}
 use Rattle.lvdc_study.specs.declared.waypoint.Waypoint.{Waypoint}
 use Rattle.lvdc_study.proofs.Agree.{none-is, none-same}
 use Rattle.lvdc_study.proofs.Prefixes.{log-begins}
 
 -- two beginnings of a log that are as long as each other are the same
-prefix-same : (one other log : List Exchange) → IsPrefix one log → IsPrefix other log → length one ≡ length other → one ≡ other
+pub prefix-same : (one other log : List Exchange) → IsPrefix one log → IsPrefix other log → length one ≡ length other → one ≡ other
 prefix-same one other log a b long =
     sym (take_at one a.rest (length one) refl) ∙ ap (take (length one)) (a.is ∙ sym b.is) ∙ take_at other b.rest (length one) (sym long)
 
@@ -71,75 +71,101 @@ end-later early late script le all = All-weaker (EndsBefore early) (EndsBefore l
 module _ (judges : (o : Trial) → IsOpening o.opening → (n : ℕ) → alone o n ≡ guarded o n)
     (unsaid : (o : Trial) → IsOpening o.opening → o.script ≡ [] → (n : ℕ) → first_bad_below o n ≡ Admissible)
     (plainly : (o : Trial) → IsOpening o.opening → (times : ℕ) → first_bad o times ≡ Admissible → ShowsTimes o times (guarded o (3 * times)))
-    (ports : PortLaw) (p : Opening) (script : List Event) (count steps : ℕ) (w : Waypoint) (m : View) (left : List Device)
-    (at : IsWaypoint p count w) (over : AllEndBefore w.snapshot.steps script) (goes : GoesOn (trial_under p script) steps count m left)
-    (end : m.end ≡ None) (made : m.steps ≡ w.snapshot.steps) (now : Snapshot) (means : (o : Trial) (v : Voted) (ds : List Device) → Shows o m ds v → Means now v)
-    (latches : now.latches ≡ w.snapshot.latches) (cells : now.cells ≡ w.snapshot.cells) (words : now.words ≡ w.snapshot.words)
-    (long : length m.log ≡ w.lines) (prefix : IsPrefix m.log (run p count).plain.log) where
-  abbrev o : Trial
+    (p : Opening) (script : List Event) (count : ℕ) (w : Waypoint) (m : View) (left : List Device)
+    (at : IsWaypoint p count w) (over : AllEndBefore w.snapshot.steps script)
+    (end : m.end ≡ None) (now : Snapshot) (means : (o : Trial) (v : Voted) (ds : List Device) → Shows o m ds v → Means now v)
+    (latches : now.latches ≡ w.snapshot.latches) (cells : now.cells ≡ w.snapshot.cells) (words : now.words ≡ w.snapshot.words) where
+  abbrev pub o : Trial
   o = trial_under p script
 
   abbrev s : ℕ
   s = w.snapshot.steps
 
-  abbrev t : ℕ
+  abbrev pub t : ℕ
   t = s / 3
 
-  abbrev v : Voted
+  abbrev pub v : Voted
   v = through o (3 * t)
 
   abbrev free : Voted
   free = fault_free_after o t
 
-  all : 3 * t ≡ s
+  pub all : 3 * t ≡ s
   all = let times = at.whole.times in omega (arith, times)
-
-  shown : (m.steps ≡ steps) × Shows o m left (through o steps)
-  shown = shows-through o steps m left m.mode m.end end goes.mode_is goes.stands.shows goes.stands.ends
-
-  shows : Shows o m left v
-  shows = subst (λ (n : ℕ). Shows o m left (through o n)) (sym shown.0 ∙ made ∙ sym all) shown.1
-
-  meant : Means now v
-  meant = means o v left shows
 
   free-is : fault_free_at p s ≡ free
   free-is = judges (trial_under p []) at.opening s ∙ ap (guarded (trial_under p [])) (sym all)
 
-  within : t ≤ count
+  pub within : t ≤ count
   within = let few = at.within in omega (arith, few)
-
-  log-is : m.log ≡ (run p t).plain.log
-  log-is = prefix-same m.log (run p t).plain.log (run p count).plain.log prefix (log-begins ports p t count within) (long ∙ at.lines)
 
   free-log : free.log ≡ (run p t).plain.log
   free-log = (plainly (trial_under p []) at.opening t (unsaid (trial_under p []) at.opening refl (3 * t))).log
 
-  rejoined : HasRejoined o t
-  rejoined = record {
-    over = subst (λ (n : ℕ). AllEndBefore n script) (sym all) over;
-    going = sym shows.end ∙ end;
-    running = ap (λ (x : Voted). x.end) (sym free-is) ∙ ap (λ (x : Voted). x.end) (sym at.same) ∙ at.means.end;
-    copies =
-        meant.copies ∙ ap copies_of latches ∙ sym at.means.copies ∙ ap (λ (x : Voted). x.copies) at.same ∙ ap (λ (x : Voted). x.copies) free-is;
-    cells = λ twin small place is.
-        meant.cells twin small place is ∙ ap (λ held. word_at (cells_of held twin) place) cells ∙ sym (at.means.cells twin small place is)
-        ∙ ap (λ (x : Voted). word_at (x.twins.cells twin) place) at.same ∙ ap (λ (x : Voted). word_at (x.twins.cells twin) place) free-is;
-    intended = λ spot is.
-        meant.words spot is ∙ ap (λ placed. word_at (memory_of placed) spot) words ∙ sym (at.means.words spot is)
-        ∙ ap (λ (x : Voted). word_at x.intended spot) at.same ∙ ap (λ (x : Voted). word_at x.intended spot) free-is;
-    log = sym shows.log ∙ log-is ∙ sym free-log;
-  }
+  -- the machine shows a state that is alike but for devices and log, and the log of its run is that of the plain run
+  module _ (x : Voted) (shows : Shows o m left x) (same : apart x ≡ apart v) (log : v.log ≡ (run p t).plain.log) where
+    meant : Means now x
+    meant = means o x left shows
 
-  module _ (same : (o : Trial) (times count : ℕ) → IsOpening o.opening → All IsEvent o.script → HasRejoined o times → times ≤ count → is_same o count ≡ true)
-      (counts : (o : Trial) (times count : ℕ) → IsOpening o.opening → All IsEvent o.script → HasRejoined o times → times ≤ count
-      → (through o (3 * count)).counts ≡ (through o (3 * times)).counts)
-      (repairs : (o : Trial) (times count : ℕ) → IsOpening o.opening → All IsEvent o.script → HasRejoined o times → times ≤ count
-      → (through o (3 * count)).repairs ≡ (through o (3 * times)).repairs)
-      (events : All IsEvent script) where
-    pub tells-rejoined : TellsRejoined o count m
-    tells-rejoined = record {
-      difference = none-is _ (none-same o count ∙ same o t count at.opening events rejoined within);
-      counts = shows.counts ∙ sym (counts o t count at.opening events rejoined within);
-      repairs = shows.repairs ∙ sym (repairs o t count at.opening events rejoined within);
+    pub rejoined : HasRejoined o t
+    rejoined = record {
+      over = subst (λ (n : ℕ). AllEndBefore n script) (sym all) over;
+      going = ap (λ (y : Voted). y.end) (sym same) ∙ sym shows.end ∙ end;
+      running = ap (λ (x : Voted). x.end) (sym free-is) ∙ ap (λ (x : Voted). x.end) (sym at.same) ∙ at.means.end;
+      copies =
+          ap (λ (y : Voted). y.copies) (sym same) ∙ meant.copies ∙ ap copies_of latches ∙ sym at.means.copies ∙ ap (λ (x : Voted). x.copies) at.same
+          ∙ ap (λ (x : Voted). x.copies) free-is;
+      cells = λ twin small place is.
+          ap (λ (y : Voted). word_at (y.twins.cells twin) place) (sym same) ∙ meant.cells twin small place is
+          ∙ ap (λ held. word_at (cells_of held twin) place) cells ∙ sym (at.means.cells twin small place is)
+          ∙ ap (λ (x : Voted). word_at (x.twins.cells twin) place) at.same ∙ ap (λ (x : Voted). word_at (x.twins.cells twin) place) free-is;
+      intended = λ spot is.
+          ap (λ (y : Voted). word_at y.intended spot) (sym same) ∙ meant.words spot is
+          ∙ ap (λ placed. word_at (memory_of placed) spot) words ∙ sym (at.means.words spot is)
+          ∙ ap (λ (x : Voted). word_at x.intended spot) at.same ∙ ap (λ (x : Voted). word_at x.intended spot) free-is;
+      log = log ∙ sym free-log;
     }
+
+    module _ (is_same_on : (o : Trial) (times count : ℕ) → IsOpening o.opening → All IsEvent o.script → HasRejoined o times → times ≤ count → is_same o count ≡ true)
+        (counts : (o : Trial) (times count : ℕ) → IsOpening o.opening → All IsEvent o.script → HasRejoined o times → times ≤ count
+        → (through o (3 * count)).counts ≡ (through o (3 * times)).counts)
+        (repairs : (o : Trial) (times count : ℕ) → IsOpening o.opening → All IsEvent o.script → HasRejoined o times → times ≤ count
+        → (through o (3 * count)).repairs ≡ (through o (3 * times)).repairs)
+        (events : All IsEvent script) where
+      pub tells : TellsRejoined o count m
+      tells = record {
+        difference = none-is _ (none-same o count ∙ is_same_on o t count at.opening events rejoined within);
+        counts = shows.counts ∙ ap (λ (y : Voted). y.counts) same ∙ sym (counts o t count at.opening events rejoined within);
+        repairs = shows.repairs ∙ ap (λ (y : Voted). y.repairs) same ∙ sym (repairs o t count at.opening events rejoined within);
+      }
+
+  -- a machine that goes through every fault shows the state of its run
+  module _ (ports : PortLaw) (steps : ℕ) (goes : GoesOn (trial_under p script) steps count m left) (made : m.steps ≡ w.snapshot.steps)
+      (long : length m.log ≡ w.lines) (prefix : IsPrefix m.log (run p count).plain.log) where
+    shown : (m.steps ≡ steps) × Shows o m left (through o steps)
+    shown = shows-through o steps m left m.mode m.end end goes.mode_is goes.stands.shows goes.stands.ends
+
+    pub shows-it : Shows o m left v
+    shows-it = subst (λ (n : ℕ). Shows o m left (through o n)) (sym shown.0 ∙ made ∙ sym all) shown.1
+
+    pub log-is : v.log ≡ (run p t).plain.log
+    log-is = sym shows-it.log ∙ prefix-same m.log (run p t).plain.log (run p count).plain.log prefix (log-begins ports p t count within) (long ∙ at.lines)
+
+pub tells-rejoined : ((o : Trial) → IsOpening o.opening → (n : ℕ) → alone o n ≡ guarded o n)
+    → ((o : Trial) → IsOpening o.opening → o.script ≡ [] → (n : ℕ) → first_bad_below o n ≡ Admissible)
+    → ((o : Trial) → IsOpening o.opening → (times : ℕ) → first_bad o times ≡ Admissible → ShowsTimes o times (guarded o (3 * times)))
+    → PortLaw → (p : Opening) (script : List Event) (count steps : ℕ) (w : Waypoint) (m : View) (left : List Device)
+    → IsWaypoint p count w → AllEndBefore w.snapshot.steps script → GoesOn (trial_under p script) steps count m left
+    → m.end ≡ None → m.steps ≡ w.snapshot.steps → (now : Snapshot) → ((o : Trial) (v : Voted) (ds : List Device) → Shows o m ds v → Means now v)
+    → now.latches ≡ w.snapshot.latches → now.cells ≡ w.snapshot.cells → now.words ≡ w.snapshot.words
+    → length m.log ≡ w.lines → IsPrefix m.log (run p count).plain.log
+    → ((o : Trial) (times count : ℕ) → IsOpening o.opening → All IsEvent o.script → HasRejoined o times → times ≤ count → is_same o count ≡ true)
+    → ((o : Trial) (times count : ℕ) → IsOpening o.opening → All IsEvent o.script → HasRejoined o times → times ≤ count
+    → (through o (3 * count)).counts ≡ (through o (3 * times)).counts)
+    → ((o : Trial) (times count : ℕ) → IsOpening o.opening → All IsEvent o.script → HasRejoined o times → times ≤ count
+    → (through o (3 * count)).repairs ≡ (through o (3 * times)).repairs)
+    → All IsEvent script → TellsRejoined (trial_under p script) count m
+tells-rejoined judges unsaid plainly ports p script count steps w m left at over goes end made now means latches cells words long prefix same counts repairs events =
+    let shows = shows-it judges unsaid plainly p script count w m left at over end now means latches cells words ports steps goes made long prefix in
+    tells judges unsaid plainly p script count w m left at over end now means latches cells words (through (trial_under p script) (3 * (w.snapshot.steps / 3))) shows refl
+    (log-is judges unsaid plainly p script count w m left at over end now means latches cells words ports steps goes made long prefix) same counts repairs events

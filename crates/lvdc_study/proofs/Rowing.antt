@@ -1,5 +1,5 @@
 -- A row, by what the runs of its script came to.
-use Rattle.std.proofs.Common.{◌≡◌, ℕ, ◌*◌, ◌≤◌, Bool, true, List, [], ◌∷◌, replicate, refl, sym, subst, ◌∙◌}
+use Rattle.std.proofs.Common.{◌≡◌, ℕ, ◌*◌, ◌≤◌, Bool, true, false, List, [], ◌∷◌, replicate, refl, sym, subst, ◌∙◌}
 use Rattle.std.specs.declared.option.Option.{Option}
 use Rattle.std.specs.declared.option.Option.TheVariants.{None}
 use Rattle.lvdc_port.specs.Device.{Device}
@@ -23,7 +23,7 @@ use Rattle.lvdc_runs.specs.Window.{IsWindow, TellsAll}
 use Rattle.lvdc_study.specs.declared.difference.Difference.{Difference}
 use Rattle.lvdc_study.specs.declared.program.Program.{Program}
 use Rattle.lvdc_study.specs.Outcomes.{first_difference}
-use Rattle.lvdc_study.specs.Rejoins.{TellsRejoined}
+use Rattle.lvdc_study.specs.Rejoins.{TellsMisled, TellsRejoined}
 use Rattle.lvdc_study.specs.Waypoints.{HasReplayed}
 use Rattle.lvdc_study.specs.Study.{opening_over, row_with, row_of, IsSame}
 
@@ -82,6 +82,13 @@ replayed-row p devices named made times lines window opens form h same masked te
     let told = counted o times lines made opens h good in
     row-is (opening_over p devices) p.count named Admissible None made.counts made.repairs true (sym whole) (sym (same o p.count opens whole).difference)
     (told.0 ∙ all.counts) (told.1 ∙ all.repairs) (sym form)
+
+-- where a script doesn't mask by form, and a machine tells what its run comes to
+pub misled-row : (p : Program) (devices : List Device) (named : Named) (said : Verdict) (m : View) → masks named.script p.banks p.count ≡ false
+    → TellsMisled (trial_under (opening_over p devices) named.script) p.count said m
+    → row_with named.name said None m.counts m.repairs false ≡ row_of (opening_over p devices) p.count named
+misled-row p devices named said m form h =
+    row-is (opening_over p devices) p.count named said None m.counts m.repairs false h.verdict (sym h.rejoined.difference) h.rejoined.counts h.rejoined.repairs (sym form)
 
 -- a machine has judged a script over these devices, and this is what it tells of the verdict; and whether the script masks by form is this
 module _ (p : Program) (devices : List Device) (named : Named) (judged : View) (run : HasRun Guarded (trial_under (opening_over p devices) named.script) p.count judged)

@@ -1,5 +1,5 @@
 -- Snapshots without their logs, and the waypoint at which a script may begin.
-use Rattle.std.proofs.Common.{rules, ◌≡◌, ℕ, zero, suc, ◌/◌, ◌<◌, Bool, true, false, List, [], ◌∷◌, length, is_some, All, AllPairs, refl, sym, ap, ◌∙◌, subst, arith, IfSome, IsSomeAnd, IfOk, IsOkAnd, OnOk, Result, Ok, Err, slice_get, get_or}
+use Rattle.std.proofs.Common.{rules, ◌≡◌, ℕ, zero, suc, ◌/◌, ◌<◌, Bool, true, List, [], ◌∷◌, length, is_some, All, refl, sym, subst, arith, IfSome, IsSomeAnd, IfOk, IsOkAnd, OnOk, Result, Ok, Err, slice_get, get_or}
 use Rattle.std.proofs.lemmas.List.Elements.{All-nil}
 use Rattle.std.specs.declared.option.Option.{Option}
 use Rattle.std.specs.declared.option.Option.TheVariants.{None, Some}
@@ -106,3 +106,8 @@ ok-and P r a is h = subst (λ (made : Result _ _). IsOkAnd made P) (sym is) h
 pub on-ok : {A E : Type 0} (r : Result A E) (P Q : Type 0) → (P → Q) → OnOk r P → OnOk r Q
 on-ok (Ok a) P Q from h = from h
 on-ok (Err e) P Q from h = tt
+
+-- what follows from two things that hold of a value if it was made holds of it too
+pub ok-both : {A E : Type 0} (r : Result A E) (P Q R : A → Type 0) → ((a : A) → P a → Q a → R a) → IfOk r P → IfOk r Q → IfOk r R
+ok-both (Ok a) P Q R from one other = from a one other
+ok-both (Err e) P Q R from one other = tt

@@ -9,6 +9,7 @@ mod difference;
 mod fault;
 mod late;
 mod laws;
+mod misled;
 mod onward;
 mod program;
 mod rejoin;

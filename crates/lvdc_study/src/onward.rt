@@ -28,7 +28,7 @@ use lvdc_port::PortDevice;
 use std::alloc::Global;
 
 /// The position of the first waypoint at this step or behind it. Waypoints stand by rising steps, so it is found by halves.
-fn first_from(waypoints: &[Waypoint], step: u64) -> usize {
+pub(crate) fn first_from(waypoints: &[Waypoint], step: u64) -> usize {
     let mut low = 0;
     let mut high = waypoints.len();
     for _ in 0..64 {

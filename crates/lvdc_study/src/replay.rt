@@ -74,6 +74,17 @@ pub(crate) fn words_read(
     Ok(words)
 }
 
+/// A script once more.
+pub(crate) fn once_more(alloc: Global, script: &Script) -> Result<Script, NoMemory>
+    ensures { IfOk result (λ copy. copy ≡ script.now) }
+{
+    let mut copy = Script::new(alloc);
+    for at in 0..script.len() {
+        copy.push(*script.event(at))?;
+    }
+    Ok(copy)
+}
+
 /// A machine that judges, at a waypoint, under a script that begins there or later, for so many times in all, over whatever devices.
 pub(crate) fn machine_from(
     alloc: Global,

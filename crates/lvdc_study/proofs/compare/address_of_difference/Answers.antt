@@ -1,7 +1,6 @@
-use Rattle.std.proofs.Common.{◌≡◌, ℕ, ◌+◌, ◌*◌, sym, ap, ◌∙◌, arith}
+use Rattle.std.proofs.Common.{◌*◌}
 use Rattle.lvdc_model.specs.Runs.{through}
 use Rattle.lvdc_model.specs.Trial.{plain_at}
-use Rattle.lvdc_study.specs.Outcomes.{least_below}
 use Rattle.lvdc_study.proofs.Least.{least-none}
 use Rattle.lvdc_study.proofs.compare.address_of_difference.Goals as goal
 

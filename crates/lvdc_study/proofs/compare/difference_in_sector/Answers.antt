@@ -1,5 +1,5 @@
 -- No word differs in a sector that is blank in both; else its addresses are compared one by one.
-use Rattle.std.proofs.Common.{◌≡◌, ℕ, ◌+◌, ◌*◌, ◌<◌, true, false, Some, sym, ap, ◌∙◌, arith}
+use Rattle.std.proofs.Common.{◌≡◌, ◌+◌, ◌*◌, ◌<◌, true, false, Some, sym, ap, ◌∙◌, arith}
 use Rattle.lvdc_map.specs.Address.{Spot, spot_at}
 use Rattle.lvdc_model.specs.Runs.{through}
 use Rattle.lvdc_model.specs.Trial.{plain_at}

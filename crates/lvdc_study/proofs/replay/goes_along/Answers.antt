@@ -1,4 +1,4 @@
-use Rattle.std.proofs.Common.{◌≡◌, ℕ, ◌∙◌, List, drop, length, sym, ap, subst}
+use Rattle.std.proofs.Common.{◌∙◌, List, drop, ap, subst}
 use Rattle.lvdc_plain.specs.Run.{run}
 use Rattle.lvdc_plain.specs.declared.records.Exchange.{Exchange}
 use Rattle.lvdc_runs.proofs.Stationed.{none-told}

@@ -1,4 +1,4 @@
-use Rattle.std.proofs.Common.{◌≡◌, ℕ, ◌+◌, ◌*◌, ◌/◌, ◌≤◌, List, All, map, arith, refl, subst, sym}
+use Rattle.std.proofs.Common.{◌+◌, ◌/◌, ◌≤◌, List, All, map, arith, refl, subst, sym}
 use Rattle.std.proofs.lemmas.List.Elements.{All-push}
 use Rattle.lvdc_study.specs.Study.{opening_over}
 use Rattle.lvdc_study.specs.Waypoints.{IsWaypoint}

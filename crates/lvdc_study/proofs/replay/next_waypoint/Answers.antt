@@ -1,6 +1,5 @@
-use Rattle.std.proofs.Common.{◌≡◌, ℕ, ◌+◌, ◌*◌, ◌/◌, [], length, map, refl, sym, ap, ◌∙◌, arith}
+use Rattle.std.proofs.Common.{◌+◌, ◌*◌, ◌/◌, [], length, map, refl, sym, ap, ◌∙◌, arith}
 use Rattle.std.proofs.lemmas.List.Elements.{All-nil}
-use Rattle.lvdc_port.specs.Device.{Device}
 use Rattle.lvdc_laws_runs.specs.Early.{BeginsFrom}
 use Rattle.lvdc_snapshot.specs.Snapshot.{meant}
 use Rattle.lvdc_runs.specs.Scripts.{trial_under}

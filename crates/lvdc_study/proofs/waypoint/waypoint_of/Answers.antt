@@ -1,5 +1,3 @@
-use Rattle.std.proofs.Common.{sym, subst}
-use Rattle.lvdc_snapshot.specs.Snapshot.{IsWhole, Means}
 use Rattle.lvdc_study.proofs.Waypointed.{whole-without, means-without}
 use Rattle.lvdc_study.proofs.waypoint.waypoint_of.Goals as goal
 

@@ -1,5 +1,5 @@
 use Rattle.lvdc_study.proofs.Again.{again-more}
-use Rattle.lvdc_study.proofs.apart.once_more.Goals as goal
+use Rattle.lvdc_study.proofs.replay.once_more.Goals as goal
 
 pub loop-at-preserved : goal.loop-at-preserved
 loop-at-preserved c =
