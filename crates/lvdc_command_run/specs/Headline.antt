@@ -19,8 +19,7 @@ account_front o told =
     title_line Run ++ end_text told.end ++ registers_text (visible_in told.plain) ++ log_text told.plain.log
     ++ memory_text o.opening.banks told.plain.memory told.recoverable
 
--- the headline of a trial of so many times: status, text and devices are those of the account of plain run and script; behind its
--- report stand some counts and repairs, which are left open here and said by the clause `answer`
+-- status, text and devices are those of the account; behind its report stand counts and repairs, of which the clause `answer` speaks
 pub record Headline (o : Trial) (n status : ℕ) (text : List ℕ) (devices : List Device) : Type 0 where
   pub is_status : status ≡ end_status (account o n).end
   pub counts : List (List ℕ)
