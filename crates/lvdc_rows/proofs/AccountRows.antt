@@ -7,6 +7,7 @@ use Rattle.lvdc_map.specs.Address.{Spot, number_of}
 use Rattle.lvdc_map.specs.Hop.{hop_of}
 use Rattle.lvdc_map.specs.declared.placed.Placed.{Placed}
 use Rattle.lvdc_text.specs.Numbers.{octal_text}
+use Rattle.lvdc_port.specs.declared.device.Kind.TheVariants.{Latch}
 use Rattle.lvdc_vote.specs.Bits.{majority}
 use Rattle.lvdc_model.specs.Trial.{Trial, plain_at}
 use Rattle.lvdc_model.specs.Voted.{Voted, voted_start}
@@ -16,7 +17,7 @@ use Rattle.lvdc_fault.specs.declared.event.Event.TheVariants.{Damage}
 use Rattle.lvdc_model.specs.declared.outcome.Outcome.TheVariants.{Done, Stopped}
 use Rattle.lvdc_lines.specs.Noted.{lines_of, lines_below}
 use Rattle.lvdc_report.specs.Voted.{counts_below}
-use Rattle.lvdc_command_run.specs.Accounts.{Account, end_by, whole_account, begun_account}
+use Rattle.lvdc_command_run.specs.Accounts.{Account, whole_account, begun_account}
 use Rattle.lvdc_command_run.specs.Answers.{account_text, plain_end_by}
 
 -- location 000 of a sector of bank 0
@@ -72,6 +73,32 @@ words_of_a_step_begun : ((begun_account (lost_in 2 4) 4 Done).recoverable (place
 unfolding lost_in holds place with_stuck
 words_of_a_step_begun = (refl, refl)
 
--- time 2 is the third one, and its last step is 8
-stop_of_the_third_time : (end_by (Some Exm) 3 ≡ Stopped 8 Exm) × (plain_end_by (Some Exm) 3 ≡ plain.Stopped 8 Exm)
+-- CLA 000 twice, then EXM in time 2, which is the third one, and its last step is 8
+stopping : Trial
+stopping =
+    record {
+      opening = record { image = holds 0 0o17000 ∷ holds 1 0o17000 ∷ holds 2 0o16600 ∷ []; banks = 0; start = hop_of 0o16; unplugs = []; devices = [] };
+      script = [];
+    }
+
+stop_of_the_third_time : ((whole_account stopping 4).end ≡ Stopped 8 Exm) × (plain_end_by (Some Exm) 3 ≡ plain.Stopped 8 Exm)
+unfolding stopping holds
 stop_of_the_third_time = (refl, refl)
+
+-- TRA 000 goes round; step 7 is of time 2, at which the latch is taken away
+losing : Trial
+losing =
+    record {
+      opening = record {
+        image = holds 0 0o10000 ∷ [];
+        banks = 0;
+        start = hop_of 0o16;
+        unplugs = record { port = 0o14; time = 2 } ∷ [];
+        devices = record { port = 0o14; kind = Latch; state = [] } ∷ [];
+      };
+      script = [];
+    }
+
+devices_of_a_step_begun : (begun_account losing 7 Done).devices ≡ []
+unfolding losing holds
+devices_of_a_step_begun = refl

@@ -4,10 +4,17 @@ use Rattle.lvdc_map.specs.Address.{Spot, number_of, spot_at}
 use Rattle.lvdc_map.specs.Banks.{is_simplex, bank_of, is_there, holds}
 use Rattle.lvdc_map.specs.Hop.{hop_of, after, fetch_of, syllable_at}
 use Rattle.lvdc_map.specs.Memory.{are_rising}
+use Rattle.lvdc_map.specs.Place.{operand_kind}
+use Rattle.lvdc_map.specs.declared.operand.OperandKind.TheVariants as kinds
 
 -- location 000 of sector 00 of a bank
 bank : ℕ → Spot
 bank pair = record { pair = pair; sector = 0; loc = 0 }
+
+-- ---- what an address names
+
+saver_of_777 : operand_kind 0o777 ≡ kinds.Saver
+saver_of_777 = refl
 
 -- ---- the order of all addresses
 

@@ -1,11 +1,12 @@
 -- Worked events: in which steps and of which copy each kind acts, what it does to the copy, and what can be recovered. The numbers of
 -- each event are unlike: module 5, copy 2, steps 7 to 9, latch 3.
 use Rattle.std.proofs.Common.{◌≡◌, List, [], ◌∷◌, Bool, true, false, Some, None, map, refl}
+use Rattle.lvdc_word.specs.Cell.{code_of}
 use Rattle.lvdc_map.specs.Address.{Spot}
 use Rattle.lvdc_vote.specs.declared.hurt.Hurt.TheVariants as hurts
 use Rattle.lvdc_fault.specs.Script.{makes_wrong, deafens, wrong_module, span_of, is_active, first_of, active_events}
 use Rattle.lvdc_fault.specs.Hurts.{hurts_by, hurts_on}
-use Rattle.lvdc_fault.specs.Recoverable.{recovers_by, shown_by}
+use Rattle.lvdc_fault.specs.Recoverable.{is_recovered, shown_by}
 use Rattle.lvdc_fault.specs.declared.event.Event.{Event}
 use Rattle.lvdc_fault.specs.declared.event.Event.TheVariants.{Flip, Force, Lag, Deaf, Damage, Stick, Dead}
 
@@ -113,5 +114,5 @@ damage_is_one_step = refl
 
 -- ---- what can be recovered in a simplex pair: twin 0 shows banks 0 to 3, twin 1 banks 4 to 7
 
-by_the_twin_of_the_bank : map (λ bank. recovers_by true bank 7 (shown_by 7 8)) (0 ∷ 1 ∷ 3 ∷ 4 ∷ 5 ∷ 7 ∷ []) ≡ true ∷ true ∷ true ∷ false ∷ false ∷ false ∷ []
+by_the_twin_of_the_bank : map (λ bank. is_recovered 0b1111 (record { pair = bank; sector = 1; loc = 3 }) 7 (shown_by (code_of 7) (code_of 8))) (0 ∷ 1 ∷ 3 ∷ 4 ∷ 5 ∷ 7 ∷ []) ≡ true ∷ true ∷ true ∷ false ∷ false ∷ false ∷ []
 by_the_twin_of_the_bank = refl

@@ -1,7 +1,8 @@
 -- Worked instructions: each code, and each pattern that shifts.
-use Rattle.std.proofs.Common.{◌≡◌, ℕ, List, [], ◌∷◌, map, codes, filter, refl}
-use Rattle.std.specs.List.{range_with_len}
-use Rattle.lvdc_isa.specs.Instr.{instr, is_shift}
+use Rattle.std.proofs.Common.{◌≡◌, ℕ, List, [], ◌∷◌, map, codes, filter, false, refl}
+use Rattle.std.specs.List.{list_any, range_with_len}
+use Rattle.lvdc_isa.specs.Instr.{instr, is_shift, takes_operand}
+use Rattle.lvdc_isa.specs.declared.op.Op.TheVariants.{Tnz, Tra, Pio, Sto, Tmi, Cds, Shf, WrongShift, Exm}
 use Rattle.lvdc_isa.specs.Shift.{shifted}
 use Rattle.lvdc_isa.specs.declared.instr.Instr.{Instr}
 use Rattle.lvdc_isa.specs.Mnemonics.{printed}
@@ -9,6 +10,9 @@ use Rattle.lvdc_isa.specs.Mnemonics.{printed}
 -- the text of a syllable's instruction
 text_of_syllable : ℕ → List ℕ
 text_of_syllable s = printed (instr s)
+
+nine_take_no_operand : list_any takes_operand (Tnz ∷ Tra ∷ Pio ∷ Sto ∷ Tmi ∷ Cds ∷ Shf ∷ WrongShift ∷ Exm ∷ []) ≡ false
+nine_take_no_operand = refl
 
 -- the codes 0 to 7 at address 017
 the_first_eight : map text_of_syllable (0o00017 ∷ 0o01017 ∷ 0o02017 ∷ 0o03017 ∷ 0o04017 ∷ 0o05017 ∷ 0o06017 ∷ 0o07017 ∷ [])

@@ -5,8 +5,8 @@ use Rattle.lvdc_map.specs.Hop.{hop_of}
 use Rattle.lvdc_map.specs.Memory.{memory_of, word_at}
 use Rattle.lvdc_map.specs.declared.placed.Placed.{Placed}
 use Rattle.lvdc_plain.specs.Plain.{PlainState, World, started}
-use Rattle.lvdc_plain.specs.Accesses.{fetched}
-use Rattle.lvdc_plain.specs.Run.{time}
+use Rattle.lvdc_plain.specs.Accesses.{fetched, store}
+use Rattle.lvdc_plain.specs.Run.{run, time}
 use Rattle.lvdc_plain.specs.Table.{step}
 use Rattle.lvdc_plain.specs.declared.records.Stop.TheVariants as stops
 use Rattle.lvdc_port.specs.Device.{Device}
@@ -96,6 +96,16 @@ the_odd_module : (fetched simplex ≡ Some (spot 4 0)) × ((after_time simplex).
 unfolding after_time simplex word_in spot
 the_odd_module = (refl, refl)
 
+-- data of the odd module: a word of bank 4 is read, and a store goes there
+simplex_data : ℕ → PlainState
+simplex_data code =
+    record (started 1 (record (hop_of 0o16) { dmod = 1 }) (memory_of (word_in 0 0 code ∷ word_in 4 1 5 ∷ []))) { a = 0o14 }
+
+data_of_the_odd_module : ((after_time (simplex_data 0o17000)).a ≡ 5) × (word_at (after_time (simplex_data 0o13000)).memory (spot 4 1) ≡ 0o14)
+    × (store (simplex_data 0o13000) ≡ Some (record { at = spot 4 1; word = 0o14 }))
+unfolding after_time simplex_data word_in spot
+data_of_the_odd_module = (refl, refl, refl)
+
 -- ---- devices by time
 
 latch : Device
@@ -108,6 +118,22 @@ unplugged p = time (record { port = 0o14; time = 7 } ∷ []) (record { plain = p
 taken_at_its_time : (unplugged (before 0o17000 5)).devices ≡ []
 unfolding unplugged latch before word_in spot
 taken_at_its_time = refl
+
+-- two lines of one time
+both_taken : (time (record { port = 0o14; time = 7 } ∷ record { port = 0o16; time = 7 } ∷ [])
+    (record { plain = before 0o17000 5; devices = latch ∷ record { port = 0o16; kind = Ticker; state = [] } ∷ [] })).devices ≡ []
+unfolding latch before word_in spot
+both_taken = refl
+
+taken_in_a_run : (run (record {
+      image = word_in 0 0 0o17000 ∷ [];
+      banks = 0;
+      start = hop_of 0o16;
+      unplugs = record { port = 0o14; time = 0 } ∷ [];
+      devices = latch ∷ [];
+    }) 1).devices ≡ []
+unfolding latch word_in spot
+taken_in_a_run = refl
 
 a_stopped_machine_loses_no_device : (unplugged stopped).devices ≡ latch ∷ []
 unfolding unplugged latch stopped before word_in spot

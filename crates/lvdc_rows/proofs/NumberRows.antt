@@ -31,10 +31,17 @@ half_of_a_quarter = (refl, refl)
 negative_quotients : (quotient 0o340000000 0o100000000 ≡ 0o300000000) × (quotient 0o040000000 0o300000000 ≡ 0o300000000)
 negative_quotients = (refl, refl)
 
+-- -1/4 by -1/2
+two_negatives : quotient 0o340000000 0o300000000 ≡ 0o100000000
+two_negatives = refl
+
 -- ---- cells: a half with 13 ones has parity bit 0
 
 all_ones : (code_of 0o377777777 ≡ 8191 * 2 ^ 14 + 8191) × (is_good (8191 * 2 ^ 14 + 8191) ≡ true)
 all_ones = (refl, refl)
+
+three_ones_beside_one : (is_good (7 * 2 ^ 14 + 1) ≡ true) × (is_good (2 ^ 14 + 7) ≡ true)
+three_ones_beside_one = (refl, refl)
 
 one_bit_is_wrong : (is_good (8190 * 2 ^ 14 + 8191) ≡ false) × (is_good (8191 * 2 ^ 14 + 8190) ≡ false)
 one_bit_is_wrong = (refl, refl)

@@ -20,7 +20,7 @@ use Rattle.lvdc_machine.specs.Made.{made_next}
 use Rattle.lvdc_machine.specs.Resumed.{run_to, state_from}
 use Rattle.lvdc_machine.specs.View.{registers_on}
 use Rattle.lvdc_machine.specs.declared.mode.Mode.TheVariants.{Guarded}
-use Rattle.lvdc_model.specs.CellsBefore.{is_dead_at, is_mended, mended, overwritten}
+use Rattle.lvdc_model.specs.CellsBefore.{is_dead_at, mended, overwritten}
 use Rattle.lvdc_model.specs.Exchanges.{device_time, logged, stop_after}
 use Rattle.lvdc_model.specs.Judging.{first_bad, is_recoverable_after}
 use Rattle.lvdc_model.specs.Known.{last_made, last_begun}
@@ -150,21 +150,21 @@ unfolding load trial holds_word at
 dead_in_its_step = (refl, refl)
 
 -- in step 1 twin 0 shows a stuck bit, and twin 1 doesn't
-mended_where_bad : (is_mended (load (Stick 0 (at 0 1) 1 1 1 0 ∷ [])) 1 0 (at 0 1) (code_of 5) ≡ true) × (is_mended (load (Stick 0 (at 0 1) 1 1 1 0 ∷ [])) 1 1 (at 0 1) (code_of 5) ≡ false)
+mended_where_bad : (mended (load (Stick 0 (at 0 1) 1 1 1 0 ∷ [])) 1 0 (at 0 1) (code_of 7) ≡ code_of 5) × (mended (load (Stick 0 (at 0 1) 1 1 1 0 ∷ [])) 1 1 (at 0 1) (code_of 7) ≡ code_of 7)
 unfolding load trial holds_word at with_stuck
 mended_where_bad = (refl, refl)
 
 -- twin 1 of pair 0 is dead: it shows 0, and keeps what it stores at a read and at a store
-a_dead_twin_keeps_its_cell : (is_mended (load (Dead 1 0 0 9 ∷ [])) 1 1 (at 0 1) (code_of 5) ≡ false)
+a_dead_twin_keeps_its_cell : (mended (load (Dead 1 0 0 9 ∷ [])) 1 1 (at 0 1) (code_of 7) ≡ code_of 7)
     × (overwritten (load (Dead 1 0 0 9 ∷ [])) 5 1 (at 0 1) (Some (record { at = at 0 1; word = 7 })) 9 ≡ 9)
     × (overwritten (load (Dead 1 0 0 9 ∷ [])) 5 0 (at 0 1) (Some (record { at = at 0 1; word = 7 })) 9 ≡ code_of 7)
 unfolding load trial holds_word at with_stuck
 a_dead_twin_keeps_its_cell = (refl, refl, refl)
 
 -- two changed bits of a half show good, and so they stay
-not_mended_where_good : (is_mended (load []) 1 0 (at 0 1) (bit_xor (code_of 5) 3) ≡ false) × (mended (load []) 1 0 (at 0 1) (bit_xor (code_of 5) 3) ≡ bit_xor (code_of 5) 3)
+not_mended_where_good : mended (load []) 1 0 (at 0 1) (bit_xor (code_of 5) 3) ≡ bit_xor (code_of 5) 3
 unfolding load trial holds_word at with_stuck
-not_mended_where_good = (refl, refl)
+not_mended_where_good = refl
 
 -- STO 000 stores 0 in time 0, and CLA 000 reads it in step 4
 stored_before : Trial
