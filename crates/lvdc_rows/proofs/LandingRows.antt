@@ -126,12 +126,12 @@ unfolding latch before word_in spot
 both_taken = refl
 
 taken_in_a_run : (run (record {
-      image = word_in 0 0 0o17000 ∷ [];
-      banks = 0;
-      start = hop_of 0o16;
-      unplugs = record { port = 0o14; time = 0 } ∷ [];
-      devices = latch ∷ [];
-    }) 1).devices ≡ []
+  image = word_in 0 0 0o17000 ∷ [];
+  banks = 0;
+  start = hop_of 0o16;
+  unplugs = record { port = 0o14; time = 0 } ∷ [];
+  devices = latch ∷ [];
+}) 1).devices ≡ []
 unfolding latch word_in spot
 taken_in_a_run = refl
 
