@@ -1,6 +1,7 @@
 """A client of the Debug Adapter Protocol goes through whole sessions with lvdb."""
 import base64
 import io
+import os
 import signal
 import subprocess
 import sys
@@ -259,7 +260,8 @@ atexit.register(lambda: (print("ending", flush=True), time.sleep(20)))
 from lvdc.streams import leave
 leave(0)
 """
-    with subprocess.Popen([sys.executable, "-c", script], stdout=subprocess.PIPE, stderr=subprocess.PIPE) as process:
+    around = {**os.environ, "PYTHONPATH": str(TOP / "clients" / "python" / "src")}
+    with subprocess.Popen([sys.executable, "-c", script], stdout=subprocess.PIPE, stderr=subprocess.PIPE, env=around) as process:
         assert process.stdout is not None and process.stdout.readline() == b"ending\n"
         process.send_signal(signal.SIGINT)
         assert process.communicate(timeout=20) == (b"", b"") and process.returncode == -signal.SIGINT
